@@ -1,0 +1,27 @@
+-- An information block (document 01): system priority 2, system 6, key 2, port priority 2, port 2, state 1, high octet first.
+use Prim.Native.Nat.{ℕ, _+_}
+use mathlib.Core.List.{List, [], _∷_, _++_}
+use lib.ListN.{getD}
+use Rattle.octets.specs.Octets.{numberAt, numberOctets}
+use Rattle.frame.specs.declared.block.Address.{Address}
+use Rattle.frame.specs.declared.block.Block.{Block}
+use Rattle.frame.specs.State.{stateOctet, stateOf}
+
+abbrev pub addressAt : List ℕ → ℕ → Address
+addressAt l i = record { high = numberAt l i; middle = numberAt l (i + 2); low = numberAt l (i + 4) }
+
+abbrev pub addressOctets : Address → List ℕ
+addressOctets a = numberOctets (a .high) ++ (numberOctets (a .middle) ++ numberOctets (a .low))
+
+abbrev pub blockOf : List ℕ → Block
+blockOf l = record {
+  system = record { priority = numberAt l 0; address = addressAt l 2 };
+  key = numberAt l 8;
+  port = record { priority = numberAt l 10; number = numberAt l 12 };
+  state = stateOf (getD l 14 0);
+}
+
+abbrev pub blockOctets : Block → List ℕ
+blockOctets b =
+    numberOctets (b .system .priority) ++ (addressOctets (b .system .address) ++ (numberOctets (b .key)
+    ++ (numberOctets (b .port .priority) ++ (numberOctets (b .port .number) ++ (stateOctet (b .state) ∷ [])))))

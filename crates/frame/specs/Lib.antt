@@ -1,0 +1,4 @@
+pub mod State
+pub mod Block
+pub mod Class
+pub mod Wire

@@ -1,0 +1,128 @@
+-- Laws of `specs/Octets.antt`, which callers cite in the place of its text: writing over lent parts and from the front on,
+-- the test for equal octets, and the round trip of a two-octet number. Assumes nothing.
+use Prim.Native.Nat.{ℕ, zero, suc, _+_, _-_, _*_, _≤_, _<_}
+use mathlib.Core.Path.{_≡_, refl, sym, ap, _∙_}
+use mathlib.Core.Bool.{Bool, true, false, and-eq-true-iff, false≢true}
+use mathlib.Core.List.{List, [], _∷_, _++_, append-assoc, append-nil}
+use native.Mathlib.Omega.{arith}
+use native.Mathlib.Nat.{zero-add}
+use native.Mathlib.Numerals.{add-one}
+use lib.ListN.{length, take, drop, getD, length-drop, length-append, drop-of-length-le}
+use lib.Seq.{take-all, take-length, drop-drop, take-at, drop-append-add, drop-cons}
+use lib.Dec.{eqb}
+use borrow.Author.Tests.{eqb-true, eq-eqb}
+use borrow.Rule.Slice.PartMut.{putMid, midOf, post-is}
+use Rattle.octets.specs.Octets.{putAt, sameOctets, high, low, joined, numberOctets}
+
+-- ---- writing over lent parts
+
+-- a part from `at` to the end comes back with s at its front: that is s written at `at`
+pub put-front : (at : ℕ) (s d : List ℕ) → at ≤ length d
+    → putMid at (length d - at) d (take (length s) s ++ drop (length s) (midOf at (length d - at) d)) ≡ putAt at s d
+unfolding putAt
+put-front at s d h =
+    let all : take (length d - at) (drop at d) ≡ drop at d = take-all (length d - at) (drop at d) (simp length-drop (omega arith)) in
+    let none : drop (length d - at) (drop at d) ≡ [] = drop-of-length-le (drop at d) {i = length d - at} (simp length-drop (omega arith)) in
+    simp (all, none, take-length, drop-drop, append-nil)
+
+-- a part from n to e comes back as s: that is s written at n
+pub put-part : (n e : ℕ) (s d : List ℕ) → n + length s ≡ e → putMid n (e - n) d s ≡ putAt n s d
+unfolding putAt
+put-part n e s d h =
+    let le : n ≤ e = omega arith in
+    simp (post-is n e d le, h)
+
+-- d with p over its front
+abbrev pub over : List ℕ → List ℕ → List ℕ
+over p d = p ++ drop (length p) d
+
+-- pieces one after the other
+abbrev pub joinedUp : List (List ℕ) → List ℕ
+joinedUp [] = []
+joinedUp (s ∷ ss) = s ++ joinedUp ss
+
+-- d after pieces were written over it one after the other, from n on
+abbrev pub puts : ℕ → List (List ℕ) → List ℕ → List ℕ
+puts n [] d = d
+puts n (s ∷ ss) d = puts (n + length s) ss (putAt n s d)
+
+put-next : (p s l : List ℕ) → putAt (length p) s (over p l) ≡ over (p ++ s) l
+unfolding putAt
+put-next p s l =
+    let after : drop (length p + length s) (over p l) ≡ drop (length (p ++ s)) l =
+    drop-append-add p (drop (length p) l) (length s) ∙ drop-drop (length s) (length p) l ∙ ap (λ (k : ℕ). drop k l) (sym (length-append p s)) in
+    rw (take-at p (drop (length p) l) (length p) refl, after, append-assoc)
+
+-- pieces that are written from the front on stand over the front together, whatever was there
+pub puts-over : (p : List ℕ) (ss : List (List ℕ)) (l : List ℕ) → puts (length p) ss (over p l) ≡ over (p ++ joinedUp ss) l
+puts-over p [] l = rw append-nil
+puts-over p (s ∷ ss) l = rw (put-next p s l, ← length-append p s) (puts-over (p ++ s) ss l ∙ ap (λ (q : List ℕ). over q l) (append-assoc p s (joinedUp ss)))
+
+pub written : (ss : List (List ℕ)) (l : List ℕ) → puts 0 ss l ≡ over (joinedUp ss) l
+written ss l = puts-over [] ss l
+
+pub over-put : (s l : List ℕ) → over s l ≡ putAt 0 s l
+unfolding putAt
+over-put s l = ap (λ (n : ℕ). s ++ drop n l) (sym (zero-add (length s)))
+
+-- what is over the whole of a list is all there is
+pub over-all : (p l : List ℕ) → length l ≤ length p → over p l ≡ p
+over-all p l h = rw (drop-of-length-le l {i = length p} h, append-nil)
+
+pub length-put : (n : ℕ) (s d : List ℕ) → n + length s ≤ length d → length (putAt n s d) ≡ length d
+unfolding putAt
+length-put n s d h = simp (length-append, lib.ListN.length-take, length-drop) (omega arith)
+
+-- ---- octets by their index
+
+-- the n octets from index i on, one by one
+abbrev pub spread : ℕ → ℕ → List ℕ → List ℕ
+spread i zero l = []
+spread i (suc n) l = getD l i 0 ∷ spread (i + 1) n l
+
+pub spread-part : (i n : ℕ) (l : List ℕ) → i + n ≤ length l → spread i n l ≡ take n (drop i l)
+spread-part i zero l h = refl
+spread-part i (suc n) l h =
+    let lt : i < length l = omega arith in
+    rw (drop-cons l i 0 lt, spread-part (i + 1) n l (omega arith), add-one)
+
+pub spread-all : (l : List ℕ) (n : ℕ) → length l ≡ n → spread 0 n l ≡ l
+spread-all l n e = spread-part 0 n l (omega arith) ∙ take-all n l (omega arith)
+
+-- ---- equal octets
+
+pub same-refl : (l : List ℕ) → sameOctets l l ≡ true
+unfolding sameOctets
+same-refl [] = refl
+same-refl (x ∷ xs) = rw (eq-eqb x x refl, same-refl xs)
+
+pub same-true : (a b : List ℕ) → sameOctets a b ≡ true → a ≡ b
+unfolding sameOctets
+same-true [] [] e = refl
+same-true [] (y ∷ ys) e = absurd (false≢true e)
+same-true (x ∷ xs) [] e = absurd (false≢true e)
+same-true (x ∷ xs) (y ∷ ys) e =
+    let both = and-eq-true-iff (eqb x y) (sameOctets xs ys) .0 e in
+    let hd : x ≡ y = eqb-true x y (both .0) in
+    let tl : xs ≡ ys = same-true xs ys (both .1) in
+    cc
+
+-- an answer that is true exactly for equal lists is the test
+pub same-tested : (a b : List ℕ) (r : Bool) → (r ≡ true → a ≡ b) → (a ≡ b → r ≡ true) → r ≡ sameOctets a b
+same-tested a b true to from = rw (to refl, same-refl b)
+same-tested a b false to from = tested (sameOctets a b) (λ e. from (same-true a b e))
+  where
+    tested : (t : Bool) → (t ≡ true → false ≡ true) → false ≡ t
+    tested true no-way = no-way refl
+    tested false no-way = refl
+
+-- ---- two-octet numbers
+
+pub number-back : (n : ℕ) → joined (high n) (low n) ≡ n
+number-back n = omega arith
+
+pub high-back : (h l : ℕ) → l < 256 → high (joined h l) ≡ h
+high-back h l b = omega arith
+
+pub low-back : (h l : ℕ) → l < 256 → low (joined h l) ≡ l
+low-back h l b = omega arith

@@ -1,0 +1,34 @@
+-- What the contracts of `octets` cite: octets written over others, equal octets, and two-octet numbers, high octet first. Assumes nothing.
+use Prim.Native.Nat.{ℕ, _+_, _*_, _/_, _%_}
+use mathlib.Core.Bool.{Bool, true, false, _&&_}
+use mathlib.Core.List.{List, [], _∷_, _++_}
+use lib.ListN.{length, take, drop, getD}
+use lib.Dec.{eqb}
+
+-- d with s written over it from index `at` on
+unfoldable pub putAt : ℕ → List ℕ → List ℕ → List ℕ
+putAt at s d = take at d ++ (s ++ drop (at + length s) d)
+
+-- whether two lists hold the same octets
+unfoldable pub sameOctets : List ℕ → List ℕ → Bool
+sameOctets [] [] = true
+sameOctets [] (y ∷ ys) = false
+sameOctets (x ∷ xs) [] = false
+sameOctets (x ∷ xs) (y ∷ ys) = eqb x y && sameOctets xs ys
+
+-- the two octets of a number
+abbrev pub high : ℕ → ℕ
+high n = n / 256
+
+abbrev pub low : ℕ → ℕ
+low n = n % 256
+
+abbrev pub numberOctets : ℕ → List ℕ
+numberOctets n = high n ∷ low n ∷ []
+
+-- the number that two octets make, and the one at index i
+abbrev pub joined : ℕ → ℕ → ℕ
+joined h l = h * 256 + l
+
+abbrev pub numberAt : List ℕ → ℕ → ℕ
+numberAt l i = joined (getD l i 0) (getD l (i + 1) 0)
