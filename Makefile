@@ -1,4 +1,9 @@
-.PHONY: test
+.PHONY: cases test
+
+# Proves the libraries and the program, and prints what the frame tests say of 170 frames that scapy wrote.
+cases:
+	rt check cases
+	cat crates/cases/stdout
 
 # The whole gate: every proof from nothing, the must-fail edits, the programs.
 test:

@@ -8,7 +8,6 @@ use frame::block::Block;
 use frame::class::Class;
 use frame::class::Refusal;
 use frame::state::PortState;
-use frame::wire::MarkerType;
 use frame::wire::TensOfMicroseconds;
 use libc::STDOUT_FILENO;
 
@@ -99,12 +98,7 @@ fn print_marker(frame: &[u8])
 {
     print(b" marker\n");
     let mut out = [0xffu8; 124];
-    frame::wire::write_marker(
-        &mut out,
-        own_address(),
-        MarkerType::Response,
-        frame::wire::request(frame),
-    );
+    frame::wire::write_response(&mut out, own_address(), frame);
     print_sent(&out);
 }
 

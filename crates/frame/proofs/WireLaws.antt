@@ -54,7 +54,7 @@ classOfType Response = class.Response
 module _ (source : Address) (request rest : List ℕ) (twelve : length request ≡ 12) where
   -- a Marker PDU gives back its request
   pub request-back : (kind : MarkerType) → requestPart (marker source kind request ++ rest) ≡ request
-  request-back kind = rw append-assoc (take-at request ((zeros 4 ++ zeros 90) ++ rest) 12 twelve)
+  request-back kind = rw (append-assoc request (zeros 4 ++ zeros 90) rest) (take-at request ((zeros 4 ++ zeros 90) ++ rest) 12 twelve)
 
   long : (kind : MarkerType) (n : ℕ) → n ≤ 124 → ltb (length (marker source kind request ++ rest)) n ≡ false
   long kind n h =

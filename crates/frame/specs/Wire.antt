@@ -52,3 +52,7 @@ markerTypeOctet Response = 2
 -- request: requester port, requester system, transaction
 abbrev pub marker : Address → MarkerType → List ℕ → List ℕ
 marker source kind request = opening source 2 (markerTypeOctet kind) 16 ++ (request ++ (zeros 4 ++ zeros 90))
+
+-- the Response copies octets 18-29 of the Marker, and has every other octet as laid out
+abbrev pub response : Address → List ℕ → List ℕ
+response source received = marker source Response (requestPart received)

@@ -4,7 +4,7 @@ ghost use mathlib.Core.List.{_++_};
 ghost use Prim.Native.Nat.{_≤_};
 ghost use lib.ListN.{length, drop};
 ghost use Rattle.octets.specs.Octets.{putAt};
-ghost use Rattle.frame.specs.Wire.{actorPart, partnerPart, requestPart, applying, opening, markerTypeOctet, lacpdu, marker};
+ghost use Rattle.frame.specs.Wire.{actorPart, partnerPart, requestPart, applying, opening, markerTypeOctet, lacpdu, marker, response};
 use crate::block::Address;
 use crate::block::Block;
 use crate::class::DESTINATION;
@@ -105,4 +105,12 @@ pub fn write_marker(out: &mut [u8], source: Address, kind: MarkerType, request: 
     write_opening(out, source, 2, marker_type_octet(kind), 16);
     octets::put(out, 18, request);
     octets::put(out, 30, &[0u8; 94]);
+}
+
+// Writes the Response to a received Marker over the first 124 octets of out: the Marker's request, and nothing else of it.
+pub fn write_response(out: &mut [u8], source: Address, received: &[u8])
+    requires { ⌜ (124 ≤ length (now out)) × (124 ≤ length (now received)) ⌝ }
+    ensures { λ _. ⌜ now (out .exit) ≡ response source (now (received .entry)) ++ drop 124 (now (out .entry)) ⌝ }
+{
+    write_marker(out, source, MarkerType::Response, request(received));
 }
