@@ -1,7 +1,7 @@
 -- Laws of the frame tests: how long a frame is that passes them. Assumes nothing.
 use Prim.Native.Nat.{ℕ, _≤_}
 use mathlib.Core.Path.{_≡_, refl}
-use mathlib.Core.Bool.{Bool, true, false, not, _||_, false≢true}
+use mathlib.Core.Bool.{Bool, true, false, cond, not, _||_, false≢true}
 use mathlib.Core.List.{List}
 use lib.ListN.{length, take}
 use lib.Dec.{ltb}
@@ -10,7 +10,7 @@ use Rattle.octets.specs.Octets.{sameOctets}
 use Rattle.frame.specs.declared.class.Class.{Class}
 use Rattle.frame.specs.declared.class.Class.the-variants.{Lacpdu, Marker, Response, Refused}
 use Rattle.frame.specs.declared.class.Refusal.the-variants.{Foreign, Unknown, Illegal}
-use Rattle.frame.specs.Class.{foreign, unknown, illegal, noSubtype, oddSubtype, short, wrongLength, wrongMarkerType, classOf, accepted, pick, slowAddress}
+use Rattle.frame.specs.Class.{foreign, unknown, illegal, noSubtype, oddSubtype, short, wrongLength, wrongMarkerType, classOf, accepted, slowAddress}
 
 left-clear : (a b : Bool) → a || b ≡ false → a ≡ false
 left-clear true b e = e
@@ -43,7 +43,7 @@ pub heard-whole : (l : List ℕ) → heard (classOf l) ≡ true → 124 ≤ leng
 unfolding classOf
 heard-whole l h = go (foreign l) (unknown l) (illegal l) refl h
   where
-    go : (f u i : Bool) → illegal l ≡ i → heard (pick f (Refused Foreign) (pick u (Refused Unknown) (pick i (Refused Illegal) (accepted l)))) ≡ true → 124 ≤ length l
+    go : (f u i : Bool) → illegal l ≡ i → heard (cond f (Refused Foreign) (cond u (Refused Unknown) (cond i (Refused Illegal) (accepted l)))) ≡ true → 124 ≤ length l
     go true u i e h = absurd (false≢true h)
     go false true i e h = absurd (false≢true h)
     go false false true e h = absurd (false≢true h)

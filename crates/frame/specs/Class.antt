@@ -1,6 +1,6 @@
 -- The frame tests, as document 01's table of answers has them: lines 6, 7 and 8, in this order, and what is left.
 use Prim.Native.Nat.{ℕ}
-use mathlib.Core.Bool.{Bool, true, false, not, _&&_, _||_}
+use mathlib.Core.Bool.{Bool, cond, not, _&&_, _||_}
 use mathlib.Core.List.{List, [], _∷_}
 use lib.ListN.{length, take, getD}
 use lib.Dec.{eqb, leb, ltb}
@@ -26,10 +26,6 @@ slowType = 0x8809
 abbrev pub octet : List ℕ → ℕ → ℕ
 octet l i = getD l i 0
 
-abbrev pub pick : {A : Type 0} → Bool → A → A → A
-pick true a b = a
-pick false a b = b
-
 -- line 6: frame under 14 octets, or other destination
 unfoldable pub foreign : List ℕ → Bool
 foreign l = ltb (length l) 14 || not (sameOctets (take 6 l) slowAddress)
@@ -51,7 +47,7 @@ short l = ltb (length l) 124
 
 -- a wrong block length: octets 17, 37, 57 not 20, 20, 16, or octet 17 of a Marker or Marker Response not 16
 unfoldable pub wrongLength : List ℕ → Bool
-wrongLength l = pick (eqb (octet l 14) 1) (not (eqb (octet l 17) 20 && (eqb (octet l 37) 20 && eqb (octet l 57) 16))) (not (eqb (octet l 17) 16))
+wrongLength l = cond (eqb (octet l 14) 1) (not (eqb (octet l 17) 20 && (eqb (octet l 37) 20 && eqb (octet l 57) 16))) (not (eqb (octet l 17) 16))
 
 -- Marker type other than 1 or 2
 unfoldable pub wrongMarkerType : List ℕ → Bool
@@ -63,7 +59,7 @@ illegal l = noSubtype l || oddSubtype l || short l || wrongLength l || wrongMark
 
 -- what a frame is that none of the three lines names
 abbrev pub accepted : List ℕ → Class
-accepted l = pick (eqb (octet l 14) 1) Lacpdu (pick (eqb (octet l 16) 1) Marker Response)
+accepted l = cond (eqb (octet l 14) 1) Lacpdu (cond (eqb (octet l 16) 1) Marker Response)
 
 unfoldable pub classOf : List ℕ → Class
-classOf l = pick (foreign l) (Refused Foreign) (pick (unknown l) (Refused Unknown) (pick (illegal l) (Refused Illegal) (accepted l)))
+classOf l = cond (foreign l) (Refused Foreign) (cond (unknown l) (Refused Unknown) (cond (illegal l) (Refused Illegal) (accepted l)))

@@ -1,0 +1,87 @@
+-- One port's record: a builder, and what it is with one thing changed. antt has no record update, so everything else is made of these.
+use Prim.Native.Nat.{ℕ}
+use mathlib.Core.Bool.{Bool}
+use Rattle.frame.specs.declared.block.Block.{Block}
+use Rattle.frame.specs.declared.block.SystemId.{SystemId}
+use Rattle.frame.specs.declared.state.PortState.{PortState}
+use Rattle.port.specs.declared.record.Receive.{Receive}
+use Rattle.port.specs.declared.record.Periodic.{Periodic}
+use Rattle.port.specs.declared.record.Mux.{Mux}
+use Rattle.port.specs.declared.record.Selection.{Selection}
+use Rattle.port.specs.declared.record.Phase.{Phase}
+use Rattle.port.specs.declared.record.Line.{Line}
+use Rattle.port.specs.declared.record.Ticks.{Ticks}
+use Rattle.port.specs.declared.record.Timers.{Timers}
+use Rattle.port.specs.declared.record.Ages.{Ages}
+use Rattle.port.specs.declared.record.Own.{Own}
+use Rattle.port.specs.declared.record.Port.{Port}
+
+abbrev pub port : Phase → ℕ → Bool → Line → PortState → Timers → Ages → Own → Block → Port
+port h a n l s t g o b = record { phase = h; aggregator = a; ntt = n; line = l; actor = s; timers = t; ages = g; own = o; partner = b }
+
+-- ---- one group changed
+
+abbrev pub withPhase : Port → Phase → Port
+withPhase p h = port h (p .aggregator) (p .ntt) (p .line) (p .actor) (p .timers) (p .ages) (p .own) (p .partner)
+
+abbrev pub withAggregator : Port → ℕ → Port
+withAggregator p a = port (p .phase) a (p .ntt) (p .line) (p .actor) (p .timers) (p .ages) (p .own) (p .partner)
+
+abbrev pub withNtt : Port → Bool → Port
+withNtt p n = port (p .phase) (p .aggregator) n (p .line) (p .actor) (p .timers) (p .ages) (p .own) (p .partner)
+
+abbrev pub withLine : Port → Line → Port
+withLine p l = port (p .phase) (p .aggregator) (p .ntt) l (p .actor) (p .timers) (p .ages) (p .own) (p .partner)
+
+abbrev pub withActor : Port → PortState → Port
+withActor p s = port (p .phase) (p .aggregator) (p .ntt) (p .line) s (p .timers) (p .ages) (p .own) (p .partner)
+
+abbrev pub withTimers : Port → Timers → Port
+withTimers p t = port (p .phase) (p .aggregator) (p .ntt) (p .line) (p .actor) t (p .ages) (p .own) (p .partner)
+
+abbrev pub withAges : Port → Ages → Port
+withAges p g = port (p .phase) (p .aggregator) (p .ntt) (p .line) (p .actor) (p .timers) g (p .own) (p .partner)
+
+abbrev pub withOwn : Port → Own → Port
+withOwn p o = port (p .phase) (p .aggregator) (p .ntt) (p .line) (p .actor) (p .timers) (p .ages) o (p .partner)
+
+abbrev pub withPartner : Port → Block → Port
+withPartner p b = port (p .phase) (p .aggregator) (p .ntt) (p .line) (p .actor) (p .timers) (p .ages) (p .own) b
+
+-- ---- one field of a group changed
+
+abbrev pub phase : Receive → Periodic → Mux → Selection → Phase
+phase r q m s = record { receive = r; periodic = q; mux = m; selected = s }
+
+abbrev pub withReceive : Port → Receive → Port
+withReceive p r = withPhase p (phase r (p .phase .periodic) (p .phase .mux) (p .phase .selected))
+
+abbrev pub withPeriodic : Port → Periodic → Port
+withPeriodic p q = withPhase p (phase (p .phase .receive) q (p .phase .mux) (p .phase .selected))
+
+abbrev pub withMux : Port → Mux → Port
+withMux p m = withPhase p (phase (p .phase .receive) (p .phase .periodic) m (p .phase .selected))
+
+abbrev pub withSelected : Port → Selection → Port
+withSelected p s = withPhase p (phase (p .phase .receive) (p .phase .periodic) (p .phase .mux) s)
+
+abbrev pub ticks : ℕ → Ticks
+ticks n = record { 0 = n }
+
+abbrev pub withCurrent : Port → ℕ → Port
+withCurrent p n = withTimers p (record { current = ticks n; periodic = p .timers .periodic; wait = p .timers .wait })
+
+abbrev pub withPace : Port → ℕ → Port
+withPace p n = withTimers p (record { current = p .timers .current; periodic = ticks n; wait = p .timers .wait })
+
+abbrev pub withWait : Port → ℕ → Port
+withWait p n = withTimers p (record { current = p .timers .current; periodic = p .timers .periodic; wait = ticks n })
+
+-- ---- what an LACPDU says of the port itself (43.4.16 a to d): it is port `number` of its system
+
+abbrev pub actorBlock : SystemId → ℕ → Port → Block
+actorBlock system number p = record {
+    system = system;
+    key = p .own .key;
+    port = record { priority = p .own .priority; number = number };
+    state = p .actor }
