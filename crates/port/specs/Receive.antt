@@ -1,1 +1,142 @@
--- stub
+-- The Receive machine (43.4.12, figure 43-10) and its functions (43.4.9). The current-while timer belongs to EXPIRED and CURRENT.
+use Prim.Native.Nat.{ℕ}
+use mathlib.Core.Bool.{Bool, true, false, cond, _&&_}
+use Rattle.frame.specs.declared.block.Block.{Block}
+use Rattle.frame.specs.declared.block.SystemId.{SystemId}
+use Rattle.frame.specs.declared.state.PortState.{PortState}
+use Rattle.port.specs.declared.record.Receive.{Receive}
+use Rattle.port.specs.declared.record.Receive.the-variants.{Initialize, PortDisabled, Expired, LacpDisabled, Defaulted, Current}
+use Rattle.port.specs.declared.record.Selection.the-variants.{Unselected}
+use Rattle.port.specs.declared.record.Line.{Line}
+use Rattle.port.specs.declared.record.Port.{Port}
+use Rattle.port.specs.declared.receive.ReceiveStep.{ReceiveStep}
+use Rattle.port.specs.declared.receive.ReceiveStep.the-variants.{Stay, Enter}
+use Rattle.port.specs.Record.{withReceive, withSelected, withCurrent, withNtt, withActor, withPartner, withLine, actorBlock}
+use Rattle.port.specs.Bits.{withTimeout, withAggregation, withSynchronization, withDefaulted, withExpired, alike}
+use Rattle.port.specs.Compare.{sameParty, sameView, inSync}
+use Rattle.port.specs.Time.{ranOut, shortTimeoutTime, longTimeoutTime}
+
+-- ---- functions
+
+abbrev pub withState : Block → PortState → Block
+withState b s = record { system = b .system; key = b .key; port = b .port; state = s }
+
+abbrev pub withPartnerState : Port → PortState → Port
+withPartnerState p s = withPartner p (withState (p .partner) s)
+
+abbrev pub unselected : Port → Port
+unselected p = withSelected p Unselected
+
+abbrev pub expiredBit : Port → Bool → Port
+expiredBit p b = withActor p (withExpired (p .actor) b)
+
+unfoldable pub recordDefault : Port → Port
+recordDefault p = withActor (withPartner p (p .own .default)) (withDefaulted (p .actor) true)
+
+-- `us` is what we say of ourselves, the frame says `a` of its sender and `b` of us
+unfoldable pub recordPdu : Block → Block → Block → Port → Port
+recordPdu us a b p =
+    withActor (withPartner p (withState a (withSynchronization (a .state) (inSync us a b)))) (withDefaulted (p .actor) false)
+
+unfoldable pub updateSelected : Block → Port → Port
+updateSelected a p = cond (sameParty a (p .partner)) p (unselected p)
+
+unfoldable pub updateDefaultSelected : Port → Port
+updateDefaultSelected p = updateSelected (p .own .default) p
+
+unfoldable pub updateNtt : Block → Block → Port → Port
+updateNtt us b p = cond (sameView b us) p (withNtt p true)
+
+-- ---- states: the actions on entry, in the figure's order
+
+unfoldable pub initialized : Port → Port
+initialized p = withReceive (withCurrent (expiredBit (recordDefault (unselected p)) false) 0) Initialize
+
+unfoldable pub portDisabled : Port → Port
+portDisabled p = withReceive (withCurrent (withPartnerState p (withSynchronization (p .partner .state) false)) 0) PortDisabled
+
+unfoldable pub expired : Port → Port
+expired p =
+    withReceive (expiredBit (withCurrent (withPartnerState p (withTimeout (withSynchronization (p .partner .state) false) true)) shortTimeoutTime) true) Expired
+
+withoutAggregation : Port → Port
+withoutAggregation p = withPartnerState p (withAggregation (p .partner .state) false)
+
+unfoldable pub lacpDisabled : Port → Port
+unfolding withoutAggregation
+lacpDisabled p = withReceive (withCurrent (expiredBit (withoutAggregation (recordDefault (unselected p))) false) 0) LacpDisabled
+
+unfoldable pub defaulted : Port → Port
+defaulted p = withReceive (withCurrent (expiredBit (recordDefault (updateDefaultSelected p)) false) 0) Defaulted
+
+-- our own Timeout bit sets our current-while timer
+abbrev pub timeoutTime : Port → ℕ
+timeoutTime p = cond (p .actor .timeout) shortTimeoutTime longTimeoutTime
+
+unfoldable pub heard : Block → Block → Block → Port → Port
+heard us a b p = recordPdu us a b (updateNtt us b (updateSelected a p))
+
+unfoldable pub current : Block → Block → Block → Port → Port
+current us a b p = withReceive (expiredBit (withCurrent (heard us a b p) (timeoutTime p)) false) Current
+
+-- ---- the machine without an LACPDU
+
+abbrev pub receiveNext : Receive → Bool → Bool → Bool → ReceiveStep
+receiveNext Initialize up full out = Enter PortDisabled
+receiveNext PortDisabled false full out = Stay
+receiveNext PortDisabled true true out = Enter Expired
+receiveNext PortDisabled true false out = Enter LacpDisabled
+receiveNext Expired false full out = Enter PortDisabled
+receiveNext Expired true full true = Enter Defaulted
+receiveNext Expired true full false = Stay
+receiveNext LacpDisabled false full out = Enter PortDisabled
+receiveNext LacpDisabled true full out = Stay
+receiveNext Defaulted false full out = Enter PortDisabled
+receiveNext Defaulted true full out = Stay
+receiveNext Current false full out = Enter PortDisabled
+receiveNext Current true full true = Enter Expired
+receiveNext Current true full false = Stay
+
+-- CURRENT is entered with an LACPDU alone
+abbrev pub receiveEntered : Receive → Port → Port
+receiveEntered Initialize p = initialized p
+receiveEntered PortDisabled p = portDisabled p
+receiveEntered Expired p = expired p
+receiveEntered LacpDisabled p = lacpDisabled p
+receiveEntered Defaulted p = defaulted p
+receiveEntered Current p = p
+
+abbrev pub receiveTaken : ReceiveStep → Port → Port
+receiveTaken Stay p = p
+receiveTaken (Enter s) p = receiveEntered s p
+
+unfoldable pub receiveChoice : Port → ReceiveStep
+receiveChoice p = receiveNext (p .phase .receive) (p .line .up) (p .line .full) (ranOut (p .timers .current))
+
+unfoldable pub receiveStep : Port → Port
+receiveStep p = receiveTaken (receiveChoice p) p
+
+-- until no step applies: two steps lead to rest (law `receive-rests`)
+unfoldable pub receiveRun : Port → Port
+receiveRun p = receiveStep (receiveStep p)
+
+-- ---- events
+
+-- a frame on another port showed that the partner of this one, which is disabled, has moved (port_moved)
+unfoldable pub moved : Port → Port
+moved p = portDisabled (initialized p)
+
+-- an accepted LACPDU on port `number` of `system`
+unfoldable pub received : SystemId → ℕ → Block → Block → Port → Port
+received system number a b p = current (actorBlock system number p) a b p
+
+-- a link or duplex change: the values as they are change nothing; a change on an up port acts as down, then up, so every change
+-- goes by way of down
+abbrev pub sameLine : Line → Line → Bool
+sameLine x y = alike (x .up) (y .up) && alike (x .full) (y .full)
+
+abbrev pub down : Line → Line
+down l = record { up = false; full = l .full }
+
+unfoldable pub lined : Line → Port → Port
+lined l p = cond (sameLine l (p .line)) p (receiveRun (withLine (receiveRun (withLine p (down (p .line)))) l))

@@ -1,1 +1,63 @@
--- stub
+-- A port's settings: one set at start, changed by a call (document 01, 'Settings').
+use Prim.Native.Nat.{ℕ}
+use mathlib.Core.Bool.{Bool, true, false, cond, _&&_}
+use lib.Dec.{eqb}
+use Rattle.frame.specs.declared.state.PortState.{PortState}
+use Rattle.port.specs.declared.record.Own.{Own}
+use Rattle.port.specs.declared.record.Port.{Port}
+use Rattle.port.specs.declared.record.Receive.the-variants.{Initialize}
+use Rattle.port.specs.declared.record.Periodic.the-variants.{NoPeriodic}
+use Rattle.port.specs.declared.record.Mux.the-variants.{Detached}
+use Rattle.port.specs.declared.record.Selection.the-variants.{Unselected}
+use Rattle.port.specs.declared.settings.Settings.{Settings}
+use Rattle.port.specs.Record.{port, phase, ticks, withOwn, withActor, withNtt}
+use Rattle.port.specs.Bits.{state, alike}
+use Rattle.port.specs.Compare.{sameAddress, sameBlock}
+use Rattle.port.specs.Receive.{unselected, moved}
+use Rattle.port.specs.Transmit.{noSend, ages}
+
+abbrev pub ownOf : Settings → Own
+ownOf s = record { address = s .address; key = s .key; priority = s .priority; default = s .default }
+
+-- the actor's state with the settings' own Activity, Timeout and Aggregation
+abbrev pub ownBits : Settings → PortState → PortState
+ownBits s x =
+    state (s .activity) (s .timeout) (s .aggregation) (x .synchronization) (x .collecting) (x .distributing) (x .defaulted) (x .expired)
+
+-- key, port priority and Aggregation as they are: what does not make the port UNSELECTED
+unfoldable pub sameGrouping : Settings → Port → Bool
+sameGrouping s p = eqb (s .key) (p .own .key) && (eqb (s .priority) (p .own .priority) && alike (s .aggregation) (p .actor .aggregation))
+
+unfoldable pub sameSettings : Settings → Port → Bool
+sameSettings s p =
+    sameGrouping s p
+    && (sameAddress (s .address) (p .own .address)
+    && (alike (s .activity) (p .actor .activity)
+    && (alike (s .timeout) (p .actor .timeout) && sameBlock (s .default) (p .own .default))))
+
+unfoldable pub regrouped : Settings → Port → Port
+regrouped s p = cond (sameGrouping s p) p (unselected p)
+
+-- equal settings change nothing; any change sets NTT; a changed key, port priority or Aggregation makes the port UNSELECTED
+unfoldable pub changed : Settings → Port → Port
+changed s p = withNtt (withActor (withOwn (regrouped s p) (ownOf s)) (ownBits s (p .actor))) true
+
+unfoldable pub configured : Settings → Port → Port
+configured s p = cond (sameSettings s p) p (changed s p)
+
+-- default partner block: answer 4 where Collecting differs from Synchronization
+unfoldable pub lawful : Settings → Bool
+lawful s = alike (s .default .state .collecting) (s .default .state .synchronization)
+
+-- before INITIALIZE: links down, duplex full, NTT set, NO_PERIODIC, DETACHED, timers stopped, no send remembered. The aggregator is
+-- taken in step 4, since the port is UNSELECTED.
+unfoldable pub blank : Settings → Port
+blank s =
+    port (phase Initialize NoPeriodic Detached Unselected) 1 true (record { up = false; full = true })
+    (ownBits s (state false false false false false false false false))
+    (record { current = ticks 0; periodic = ticks 0; wait = ticks 0 })
+    (ages noSend noSend noSend) (ownOf s) (s .default)
+
+-- start performs INITIALIZE and then PORT_DISABLED
+unfoldable pub started : Settings → Port
+started s = moved (blank s)

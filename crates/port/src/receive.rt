@@ -1,1 +1,288 @@
-// stub
+// The Receive machine (43.4.12), its functions (43.4.9), and what moves it: an LACPDU, a tick, a link or duplex change, a partner
+// that has moved.
+ghost use mathlib.Core.Path.{_≡_};
+ghost use lib.ListN.{length};
+ghost use Rattle.frame.specs.Block.{blockOf, blockOctets};
+ghost use Rattle.frame.specs.Wire.{applying};
+ghost use Rattle.port.specs.Record.{withCurrent};
+ghost use Rattle.port.specs.Receive.{recordDefault, recordPdu, updateSelected, updateNtt, initialized, portDisabled, expired, lacpDisabled, defaulted, timeoutTime};
+ghost use Rattle.port.specs.Receive.{current, receiveNext, receiveEntered, receiveChoice, receiveStep, receiveRun, moved, received, sameLine, lined};
+ghost use Rattle.port.specs.Receive.{heard as Receive·heard, current as Receive·current};
+use crate::compare::alike;
+use crate::compare::in_sync;
+use crate::compare::same_party;
+use crate::compare::same_view;
+use crate::record::Line;
+use crate::record::Port;
+use crate::record::Receive;
+use crate::record::Selection;
+use crate::record::Ticks;
+use frame::block::Block;
+use frame::block::SystemId;
+use frame::wire::Source;
+
+pub const SHORT_TIMEOUT_TIME: u16 = 30;
+pub const LONG_TIMEOUT_TIME: u16 = 900;
+
+pub enum ReceiveStep {
+    Stay,
+    Enter(Receive),
+}
+
+// Which transition applies without an LACPDU.
+fn next(state: Receive, up: bool, full: bool, out: bool) -> ReceiveStep
+    ensures { λ r. ⌜ r ≡ receiveNext state up full out ⌝ }
+{
+    match state {
+        Receive::Initialize => ReceiveStep::Enter(Receive::PortDisabled),
+        Receive::PortDisabled => {
+            if up {
+                if full {
+                    return ReceiveStep::Enter(Receive::Expired);
+                }
+                return ReceiveStep::Enter(Receive::LacpDisabled);
+            }
+            ReceiveStep::Stay
+        }
+        Receive::Expired => {
+            if up {
+                if out {
+                    return ReceiveStep::Enter(Receive::Defaulted);
+                }
+                return ReceiveStep::Stay;
+            }
+            ReceiveStep::Enter(Receive::PortDisabled)
+        }
+        Receive::LacpDisabled => {
+            if up {
+                return ReceiveStep::Stay;
+            }
+            ReceiveStep::Enter(Receive::PortDisabled)
+        }
+        Receive::Defaulted => {
+            if up {
+                return ReceiveStep::Stay;
+            }
+            ReceiveStep::Enter(Receive::PortDisabled)
+        }
+        Receive::Current => {
+            if up {
+                if out {
+                    return ReceiveStep::Enter(Receive::Expired);
+                }
+                return ReceiveStep::Stay;
+            }
+            ReceiveStep::Enter(Receive::PortDisabled)
+        }
+    }
+}
+
+// The block that gets recorded: the frame's or the default one, by the one step that is lent both.
+fn recorded_block(source: Source, pdu: &[u8], default: Block) -> Block
+    requires { ⌜ length (now pdu) ≡ 15 ⌝ }
+    ensures { λ r. ⌜ r ≡ blockOf (applying source (now (pdu .entry)) (blockOctets default)) ⌝ }
+{
+    let mut octets = [0u8; 15];
+    default.write(&mut octets);
+    Block::read(frame::wire::recorded(source, pdu, &octets))
+}
+
+impl Line {
+    fn same(self, other: Line) -> bool
+        ensures { λ r. ⌜ r ≡ sameLine self other ⌝ }
+    {
+        alike(self.up, other.up) & alike(self.full, other.full)
+    }
+}
+
+impl Port {
+    // Starts the current-while timer, or stops it with 0.
+    fn with_current(mut self, n: u16) -> Self
+        ensures { λ r. ⌜ r ≡ withCurrent self n ⌝ }
+    {
+        let t = Ticks(n);
+        let mut ts = self.timers;
+        ts.current = t;
+        self.timers = ts;
+        self
+    }
+
+    // recordDefault: no frame is at hand, so 15 zeros are lent in its place.
+    fn record_default(mut self) -> Self
+        ensures { λ r. ⌜ r ≡ recordDefault self ⌝ }
+    {
+        let none = [0u8; 15];
+        let default = self.own.default;
+        let block = recorded_block(Source::Default, &none, default);
+        self.partner = block;
+        self.actor.defaulted = true;
+        self
+    }
+
+    // recordPDU: the frame's actor block, in sync or not.
+    fn record_pdu(mut self, us: Block, actor: &[u8], b: Block) -> Self
+        requires { ⌜ length (now actor) ≡ 15 ⌝ }
+        ensures { λ r. ⌜ r ≡ recordPdu us (blockOf (now (actor .entry))) b self ⌝ }
+    {
+        let default = self.own.default;
+        let mut block = recorded_block(Source::Pdu, actor, default);
+        let sync = in_sync(us, block, b);
+        block.state.synchronization = sync;
+        self.partner = block;
+        self.actor.defaulted = false;
+        self
+    }
+
+    // update_Selected, with the block that is about to be recorded.
+    fn update_selected(self, block: Block) -> Self
+        ensures { λ r. ⌜ r ≡ updateSelected block self ⌝ }
+    {
+        let partner = self.partner;
+        if same_party(block, partner) {
+            return self;
+        }
+        self.with_selected(Selection::Unselected)
+    }
+
+    // update_NTT: what the frame says of us, against what we say.
+    fn update_ntt(mut self, us: Block, b: Block) -> Self
+        ensures { λ r. ⌜ r ≡ updateNtt us b self ⌝ }
+    {
+        if same_view(b, us) {
+            return self;
+        }
+        self.ntt = true;
+        self
+    }
+
+    fn initialize(self) -> Self
+        ensures { λ r. ⌜ r ≡ initialized self ⌝ }
+    {
+        let mut p = self.with_selected(Selection::Unselected).record_default();
+        p.actor.expired = false;
+        p.with_current(0).with_receive(Receive::Initialize)
+    }
+
+    fn port_disabled(mut self) -> Self
+        ensures { λ r. ⌜ r ≡ portDisabled self ⌝ }
+    {
+        self.partner.state.synchronization = false;
+        self.with_current(0).with_receive(Receive::PortDisabled)
+    }
+
+    // EXPIRED: the learned partner survives, but for Synchronization and Timeout.
+    fn expire(mut self) -> Self
+        ensures { λ r. ⌜ r ≡ expired self ⌝ }
+    {
+        self.partner.state.synchronization = false;
+        self.partner.state.timeout = true;
+        self.actor.expired = true;
+        self.with_current(SHORT_TIMEOUT_TIME).with_receive(Receive::Expired)
+    }
+
+    fn lacp_disabled(self) -> Self
+        ensures { λ r. ⌜ r ≡ lacpDisabled self ⌝ }
+    {
+        let mut p = self.with_selected(Selection::Unselected).record_default();
+        p.partner.state.aggregation = false;
+        p.actor.expired = false;
+        p.with_current(0).with_receive(Receive::LacpDisabled)
+    }
+
+    // DEFAULTED: compares before it records.
+    fn default_partner(self) -> Self
+        ensures { λ r. ⌜ r ≡ defaulted self ⌝ }
+    {
+        let default = self.own.default;
+        let mut p = self.update_selected(default).record_default();
+        p.actor.expired = false;
+        p.with_current(0).with_receive(Receive::Defaulted)
+    }
+
+    // Our own Timeout bit, not the partner's.
+    fn timeout_time(self) -> u16
+        ensures { λ r. ⌜ r ≡ timeoutTime self ⌝ }
+    {
+        if self.actor.timeout { SHORT_TIMEOUT_TIME } else { LONG_TIMEOUT_TIME }
+    }
+
+    // CURRENT: compares before it records, so that a changed partner is seen.
+    fn current(self, us: Block, actor: &[u8], b: Block) -> Self
+        requires { ⌜ length (now actor) ≡ 15 ⌝ }
+        ensures { λ r. ⌜ r ≡ Receive·current us (blockOf (now (actor .entry))) b self ⌝ }
+    {
+        let a = Block::read(actor);
+        let mut p = self.update_selected(a).update_ntt(us, b).record_pdu(us, actor, b);
+        p.actor.expired = false;
+        p.with_current(self.timeout_time()).with_receive(Receive::Current)
+    }
+
+    fn enter_receive(self, state: Receive) -> Self
+        ensures { λ r. ⌜ r ≡ receiveEntered state self ⌝ }
+    {
+        match state {
+            Receive::Initialize => self.initialize(),
+            Receive::PortDisabled => self.port_disabled(),
+            Receive::Expired => self.expire(),
+            Receive::LacpDisabled => self.lacp_disabled(),
+            Receive::Defaulted => self.default_partner(),
+            Receive::Current => self,
+        }
+    }
+
+    fn receive_choice(self) -> ReceiveStep
+        ensures { λ r. ⌜ r ≡ receiveChoice self ⌝ }
+    {
+        let h = self.phase;
+        let state = h.receive;
+        let out = self.timers.current.0 == 0;
+        next(state, self.line.up, self.line.full, out)
+    }
+
+    fn receive_step(self) -> Self
+        ensures { λ r. ⌜ r ≡ receiveStep self ⌝ }
+    {
+        match self.receive_choice() {
+            ReceiveStep::Stay => self,
+            ReceiveStep::Enter(s) => self.enter_receive(s),
+        }
+    }
+
+    // The machine without an LACPDU, until no step applies.
+    pub fn receive(self) -> Self
+        ensures { λ r. ⌜ r ≡ receiveRun self ⌝ }
+    {
+        self.receive_step().receive_step()
+    }
+
+    // The partner of this port, which is disabled, was seen on another one.
+    pub fn moved_away(self) -> Self
+        ensures { λ r. ⌜ r ≡ moved self ⌝ }
+    {
+        self.initialize().port_disabled()
+    }
+
+    // An accepted LACPDU on this port, port `number` of `system`; its two blocks are parts of the frame.
+    pub fn receive_lacpdu(self, system: SystemId, number: u16, actor: &[u8], partner: &[u8]) -> Self
+        requires { ⌜ (length (now actor) ≡ 15) × (length (now partner) ≡ 15) ⌝ }
+        ensures { λ r. ⌜ r ≡ received system number (blockOf (now (actor .entry))) (blockOf (now (partner .entry))) self ⌝ }
+    {
+        let us = self.actor_block(system, number);
+        let b = Block::read(partner);
+        self.current(us, actor, b)
+    }
+
+    // Link and duplex as they now are. Every change goes by way of down.
+    pub fn set_line(mut self, line: Line) -> Self
+        ensures { λ r. ⌜ r ≡ lined line self ⌝ }
+    {
+        let old = self.line;
+        if line.same(old) {
+            return self;
+        }
+        self.line.up = false;
+        let mut p = self.receive();
+        p.line = line;
+        p.receive()
+    }
+}

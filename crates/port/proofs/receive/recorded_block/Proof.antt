@@ -1,0 +1,59 @@
+use mathlib.Core.Path.{_≡_, refl}
+use mathlib.Core.List.{List}
+use Prim.Native.Nat.{ℕ}
+use lib.ListN.{length}
+use denote.Ref.{now}
+use Rattle.frame.specs.declared.wire.Source.{Source}
+use Rattle.frame.specs.declared.wire.Source.the-variants.{Default, Pdu}
+use Rattle.frame.specs.Block.{blockOctets}
+use Rattle.frame.specs.Wire.{applying}
+use borrow.Author.Needs.{needs}
+use Rattle.port.proofs.receive.recorded_block.Statement.{statement}
+use Rattle.port.proofs.receive.recorded_block.Tie as tie
+use Rattle.port.proofs.receive.recorded_block.Reads as reads
+use Rattle.port.proofs.receive.recorded_block.Lts as lts
+use Rattle.frame.proofs.block.Block.read.Reads as read-reads
+use Rattle.frame.proofs.block.Block.write.Reads as write-reads
+use Rattle.frame.proofs.wire.recorded.Reads as recorded-reads
+
+-- what applies has 15 octets, if both have
+applying-length : (s : Source) (a b : List ℕ) → length a ≡ 15 → length b ≡ 15 → length (applying s a b) ≡ 15
+applying-length Default a b ha hb = hb
+applying-length Pdu a b ha hb = ha
+
+-- src/receive.rt:86:19
+slice-aggregate-write : tie.Need-slice-aggregate-write
+slice-aggregate-write c = search needs
+
+-- src/receive.rt:86:5
+write-requires : tie.Need-write-requires
+write-requires c κs = search needs
+
+-- src/receive.rt:87:52
+slice-aggregate-recorded : tie.Need-slice-aggregate-recorded
+slice-aggregate-recorded c = search needs
+
+-- src/receive.rt:87:17
+recorded-requires : tie.Need-recorded-requires
+recorded-requires c κs = search needs
+
+-- src/receive.rt:87:5
+read-requires : tie.Need-read-requires
+read-requires c κs =
+    let a = (c .before .before .before .before .before .before .args) in
+    rw ((c .recorded .ensures), (c .before .before .before .write .ensures)) (applying-length (a .source) (now (a .pdu)) (blockOctets (a .default)) (c .before .before .before .before .before .before .pre) refl)
+
+-- src/receive.rt:81:1
+returns : tie.Need-returns
+returns c = rw ((c .read .ensures), (c .before .recorded .ensures), (c .before .before .before .before .write .ensures))
+
+pub recorded-block-spec : {M : Type 1} → statement M
+recorded-block-spec =
+    tie.close
+    (tie.spec
+    slice-aggregate-write
+    write-requires
+    slice-aggregate-recorded
+    recorded-requires
+    read-requires
+    returns)

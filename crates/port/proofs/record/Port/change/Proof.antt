@@ -1,0 +1,29 @@
+use Rattle.port.specs.Settings.{changed}
+use borrow.Author.Needs.{needs}
+use Rattle.port.proofs.record.Port.change.Statement.{statement}
+use Rattle.port.proofs.record.Port.change.Tie as tie
+use Rattle.port.proofs.record.Port.change.Reads as reads
+use Rattle.port.proofs.record.Port.change.Lts as lts
+use Rattle.port.proofs.record.Port.regrouped.Reads as regrouped-reads
+use Rattle.port.proofs.settings.Settings.bits.Reads as bits-reads
+use Rattle.port.proofs.settings.Settings.own.Reads as own-reads
+
+-- src/settings.rt:135:13
+bits-requires : tie.Need-bits-requires
+bits-requires c κs = search needs
+
+-- src/settings.rt:136:13
+own-requires : tie.Need-own-requires
+own-requires c κs = search needs
+
+-- src/settings.rt:137:13
+regrouped-requires : tie.Need-regrouped-requires
+regrouped-requires c κs = search needs
+
+-- src/settings.rt:131:5
+returns : tie.Need-returns
+unfolding changed
+returns c = simp (c .regrouped .ensures, c .before .own .ensures, c .before .before .bits .ensures)
+
+pub change-spec : {M : Type 1} → statement M
+change-spec = tie.close (tie.spec bits-requires own-requires regrouped-requires returns)

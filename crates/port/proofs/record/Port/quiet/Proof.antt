@@ -1,0 +1,25 @@
+use mathlib.Core.Path.{sym, _∙_}
+use Rattle.port.specs.Transmit.{quieted}
+use borrow.Author.Needs.{needs}
+use Rattle.port.proofs.record.Port.quiet.Statement.{statement}
+use Rattle.port.proofs.record.Port.quiet.Tie as tie
+use Rattle.port.proofs.record.Port.quiet.Reads as reads
+use Rattle.port.proofs.record.Port.quiet.Lts as lts
+use Rattle.port.proofs.record.Port.is_silent.Reads as is-silent-reads
+
+-- src/transmit.rt:111:12
+is-silent-requires : tie.Need-is-silent-requires
+is-silent-requires c κs = search needs
+
+-- src/transmit.rt:113:13
+returns : tie.Need-returns
+unfolding quieted
+returns c = simp (sym (c .before .is-silent .ensures) ∙ (c .if1 .taken))
+
+-- src/transmit.rt:108:5
+returns-2 : tie.Need-returns-2
+unfolding quieted
+returns-2 c = simp (sym (c .before .is-silent .ensures) ∙ (c .if1 .left))
+
+pub quiet-spec : {M : Type 1} → statement M
+quiet-spec = tie.close (tie.spec is-silent-requires returns returns-2)

@@ -1,0 +1,23 @@
+use Rattle.port.specs.Receive.{receiveRun}
+use borrow.Author.Needs.{needs}
+use Rattle.port.proofs.record.Port.receive.Statement.{statement}
+use Rattle.port.proofs.record.Port.receive.Tie as tie
+use Rattle.port.proofs.record.Port.receive.Reads as reads
+use Rattle.port.proofs.record.Port.receive.Lts as lts
+use Rattle.port.proofs.record.Port.receive_step.Reads as receive-step-reads
+
+-- src/receive.rt:247:9
+receive-step-requires : tie.Need-receive-step-requires
+receive-step-requires c κs = search needs
+
+-- src/receive.rt:247:9
+receive-step-requires-2 : tie.Need-receive-step-requires-2
+receive-step-requires-2 c κs = search needs
+
+-- src/receive.rt:244:5
+returns : tie.Need-returns
+unfolding receiveRun
+returns c = simp (c .receive-step2 .ensures, c .before .receive-step .ensures)
+
+pub receive-spec : {M : Type 1} → statement M
+receive-spec = tie.close (tie.spec receive-step-requires receive-step-requires-2 returns)

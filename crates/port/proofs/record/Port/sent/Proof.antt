@@ -1,0 +1,19 @@
+use Rattle.port.specs.Transmit.{sent}
+use borrow.Author.Needs.{needs}
+use Rattle.port.proofs.record.Port.sent.Statement.{statement}
+use Rattle.port.proofs.record.Port.sent.Tie as tie
+use Rattle.port.proofs.record.Port.sent.Reads as reads
+use Rattle.port.proofs.record.Port.sent.Lts as lts
+use Rattle.port.proofs.record.Ages.with_send.Reads as with-send-reads
+
+-- src/transmit.rt:95:13
+with-send-requires : tie.Need-with-send-requires
+with-send-requires c κs = search needs
+
+-- src/transmit.rt:91:5
+returns : tie.Need-returns
+unfolding sent
+returns c = simp (c .with-send .ensures)
+
+pub sent-spec : {M : Type 1} → statement M
+sent-spec = tie.close (tie.spec with-send-requires returns)
