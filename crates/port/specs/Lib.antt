@@ -1,9 +1,6 @@
 pub mod Record
-pub mod Bits
-pub mod Time
 pub mod Periodic
 pub mod Mux
-pub mod Compare
 pub mod Receive
 pub mod Transmit
 pub mod Settings

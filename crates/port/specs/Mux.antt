@@ -1,74 +1,17 @@
--- The Mux machine, independent control (43.4.15, figure 43-13). A second kind of control (request M-108) is a second `muxNext`.
-use mathlib.Core.Bool.{Bool, true, false, cond}
+-- The Mux machine on a record (43.4.15), and steps 3 to 6 of document 01's order of work for one port.
+use mathlib.Core.Bool.{Bool, false, cond, _||_}
 use Prim.Native.Nat.{ℕ}
-use Rattle.frame.specs.declared.state.PortState.{PortState}
-use Rattle.port.specs.declared.record.Mux.{Mux}
-use Rattle.port.specs.declared.record.Mux.the-variants.{Detached, Waiting, Attached, Collecting, Distributing}
-use Rattle.port.specs.declared.record.Selection.{Selection}
-use Rattle.port.specs.declared.record.Selection.the-variants.{Unselected, Selected}
+use Rattle.machine.specs.declared.states.Mux.{Mux}
+use Rattle.machine.specs.declared.states.Selection.the-variants.{Unselected, Selected}
 use Rattle.port.specs.declared.record.Port.{Port}
-use Rattle.port.specs.declared.mux.MuxStep.{MuxStep}
-use Rattle.port.specs.declared.mux.MuxStep.the-variants.{Stay, Enter}
+use Rattle.machine.specs.declared.mux.MuxStep.{MuxStep}
+use Rattle.machine.specs.declared.mux.MuxStep.the-variants.{Stay, Enter}
+use Rattle.machine.specs.Mux.{muxNext, waits, muxBits, setsNtt, waitTime}
 use Rattle.port.specs.Record.{withMux, withWait, withNtt, withActor, withAggregator, withSelected}
-use Rattle.port.specs.Bits.{withSynchronization, withCollecting, withDistributing}
-use Rattle.port.specs.Time.{aggregateWaitTime}
 
--- what a state means to others; nothing compares state numbers
-abbrev pub waits : Mux → Bool
-waits Detached = false
-waits Waiting = true
-waits Attached = false
-waits Collecting = false
-waits Distributing = false
-
-abbrev pub isAttached : Mux → Bool
-isAttached Detached = false
-isAttached Waiting = false
-isAttached Attached = true
-isAttached Collecting = true
-isAttached Distributing = true
-
-abbrev pub collects : Mux → Bool
-collects Detached = false
-collects Waiting = false
-collects Attached = false
-collects Collecting = true
-collects Distributing = true
-
-abbrev pub distributes : Mux → Bool
-distributes Detached = false
-distributes Waiting = false
-distributes Attached = false
-distributes Collecting = false
-distributes Distributing = true
-
--- the transitions, by Selected, Ready, and the partner's Synchronization and Collecting
-abbrev pub muxNext : Mux → Selection → Bool → Bool → Bool → MuxStep
-muxNext Detached Unselected ready sync coll = Stay
-muxNext Detached Selected ready sync coll = Enter Waiting
-muxNext Waiting Unselected ready sync coll = Enter Detached
-muxNext Waiting Selected true sync coll = Enter Attached
-muxNext Waiting Selected false sync coll = Stay
-muxNext Attached Unselected ready sync coll = Enter Detached
-muxNext Attached Selected ready true coll = Enter Collecting
-muxNext Attached Selected ready false coll = Stay
-muxNext Collecting Unselected ready sync coll = Enter Attached
-muxNext Collecting Selected ready true true = Enter Distributing
-muxNext Collecting Selected ready true false = Stay
-muxNext Collecting Selected ready false coll = Enter Attached
-muxNext Distributing Unselected ready sync coll = Enter Collecting
-muxNext Distributing Selected ready true true = Stay
-muxNext Distributing Selected ready true false = Enter Collecting
-muxNext Distributing Selected ready false coll = Enter Collecting
-
--- the actions on entry; the wait timer belongs to WAITING alone, and DISTRIBUTING sets no NTT
+-- the actions on entry
 abbrev pub muxEntered : Mux → Port → Port
-muxEntered Detached p =
-    withMux (withWait (withNtt (withActor p (withCollecting (withDistributing (withSynchronization (p .actor) false) false) false)) true) 0) Detached
-muxEntered Waiting p = withMux (withWait p aggregateWaitTime) Waiting
-muxEntered Attached p = withMux (withWait (withNtt (withActor p (withCollecting (withSynchronization (p .actor) true) false)) true) 0) Attached
-muxEntered Collecting p = withMux (withNtt (withActor p (withDistributing (withCollecting (p .actor) true) false)) true) Collecting
-muxEntered Distributing p = withMux (withActor p (withDistributing (p .actor) true)) Distributing
+muxEntered m p = withMux (withWait (withNtt (withActor p (muxBits m (p .actor))) (p .ntt || setsNtt m)) (waitTime m)) m
 
 abbrev pub muxTaken : MuxStep → Port → Port
 muxTaken Stay p = p

@@ -1,12 +1,12 @@
 -- The Periodic Transmission machine (43.4.13, figure 43-11).
 use mathlib.Core.Bool.{Bool, true, false, not, _&&_, _||_}
-use Rattle.port.specs.declared.record.Periodic.{Periodic}
-use Rattle.port.specs.declared.record.Periodic.the-variants.{NoPeriodic, FastPeriodic, SlowPeriodic, PeriodicTx}
+use Rattle.machine.specs.declared.states.Periodic.{Periodic}
 use Rattle.port.specs.declared.record.Port.{Port}
-use Rattle.port.specs.declared.periodic.PeriodicStep.{PeriodicStep}
-use Rattle.port.specs.declared.periodic.PeriodicStep.the-variants.{Stay, Enter}
+use Rattle.machine.specs.declared.periodic.PeriodicStep.{PeriodicStep}
+use Rattle.machine.specs.declared.periodic.PeriodicStep.the-variants.{Stay, Enter}
+use Rattle.machine.specs.Periodic.{periodicNext, periodicTime, isTx}
 use Rattle.port.specs.Record.{withPeriodic, withPace, withNtt}
-use Rattle.port.specs.Time.{ranOut, fastPeriodicTime, slowPeriodicTime}
+use Rattle.machine.specs.Time.{ranOut}
 
 -- Actor and Partner LACP_Activity both Passive
 abbrev pub bothPassive : Port → Bool
@@ -16,25 +16,9 @@ bothPassive p = not (p .actor .activity) && not (p .partner .state .activity)
 abbrev pub quiet : Port → Bool
 quiet p = not (p .line .full) || (not (p .line .up) || bothPassive p)
 
--- the transitions: the open-ended one first, then a timer that ran out, then the partner's Timeout (short or not)
-abbrev pub periodicNext : Periodic → Bool → Bool → Bool → PeriodicStep
-periodicNext s true out short = Enter NoPeriodic
-periodicNext NoPeriodic false out short = Enter FastPeriodic
-periodicNext FastPeriodic false true short = Enter PeriodicTx
-periodicNext FastPeriodic false false true = Stay
-periodicNext FastPeriodic false false false = Enter SlowPeriodic
-periodicNext SlowPeriodic false true short = Enter PeriodicTx
-periodicNext SlowPeriodic false false true = Enter PeriodicTx
-periodicNext SlowPeriodic false false false = Stay
-periodicNext PeriodicTx false out true = Enter FastPeriodic
-periodicNext PeriodicTx false out false = Enter SlowPeriodic
-
 -- the actions on entry
 abbrev pub periodicEntered : Periodic → Port → Port
-periodicEntered NoPeriodic p = withPace (withPeriodic p NoPeriodic) 0
-periodicEntered FastPeriodic p = withPace (withPeriodic p FastPeriodic) fastPeriodicTime
-periodicEntered SlowPeriodic p = withPace (withPeriodic p SlowPeriodic) slowPeriodicTime
-periodicEntered PeriodicTx p = withNtt (withPace (withPeriodic p PeriodicTx) 0) true
+periodicEntered s p = withNtt (withPace (withPeriodic p s) (periodicTime s)) (p .ntt || isTx s)
 
 abbrev pub periodicTaken : PeriodicStep → Port → Port
 periodicTaken Stay p = p

@@ -4,17 +4,19 @@ use mathlib.Core.Bool.{Bool, true, false, cond, _&&_}
 use Rattle.frame.specs.declared.block.Block.{Block}
 use Rattle.frame.specs.declared.block.SystemId.{SystemId}
 use Rattle.frame.specs.declared.state.PortState.{PortState}
-use Rattle.port.specs.declared.record.Receive.{Receive}
-use Rattle.port.specs.declared.record.Receive.the-variants.{Initialize, PortDisabled, Expired, LacpDisabled, Defaulted, Current}
-use Rattle.port.specs.declared.record.Selection.the-variants.{Unselected}
-use Rattle.port.specs.declared.record.Line.{Line}
+use Rattle.machine.specs.declared.states.Receive.{Receive}
+use Rattle.machine.specs.declared.states.Receive.the-variants.{Initialize, PortDisabled, Expired, LacpDisabled, Defaulted, Current}
+use Rattle.machine.specs.declared.states.Selection.the-variants.{Unselected}
+use Rattle.machine.specs.declared.states.Line.{Line}
 use Rattle.port.specs.declared.record.Port.{Port}
-use Rattle.port.specs.declared.receive.ReceiveStep.{ReceiveStep}
-use Rattle.port.specs.declared.receive.ReceiveStep.the-variants.{Stay, Enter}
+use Rattle.machine.specs.declared.receive.ReceiveStep.{ReceiveStep}
+use Rattle.machine.specs.declared.receive.ReceiveStep.the-variants.{Stay, Enter}
+use Rattle.machine.specs.Receive.{receiveNext}
+use Rattle.machine.specs.States.{sameLine}
 use Rattle.port.specs.Record.{withReceive, withSelected, withCurrent, withNtt, withActor, withPartner, withLine, actorBlock}
-use Rattle.port.specs.Bits.{withTimeout, withAggregation, withSynchronization, withDefaulted, withExpired, alike}
-use Rattle.port.specs.Compare.{sameParty, sameView, inSync}
-use Rattle.port.specs.Time.{ranOut, shortTimeoutTime, longTimeoutTime}
+use Rattle.machine.specs.Bits.{withTimeout, withAggregation, withSynchronization, withDefaulted, withExpired, alike}
+use Rattle.machine.specs.Compare.{sameParty, sameView, inSync}
+use Rattle.machine.specs.Time.{ranOut, shortTimeoutTime, longTimeoutTime}
 
 -- ---- functions
 
@@ -81,22 +83,6 @@ current us a b p = withReceive (expiredBit (withCurrent (heard us a b p) (timeou
 
 -- ---- the machine without an LACPDU
 
-abbrev pub receiveNext : Receive → Bool → Bool → Bool → ReceiveStep
-receiveNext Initialize up full out = Enter PortDisabled
-receiveNext PortDisabled false full out = Stay
-receiveNext PortDisabled true true out = Enter Expired
-receiveNext PortDisabled true false out = Enter LacpDisabled
-receiveNext Expired false full out = Enter PortDisabled
-receiveNext Expired true full true = Enter Defaulted
-receiveNext Expired true full false = Stay
-receiveNext LacpDisabled false full out = Enter PortDisabled
-receiveNext LacpDisabled true full out = Stay
-receiveNext Defaulted false full out = Enter PortDisabled
-receiveNext Defaulted true full out = Stay
-receiveNext Current false full out = Enter PortDisabled
-receiveNext Current true full true = Enter Expired
-receiveNext Current true full false = Stay
-
 -- CURRENT is entered with an LACPDU alone
 abbrev pub receiveEntered : Receive → Port → Port
 receiveEntered Initialize p = initialized p
@@ -132,9 +118,6 @@ received system number a b p = current (actorBlock system number p) a b p
 
 -- a link or duplex change: the values as they are change nothing; a change on an up port acts as down, then up, so every change
 -- goes by way of down
-abbrev pub sameLine : Line → Line → Bool
-sameLine x y = alike (x .up) (y .up) && alike (x .full) (y .full)
-
 abbrev pub down : Line → Line
 down l = record { up = false; full = l .full }
 

@@ -4,15 +4,15 @@ use mathlib.Core.Bool.{Bool}
 use Rattle.frame.specs.declared.block.Block.{Block}
 use Rattle.frame.specs.declared.block.SystemId.{SystemId}
 use Rattle.frame.specs.declared.state.PortState.{PortState}
-use Rattle.port.specs.declared.record.Receive.{Receive}
-use Rattle.port.specs.declared.record.Periodic.{Periodic}
-use Rattle.port.specs.declared.record.Mux.{Mux}
-use Rattle.port.specs.declared.record.Selection.{Selection}
-use Rattle.port.specs.declared.record.Phase.{Phase}
-use Rattle.port.specs.declared.record.Line.{Line}
-use Rattle.port.specs.declared.record.Ticks.{Ticks}
-use Rattle.port.specs.declared.record.Timers.{Timers}
-use Rattle.port.specs.declared.record.Ages.{Ages}
+use Rattle.machine.specs.declared.states.Receive.{Receive}
+use Rattle.machine.specs.declared.states.Periodic.{Periodic}
+use Rattle.machine.specs.declared.states.Mux.{Mux}
+use Rattle.machine.specs.declared.states.Selection.{Selection}
+use Rattle.machine.specs.declared.states.Phase.{Phase}
+use Rattle.machine.specs.declared.states.Line.{Line}
+use Rattle.machine.specs.declared.states.Timers.{Timers}
+use Rattle.machine.specs.declared.states.Ages.{Ages}
+use Rattle.machine.specs.States.{receiving, pacing, muxing, selecting, currently, paced, waiting}
 use Rattle.port.specs.declared.record.Own.{Own}
 use Rattle.port.specs.declared.record.Port.{Port}
 
@@ -50,32 +50,26 @@ withPartner p b = port (p .phase) (p .aggregator) (p .ntt) (p .line) (p .actor) 
 
 -- ---- one field of a group changed
 
-abbrev pub phase : Receive → Periodic → Mux → Selection → Phase
-phase r q m s = record { receive = r; periodic = q; mux = m; selected = s }
-
 abbrev pub withReceive : Port → Receive → Port
-withReceive p r = withPhase p (phase r (p .phase .periodic) (p .phase .mux) (p .phase .selected))
+withReceive p r = withPhase p (receiving r (p .phase))
 
 abbrev pub withPeriodic : Port → Periodic → Port
-withPeriodic p q = withPhase p (phase (p .phase .receive) q (p .phase .mux) (p .phase .selected))
+withPeriodic p q = withPhase p (pacing q (p .phase))
 
 abbrev pub withMux : Port → Mux → Port
-withMux p m = withPhase p (phase (p .phase .receive) (p .phase .periodic) m (p .phase .selected))
+withMux p m = withPhase p (muxing m (p .phase))
 
 abbrev pub withSelected : Port → Selection → Port
-withSelected p s = withPhase p (phase (p .phase .receive) (p .phase .periodic) (p .phase .mux) s)
-
-abbrev pub ticks : ℕ → Ticks
-ticks n = record { 0 = n }
+withSelected p s = withPhase p (selecting s (p .phase))
 
 abbrev pub withCurrent : Port → ℕ → Port
-withCurrent p n = withTimers p (record { current = ticks n; periodic = p .timers .periodic; wait = p .timers .wait })
+withCurrent p n = withTimers p (currently n (p .timers))
 
 abbrev pub withPace : Port → ℕ → Port
-withPace p n = withTimers p (record { current = p .timers .current; periodic = ticks n; wait = p .timers .wait })
+withPace p n = withTimers p (paced n (p .timers))
 
 abbrev pub withWait : Port → ℕ → Port
-withWait p n = withTimers p (record { current = p .timers .current; periodic = p .timers .periodic; wait = ticks n })
+withWait p n = withTimers p (waiting n (p .timers))
 
 -- ---- what an LACPDU says of the port itself (43.4.16 a to d): it is port `number` of its system
 

@@ -5,16 +5,17 @@ use lib.Dec.{eqb}
 use Rattle.frame.specs.declared.state.PortState.{PortState}
 use Rattle.port.specs.declared.record.Own.{Own}
 use Rattle.port.specs.declared.record.Port.{Port}
-use Rattle.port.specs.declared.record.Receive.the-variants.{Initialize}
-use Rattle.port.specs.declared.record.Periodic.the-variants.{NoPeriodic}
-use Rattle.port.specs.declared.record.Mux.the-variants.{Detached}
-use Rattle.port.specs.declared.record.Selection.the-variants.{Unselected}
+use Rattle.machine.specs.declared.states.Receive.the-variants.{Initialize}
+use Rattle.machine.specs.declared.states.Periodic.the-variants.{NoPeriodic}
+use Rattle.machine.specs.declared.states.Mux.the-variants.{Detached}
+use Rattle.machine.specs.declared.states.Selection.the-variants.{Unselected}
 use Rattle.port.specs.declared.settings.Settings.{Settings}
-use Rattle.port.specs.Record.{port, phase, ticks, withOwn, withActor, withNtt}
-use Rattle.port.specs.Bits.{state, alike}
-use Rattle.port.specs.Compare.{sameAddress, sameBlock}
+use Rattle.machine.specs.States.{phase, ticks, timers}
+use Rattle.machine.specs.Ages.{noSend, ages}
+use Rattle.port.specs.Record.{port, withOwn, withActor, withNtt}
+use Rattle.machine.specs.Bits.{state, alike}
+use Rattle.machine.specs.Compare.{sameAddress, sameBlock}
 use Rattle.port.specs.Receive.{unselected, moved}
-use Rattle.port.specs.Transmit.{noSend, ages}
 
 abbrev pub ownOf : Settings → Own
 ownOf s = record { address = s .address; key = s .key; priority = s .priority; default = s .default }
@@ -55,7 +56,7 @@ unfoldable pub blank : Settings → Port
 blank s =
     port (phase Initialize NoPeriodic Detached Unselected) 1 true (record { up = false; full = true })
     (ownBits s (state false false false false false false false false))
-    (record { current = ticks 0; periodic = ticks 0; wait = ticks 0 })
+    (timers (ticks 0) (ticks 0) (ticks 0))
     (ages noSend noSend noSend) (ownOf s) (s .default)
 
 -- start performs INITIALIZE and then PORT_DISABLED

@@ -4,78 +4,23 @@ ghost use mathlib.Core.Path.{_≡_};
 ghost use lib.ListN.{length};
 ghost use Rattle.frame.specs.Block.{blockOf, blockOctets};
 ghost use Rattle.frame.specs.Wire.{applying};
-ghost use Rattle.port.specs.Record.{withCurrent};
 ghost use Rattle.port.specs.Receive.{recordDefault, recordPdu, updateSelected, updateNtt, initialized, portDisabled, expired, lacpDisabled, defaulted, timeoutTime};
-ghost use Rattle.port.specs.Receive.{current, receiveNext, receiveEntered, receiveChoice, receiveStep, receiveRun, moved, received, sameLine, lined};
+ghost use Rattle.port.specs.Receive.{current, receiveEntered, receiveChoice, receiveStep, receiveRun, moved, received, lined};
 ghost use Rattle.port.specs.Receive.{heard as Receive·heard, current as Receive·current};
-use crate::compare::alike;
-use crate::compare::in_sync;
-use crate::compare::same_party;
-use crate::compare::same_view;
-use crate::record::Line;
 use crate::record::Port;
-use crate::record::Receive;
-use crate::record::Selection;
-use crate::record::Ticks;
 use frame::block::Block;
 use frame::block::SystemId;
 use frame::wire::Source;
+use machine::compare::in_sync;
+use machine::compare::same_party;
+use machine::compare::same_view;
+use machine::receive::ReceiveStep;
+use machine::states::Line;
+use machine::states::Receive;
+use machine::states::Selection;
 
 pub const SHORT_TIMEOUT_TIME: u16 = 30;
 pub const LONG_TIMEOUT_TIME: u16 = 900;
-
-pub enum ReceiveStep {
-    Stay,
-    Enter(Receive),
-}
-
-// Which transition applies without an LACPDU.
-fn next(state: Receive, up: bool, full: bool, out: bool) -> ReceiveStep
-    ensures { λ r. ⌜ r ≡ receiveNext state up full out ⌝ }
-{
-    match state {
-        Receive::Initialize => ReceiveStep::Enter(Receive::PortDisabled),
-        Receive::PortDisabled => {
-            if up {
-                if full {
-                    return ReceiveStep::Enter(Receive::Expired);
-                }
-                return ReceiveStep::Enter(Receive::LacpDisabled);
-            }
-            ReceiveStep::Stay
-        }
-        Receive::Expired => {
-            if up {
-                if out {
-                    return ReceiveStep::Enter(Receive::Defaulted);
-                }
-                return ReceiveStep::Stay;
-            }
-            ReceiveStep::Enter(Receive::PortDisabled)
-        }
-        Receive::LacpDisabled => {
-            if up {
-                return ReceiveStep::Stay;
-            }
-            ReceiveStep::Enter(Receive::PortDisabled)
-        }
-        Receive::Defaulted => {
-            if up {
-                return ReceiveStep::Stay;
-            }
-            ReceiveStep::Enter(Receive::PortDisabled)
-        }
-        Receive::Current => {
-            if up {
-                if out {
-                    return ReceiveStep::Enter(Receive::Expired);
-                }
-                return ReceiveStep::Stay;
-            }
-            ReceiveStep::Enter(Receive::PortDisabled)
-        }
-    }
-}
 
 // The block that gets recorded: the frame's or the default one, by the one step that is lent both.
 fn recorded_block(source: Source, pdu: &[u8], default: Block) -> Block
@@ -87,26 +32,7 @@ fn recorded_block(source: Source, pdu: &[u8], default: Block) -> Block
     Block::read(frame::wire::recorded(source, pdu, &octets))
 }
 
-impl Line {
-    fn same(self, other: Line) -> bool
-        ensures { λ r. ⌜ r ≡ sameLine self other ⌝ }
-    {
-        alike(self.up, other.up) & alike(self.full, other.full)
-    }
-}
-
 impl Port {
-    // Starts the current-while timer, or stops it with 0.
-    fn with_current(mut self, n: u16) -> Self
-        ensures { λ r. ⌜ r ≡ withCurrent self n ⌝ }
-    {
-        let t = Ticks(n);
-        let mut ts = self.timers;
-        ts.current = t;
-        self.timers = ts;
-        self
-    }
-
     // recordDefault: no frame is at hand, so 15 zeros are lent in its place.
     fn record_default(mut self) -> Self
         ensures { λ r. ⌜ r ≡ recordDefault self ⌝ }
@@ -236,7 +162,7 @@ impl Port {
         let h = self.phase;
         let state = h.receive;
         let out = self.timers.current.0 == 0;
-        next(state, self.line.up, self.line.full, out)
+        machine::receive::next(state, self.line.up, self.line.full, out)
     }
 
     fn receive_step(self) -> Self

@@ -1,74 +1,17 @@
 // What is kept for each port (document 01), in groups; a later field is a new group behind a setter.
 ghost use mathlib.Core.Path.{_≡_};
-ghost use Rattle.port.specs.Record.{withReceive, withPeriodic, withMux, withSelected, actorBlock};
+ghost use Rattle.port.specs.Record.{withReceive, withSelected, withCurrent, actorBlock};
 use frame::block::Address;
 use frame::block::Block;
 use frame::block::PortId;
 use frame::block::SystemId;
 use frame::state::PortState;
-
-// The states of 43.4.12. The constant beside a refusal is the first of each enum.
-pub enum Receive {
-    Initialize,
-    PortDisabled,
-    Expired,
-    LacpDisabled,
-    Defaulted,
-    Current,
-}
-
-// The states of 43.4.13.
-pub enum Periodic {
-    NoPeriodic,
-    FastPeriodic,
-    SlowPeriodic,
-    PeriodicTx,
-}
-
-// The states of 43.4.15, independent control.
-pub enum Mux {
-    Detached,
-    Waiting,
-    Attached,
-    Collecting,
-    Distributing,
-}
-
-// The variable Selected of 43.4.8.
-pub enum Selection {
-    Unselected,
-    Selected,
-}
-
-// Time in ticks of a tenth of a second; a CollectorMaxDelay is another type.
-pub struct Ticks(pub u16);
-
-pub struct Phase {
-    pub receive: Receive,
-    pub periodic: Periodic,
-    pub mux: Mux,
-    pub selected: Selection,
-}
-
-// Link up, and full duplex.
-pub struct Line {
-    pub up: bool,
-    pub full: bool,
-}
-
-// The three timers; one that its state does not use is stopped and holds 0.
-pub struct Timers {
-    pub current: Ticks,
-    pub periodic: Ticks,
-    pub wait: Ticks,
-}
-
-// How many ticks ago up to three LACPDUs were sent, NO_SEND where there is none.
-pub struct Ages {
-    pub first: u8,
-    pub second: u8,
-    pub third: u8,
-}
+use machine::states::Ages;
+use machine::states::Line;
+use machine::states::Phase;
+use machine::states::Receive;
+use machine::states::Selection;
+use machine::states::Timers;
 
 // The settings but for own Activity, Timeout and Aggregation, which are kept in the actor's state alone.
 pub struct Own {
@@ -95,34 +38,7 @@ impl Port {
         ensures { λ r. ⌜ r ≡ withReceive self receive ⌝ }
     {
         let h = self.phase;
-        let periodic = h.periodic;
-        let mux = h.mux;
-        let selected = h.selected;
-        let next = Phase { receive, periodic, mux, selected };
-        self.phase = next;
-        self
-    }
-
-    pub fn with_periodic(mut self, periodic: Periodic) -> Self
-        ensures { λ r. ⌜ r ≡ withPeriodic self periodic ⌝ }
-    {
-        let h = self.phase;
-        let receive = h.receive;
-        let mux = h.mux;
-        let selected = h.selected;
-        let next = Phase { receive, periodic, mux, selected };
-        self.phase = next;
-        self
-    }
-
-    pub fn with_mux(mut self, mux: Mux) -> Self
-        ensures { λ r. ⌜ r ≡ withMux self mux ⌝ }
-    {
-        let h = self.phase;
-        let receive = h.receive;
-        let periodic = h.periodic;
-        let selected = h.selected;
-        let next = Phase { receive, periodic, mux, selected };
+        let next = h.with_receive(receive);
         self.phase = next;
         self
     }
@@ -131,11 +47,18 @@ impl Port {
         ensures { λ r. ⌜ r ≡ withSelected self selected ⌝ }
     {
         let h = self.phase;
-        let receive = h.receive;
-        let periodic = h.periodic;
-        let mux = h.mux;
-        let next = Phase { receive, periodic, mux, selected };
+        let next = h.with_selected(selected);
         self.phase = next;
+        self
+    }
+
+    // The current-while timer started, or stopped with 0.
+    pub fn with_current(mut self, n: u16) -> Self
+        ensures { λ r. ⌜ r ≡ withCurrent self n ⌝ }
+    {
+        let t = self.timers;
+        let next = t.with_current(n);
+        self.timers = next;
         self
     }
 

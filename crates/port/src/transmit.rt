@@ -1,16 +1,7 @@
 // What a fetch needs of one port (43.4.16), the ages of its sends, and a tick of one port.
 ghost use mathlib.Core.Path.{_≡_};
-ghost use Rattle.port.specs.Time.{fallen as Time·fallen};
-ghost use Rattle.port.specs.Transmit.{aged as Transmit·aged, sentAges, barred, due, sent, silent, quieted, ticked, dueNumber};
-use crate::record::Ages;
+ghost use Rattle.port.specs.Transmit.{due, sent, silent, quieted, ticked, dueNumber};
 use crate::record::Port;
-use crate::record::Ticks;
-use crate::record::Timers;
-
-// The age at which a send is forgotten.
-pub const FORGOTTEN_AGE: u8 = 10;
-// What stands where there is no send.
-pub const NO_SEND: u8 = 255;
 
 // What a fetch finds; `dueNumber` gives document 01's number for each.
 pub enum Due {
@@ -29,46 +20,6 @@ impl Due {
             Due::Barred => 11,
             Due::Lacpdu => 0,
         }
-    }
-}
-
-// One tick older; forgotten where that would reach FORGOTTEN_AGE.
-fn aged(a: u8) -> u8
-    ensures { λ r. ⌜ r ≡ Transmit·aged a ⌝ }
-{
-    if FORGOTTEN_AGE - 1 <= a {
-        return NO_SEND;
-    }
-    a + 1
-}
-
-fn fallen(t: Ticks) -> Ticks
-    ensures { λ r. ⌜ r ≡ Time·fallen t ⌝ }
-{
-    if t.0 == 0 {
-        return Ticks(0);
-    }
-    Ticks(t.0 - 1)
-}
-
-impl Ages {
-    fn is_barred(self) -> bool
-        ensures { λ r. ⌜ r ≡ barred self ⌝ }
-    {
-        !(self.first == NO_SEND) & (!(self.second == NO_SEND) & !(self.third == NO_SEND))
-    }
-
-    // One send more: into the first free place, with those before it moved down by one.
-    fn with_send(self) -> Self
-        ensures { λ r. ⌜ r ≡ sentAges self ⌝ }
-    {
-        if self.first == NO_SEND {
-            return Ages { first: 0, second: self.second, third: self.third };
-        }
-        if self.second == NO_SEND {
-            return Ages { first: 0, second: self.first, third: self.third };
-        }
-        Ages { first: 0, second: self.first, third: self.second }
     }
 }
 
@@ -120,12 +71,9 @@ impl Port {
         ensures { λ r. ⌜ r ≡ ticked self ⌝ }
     {
         let t = self.timers;
-        let current = t.current;
-        let periodic = t.periodic;
-        let wait = t.wait;
-        let timers = Timers { current: fallen(current), periodic: fallen(periodic), wait: fallen(wait) };
+        let timers = t.tick();
         let g = self.ages;
-        let ages = Ages { first: aged(g.first), second: aged(g.second), third: aged(g.third) };
+        let ages = g.tick();
         self.timers = timers;
         self.ages = ages;
         self

@@ -10,11 +10,6 @@ use Rattle.frame.specs.Wire.{applying}
 use borrow.Author.Needs.{needs}
 use Rattle.port.proofs.receive.recorded_block.Statement.{statement}
 use Rattle.port.proofs.receive.recorded_block.Tie as tie
-use Rattle.port.proofs.receive.recorded_block.Reads as reads
-use Rattle.port.proofs.receive.recorded_block.Lts as lts
-use Rattle.frame.proofs.block.Block.read.Reads as read-reads
-use Rattle.frame.proofs.block.Block.write.Reads as write-reads
-use Rattle.frame.proofs.wire.recorded.Reads as recorded-reads
 
 -- what applies has 15 octets, if both have
 applying-length : (s : Source) (a b : List ℕ) → length a ≡ 15 → length b ≡ 15 → length (applying s a b) ≡ 15

@@ -3,10 +3,6 @@ use Rattle.port.specs.Mux.{attachedIf}
 use borrow.Author.Needs.{needs}
 use Rattle.port.proofs.record.Port.attach.Statement.{statement}
 use Rattle.port.proofs.record.Port.attach.Tie as tie
-use Rattle.port.proofs.record.Port.attach.Reads as reads
-use Rattle.port.proofs.record.Port.attach.Lts as lts
-use Rattle.port.proofs.record.Mux.waits.Reads as waits-reads
-use Rattle.port.proofs.record.Port.mux_step.Reads as mux-step-reads
 
 -- src/mux.rt:198:12
 waits-requires : tie.Need-waits-requires

@@ -2,11 +2,6 @@ use Rattle.port.specs.Settings.{changed}
 use borrow.Author.Needs.{needs}
 use Rattle.port.proofs.record.Port.change.Statement.{statement}
 use Rattle.port.proofs.record.Port.change.Tie as tie
-use Rattle.port.proofs.record.Port.change.Reads as reads
-use Rattle.port.proofs.record.Port.change.Lts as lts
-use Rattle.port.proofs.record.Port.regrouped.Reads as regrouped-reads
-use Rattle.port.proofs.settings.Settings.bits.Reads as bits-reads
-use Rattle.port.proofs.settings.Settings.own.Reads as own-reads
 
 -- src/settings.rt:135:13
 bits-requires : tie.Need-bits-requires

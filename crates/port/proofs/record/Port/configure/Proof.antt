@@ -3,10 +3,6 @@ use Rattle.port.specs.Settings.{configured}
 use borrow.Author.Needs.{needs}
 use Rattle.port.proofs.record.Port.configure.Statement.{statement}
 use Rattle.port.proofs.record.Port.configure.Tie as tie
-use Rattle.port.proofs.record.Port.configure.Reads as reads
-use Rattle.port.proofs.record.Port.configure.Lts as lts
-use Rattle.port.proofs.record.Port.change.Reads as change-reads
-use Rattle.port.proofs.record.Port.has_settings.Reads as has-settings-reads
 
 -- src/settings.rt:148:12
 has-settings-requires : tie.Need-has-settings-requires

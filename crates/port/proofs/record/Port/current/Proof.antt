@@ -2,15 +2,6 @@ use Rattle.port.specs.Receive.{current, heard}
 use borrow.Author.Needs.{needs}
 use Rattle.port.proofs.record.Port.current.Statement.{statement}
 use Rattle.port.proofs.record.Port.current.Tie as tie
-use Rattle.port.proofs.record.Port.current.Reads as reads
-use Rattle.port.proofs.record.Port.current.Lts as lts
-use Rattle.frame.proofs.block.Block.read.Reads as read-reads
-use Rattle.port.proofs.record.Port.record_pdu.Reads as record-pdu-reads
-use Rattle.port.proofs.record.Port.timeout_time.Reads as timeout-time-reads
-use Rattle.port.proofs.record.Port.update_ntt.Reads as update-ntt-reads
-use Rattle.port.proofs.record.Port.update_selected.Reads as update-selected-reads
-use Rattle.port.proofs.record.Port.with_current.Reads as with-current-reads
-use Rattle.port.proofs.record.Port.with_receive.Reads as with-receive-reads
 
 -- src/receive.rt:206:13
 read-requires : tie.Need-read-requires

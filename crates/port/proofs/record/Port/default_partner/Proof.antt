@@ -2,12 +2,6 @@ use Rattle.port.specs.Receive.{defaulted, updateDefaultSelected}
 use borrow.Author.Needs.{needs}
 use Rattle.port.proofs.record.Port.default_partner.Statement.{statement}
 use Rattle.port.proofs.record.Port.default_partner.Tie as tie
-use Rattle.port.proofs.record.Port.default_partner.Reads as reads
-use Rattle.port.proofs.record.Port.default_partner.Lts as lts
-use Rattle.port.proofs.record.Port.record_default.Reads as record-default-reads
-use Rattle.port.proofs.record.Port.update_selected.Reads as update-selected-reads
-use Rattle.port.proofs.record.Port.with_current.Reads as with-current-reads
-use Rattle.port.proofs.record.Port.with_receive.Reads as with-receive-reads
 
 -- src/receive.rt:189:21
 update-selected-requires : tie.Need-update-selected-requires

@@ -2,10 +2,6 @@ use Rattle.port.specs.Mux.{detached}
 use borrow.Author.Needs.{needs}
 use Rattle.port.proofs.record.Port.detach.Statement.{statement}
 use Rattle.port.proofs.record.Port.detach.Tie as tie
-use Rattle.port.proofs.record.Port.detach.Reads as reads
-use Rattle.port.proofs.record.Port.detach.Lts as lts
-use Rattle.port.proofs.record.Port.mux_step.Reads as mux-step-reads
-use Rattle.port.proofs.record.Port.with_selected.Reads as with-selected-reads
 
 -- src/mux.rt:181:9
 with-selected-requires : tie.Need-with-selected-requires

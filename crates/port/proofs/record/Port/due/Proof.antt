@@ -3,9 +3,6 @@ use Rattle.port.specs.Transmit.{due}
 use borrow.Author.Needs.{needs}
 use Rattle.port.proofs.record.Port.due.Statement.{statement}
 use Rattle.port.proofs.record.Port.due.Tie as tie
-use Rattle.port.proofs.record.Port.due.Reads as reads
-use Rattle.port.proofs.record.Port.due.Lts as lts
-use Rattle.port.proofs.record.Ages.is_barred.Reads as is-barred-reads
 
 -- src/transmit.rt:81:13
 returns : tie.Need-returns

@@ -1,13 +1,6 @@
 use borrow.Author.Needs.{needs}
 use Rattle.port.proofs.record.Port.enter_receive.Statement.{statement}
 use Rattle.port.proofs.record.Port.enter_receive.Tie as tie
-use Rattle.port.proofs.record.Port.enter_receive.Reads as reads
-use Rattle.port.proofs.record.Port.enter_receive.Lts as lts
-use Rattle.port.proofs.record.Port.default_partner.Reads as default-partner-reads
-use Rattle.port.proofs.record.Port.expire.Reads as expire-reads
-use Rattle.port.proofs.record.Port.initialize.Reads as initialize-reads
-use Rattle.port.proofs.record.Port.lacp_disabled.Reads as lacp-disabled-reads
-use Rattle.port.proofs.record.Port.port_disabled.Reads as port-disabled-reads
 
 -- src/receive.rt:216:36
 enum-told : tie.Need-enum-told

@@ -2,10 +2,6 @@ use Rattle.port.specs.Receive.{expired}
 use borrow.Author.Needs.{needs}
 use Rattle.port.proofs.record.Port.expire.Statement.{statement}
 use Rattle.port.proofs.record.Port.expire.Tie as tie
-use Rattle.port.proofs.record.Port.expire.Reads as reads
-use Rattle.port.proofs.record.Port.expire.Lts as lts
-use Rattle.port.proofs.record.Port.with_current.Reads as with-current-reads
-use Rattle.port.proofs.record.Port.with_receive.Reads as with-receive-reads
 
 -- src/receive.rt:172:9
 with-current-requires : tie.Need-with-current-requires

@@ -2,9 +2,6 @@ use Rattle.port.specs.Settings.{sameGrouping}
 use borrow.Author.Needs.{needs}
 use Rattle.port.proofs.record.Port.has_grouping.Statement.{statement}
 use Rattle.port.proofs.record.Port.has_grouping.Tie as tie
-use Rattle.port.proofs.record.Port.has_grouping.Reads as reads
-use Rattle.port.proofs.record.Port.has_grouping.Lts as lts
-use Rattle.port.proofs.compare.alike.Reads as alike-reads
 
 -- src/settings.rt:105:72
 alike-requires : tie.Need-alike-requires

@@ -2,12 +2,6 @@ use Rattle.port.specs.Settings.{sameSettings}
 use borrow.Author.Needs.{needs}
 use Rattle.port.proofs.record.Port.has_settings.Statement.{statement}
 use Rattle.port.proofs.record.Port.has_settings.Tie as tie
-use Rattle.port.proofs.record.Port.has_settings.Reads as reads
-use Rattle.port.proofs.record.Port.has_settings.Lts as lts
-use Rattle.port.proofs.compare.alike.Reads as alike-reads
-use Rattle.port.proofs.compare.same_address.Reads as same-address-reads
-use Rattle.port.proofs.compare.same_block.Reads as same-block-reads
-use Rattle.port.proofs.record.Port.has_grouping.Reads as has-grouping-reads
 
 -- src/settings.rt:115:9
 has-grouping-requires : tie.Need-has-grouping-requires

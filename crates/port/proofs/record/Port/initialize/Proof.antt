@@ -2,12 +2,6 @@ use Rattle.port.specs.Receive.{initialized}
 use borrow.Author.Needs.{needs}
 use Rattle.port.proofs.record.Port.initialize.Statement.{statement}
 use Rattle.port.proofs.record.Port.initialize.Tie as tie
-use Rattle.port.proofs.record.Port.initialize.Reads as reads
-use Rattle.port.proofs.record.Port.initialize.Lts as lts
-use Rattle.port.proofs.record.Port.record_default.Reads as record-default-reads
-use Rattle.port.proofs.record.Port.with_current.Reads as with-current-reads
-use Rattle.port.proofs.record.Port.with_receive.Reads as with-receive-reads
-use Rattle.port.proofs.record.Port.with_selected.Reads as with-selected-reads
 
 -- src/receive.rt:153:21
 with-selected-requires : tie.Need-with-selected-requires

@@ -2,9 +2,6 @@ use Rattle.port.specs.Transmit.{silent}
 use borrow.Author.Needs.{needs}
 use Rattle.port.proofs.record.Port.is_silent.Statement.{statement}
 use Rattle.port.proofs.record.Port.is_silent.Tie as tie
-use Rattle.port.proofs.record.Port.is_silent.Reads as reads
-use Rattle.port.proofs.record.Port.is_silent.Lts as lts
-use Rattle.port.proofs.record.Port.both_passive.Reads as both-passive-reads
 
 -- src/transmit.rt:104:43
 both-passive-requires : tie.Need-both-passive-requires

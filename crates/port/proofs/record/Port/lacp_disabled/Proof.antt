@@ -2,12 +2,6 @@ use Rattle.port.specs.Receive.{lacpDisabled}
 use borrow.Author.Needs.{needs}
 use Rattle.port.proofs.record.Port.lacp_disabled.Statement.{statement}
 use Rattle.port.proofs.record.Port.lacp_disabled.Tie as tie
-use Rattle.port.proofs.record.Port.lacp_disabled.Reads as reads
-use Rattle.port.proofs.record.Port.lacp_disabled.Lts as lts
-use Rattle.port.proofs.record.Port.record_default.Reads as record-default-reads
-use Rattle.port.proofs.record.Port.with_current.Reads as with-current-reads
-use Rattle.port.proofs.record.Port.with_receive.Reads as with-receive-reads
-use Rattle.port.proofs.record.Port.with_selected.Reads as with-selected-reads
 
 -- src/receive.rt:178:21
 with-selected-requires : tie.Need-with-selected-requires

@@ -2,10 +2,6 @@ use Rattle.port.specs.Receive.{moved}
 use borrow.Author.Needs.{needs}
 use Rattle.port.proofs.record.Port.moved_away.Statement.{statement}
 use Rattle.port.proofs.record.Port.moved_away.Tie as tie
-use Rattle.port.proofs.record.Port.moved_away.Reads as reads
-use Rattle.port.proofs.record.Port.moved_away.Lts as lts
-use Rattle.port.proofs.record.Port.initialize.Reads as initialize-reads
-use Rattle.port.proofs.record.Port.port_disabled.Reads as port-disabled-reads
 
 -- src/receive.rt:254:9
 initialize-requires : tie.Need-initialize-requires

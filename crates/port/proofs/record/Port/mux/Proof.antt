@@ -2,9 +2,6 @@ use Rattle.port.specs.Mux.{muxRun}
 use borrow.Author.Needs.{needs}
 use Rattle.port.proofs.record.Port.mux.Statement.{statement}
 use Rattle.port.proofs.record.Port.mux.Tie as tie
-use Rattle.port.proofs.record.Port.mux.Reads as reads
-use Rattle.port.proofs.record.Port.mux.Lts as lts
-use Rattle.port.proofs.record.Port.mux_step.Reads as mux-step-reads
 
 -- src/mux.rt:205:9
 mux-step-requires : tie.Need-mux-step-requires

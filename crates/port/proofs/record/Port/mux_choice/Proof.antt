@@ -2,9 +2,6 @@ use Rattle.port.specs.Mux.{muxChoice}
 use borrow.Author.Needs.{needs}
 use Rattle.port.proofs.record.Port.mux_choice.Statement.{statement}
 use Rattle.port.proofs.record.Port.mux_choice.Tie as tie
-use Rattle.port.proofs.record.Port.mux_choice.Reads as reads
-use Rattle.port.proofs.record.Port.mux_choice.Lts as lts
-use Rattle.port.proofs.mux.next.Reads as next-reads
 
 -- src/mux.rt:165:9
 next-requires : tie.Need-next-requires

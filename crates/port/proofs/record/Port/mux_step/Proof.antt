@@ -3,10 +3,6 @@ use Rattle.port.specs.Mux.{muxStep}
 use borrow.Author.Needs.{needs}
 use Rattle.port.proofs.record.Port.mux_step.Statement.{statement}
 use Rattle.port.proofs.record.Port.mux_step.Tie as tie
-use Rattle.port.proofs.record.Port.mux_step.Reads as reads
-use Rattle.port.proofs.record.Port.mux_step.Lts as lts
-use Rattle.port.proofs.record.Port.enter_mux.Reads as enter-mux-reads
-use Rattle.port.proofs.record.Port.mux_choice.Reads as mux-choice-reads
 
 -- src/mux.rt:171:15
 mux-choice-requires : tie.Need-mux-choice-requires

@@ -2,9 +2,6 @@ use Rattle.port.specs.Periodic.{periodicRun}
 use borrow.Author.Needs.{needs}
 use Rattle.port.proofs.record.Port.periodic.Statement.{statement}
 use Rattle.port.proofs.record.Port.periodic.Tie as tie
-use Rattle.port.proofs.record.Port.periodic.Reads as reads
-use Rattle.port.proofs.record.Port.periodic.Lts as lts
-use Rattle.port.proofs.record.Port.periodic_step.Reads as periodic-step-reads
 
 -- src/periodic.rt:109:9
 periodic-step-requires : tie.Need-periodic-step-requires

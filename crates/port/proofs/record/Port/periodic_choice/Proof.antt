@@ -2,10 +2,6 @@ use Rattle.port.specs.Periodic.{periodicChoice}
 use borrow.Author.Needs.{needs}
 use Rattle.port.proofs.record.Port.periodic_choice.Statement.{statement}
 use Rattle.port.proofs.record.Port.periodic_choice.Tie as tie
-use Rattle.port.proofs.record.Port.periodic_choice.Reads as reads
-use Rattle.port.proofs.record.Port.periodic_choice.Lts as lts
-use Rattle.port.proofs.periodic.next.Reads as next-reads
-use Rattle.port.proofs.record.Port.is_quiet.Reads as is-quiet-reads
 
 -- src/periodic.rt:99:21
 is-quiet-requires : tie.Need-is-quiet-requires

@@ -3,10 +3,6 @@ use Rattle.port.specs.Periodic.{periodicStep}
 use borrow.Author.Needs.{needs}
 use Rattle.port.proofs.record.Port.periodic_step.Statement.{statement}
 use Rattle.port.proofs.record.Port.periodic_step.Tie as tie
-use Rattle.port.proofs.record.Port.periodic_step.Reads as reads
-use Rattle.port.proofs.record.Port.periodic_step.Lts as lts
-use Rattle.port.proofs.record.Port.enter_periodic.Reads as enter-periodic-reads
-use Rattle.port.proofs.record.Port.periodic_choice.Reads as periodic-choice-reads
 
 -- src/periodic.rt:105:15
 periodic-choice-requires : tie.Need-periodic-choice-requires

@@ -2,10 +2,6 @@ use Rattle.port.specs.Mux.{placed}
 use borrow.Author.Needs.{needs}
 use Rattle.port.proofs.record.Port.place.Statement.{statement}
 use Rattle.port.proofs.record.Port.place.Tie as tie
-use Rattle.port.proofs.record.Port.place.Reads as reads
-use Rattle.port.proofs.record.Port.place.Lts as lts
-use Rattle.port.proofs.record.Port.mux_step.Reads as mux-step-reads
-use Rattle.port.proofs.record.Port.with_selected.Reads as with-selected-reads
 
 -- src/mux.rt:189:9
 with-selected-requires : tie.Need-with-selected-requires

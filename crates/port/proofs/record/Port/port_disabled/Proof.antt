@@ -2,10 +2,6 @@ use Rattle.port.specs.Receive.{portDisabled}
 use borrow.Author.Needs.{needs}
 use Rattle.port.proofs.record.Port.port_disabled.Statement.{statement}
 use Rattle.port.proofs.record.Port.port_disabled.Tie as tie
-use Rattle.port.proofs.record.Port.port_disabled.Reads as reads
-use Rattle.port.proofs.record.Port.port_disabled.Lts as lts
-use Rattle.port.proofs.record.Port.with_current.Reads as with-current-reads
-use Rattle.port.proofs.record.Port.with_receive.Reads as with-receive-reads
 
 -- src/receive.rt:162:9
 with-current-requires : tie.Need-with-current-requires

@@ -3,9 +3,6 @@ use Rattle.port.specs.Transmit.{quieted}
 use borrow.Author.Needs.{needs}
 use Rattle.port.proofs.record.Port.quiet.Statement.{statement}
 use Rattle.port.proofs.record.Port.quiet.Tie as tie
-use Rattle.port.proofs.record.Port.quiet.Reads as reads
-use Rattle.port.proofs.record.Port.quiet.Lts as lts
-use Rattle.port.proofs.record.Port.is_silent.Reads as is-silent-reads
 
 -- src/transmit.rt:111:12
 is-silent-requires : tie.Need-is-silent-requires

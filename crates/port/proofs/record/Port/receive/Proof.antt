@@ -2,9 +2,6 @@ use Rattle.port.specs.Receive.{receiveRun}
 use borrow.Author.Needs.{needs}
 use Rattle.port.proofs.record.Port.receive.Statement.{statement}
 use Rattle.port.proofs.record.Port.receive.Tie as tie
-use Rattle.port.proofs.record.Port.receive.Reads as reads
-use Rattle.port.proofs.record.Port.receive.Lts as lts
-use Rattle.port.proofs.record.Port.receive_step.Reads as receive-step-reads
 
 -- src/receive.rt:247:9
 receive-step-requires : tie.Need-receive-step-requires

@@ -2,9 +2,6 @@ use Rattle.port.specs.Receive.{receiveChoice}
 use borrow.Author.Needs.{needs}
 use Rattle.port.proofs.record.Port.receive_choice.Statement.{statement}
 use Rattle.port.proofs.record.Port.receive_choice.Tie as tie
-use Rattle.port.proofs.record.Port.receive_choice.Reads as reads
-use Rattle.port.proofs.record.Port.receive_choice.Lts as lts
-use Rattle.port.proofs.receive.next.Reads as next-reads
 
 -- src/receive.rt:231:9
 next-requires : tie.Need-next-requires

@@ -2,11 +2,6 @@ use Rattle.port.specs.Receive.{received}
 use borrow.Author.Needs.{needs}
 use Rattle.port.proofs.record.Port.receive_lacpdu.Statement.{statement}
 use Rattle.port.proofs.record.Port.receive_lacpdu.Tie as tie
-use Rattle.port.proofs.record.Port.receive_lacpdu.Reads as reads
-use Rattle.port.proofs.record.Port.receive_lacpdu.Lts as lts
-use Rattle.frame.proofs.block.Block.read.Reads as read-reads
-use Rattle.port.proofs.record.Port.actor_block.Reads as actor-block-reads
-use Rattle.port.proofs.record.Port.current.Reads as current-reads
 
 -- src/receive.rt:262:13
 actor-block-requires : tie.Need-actor-block-requires

@@ -3,10 +3,6 @@ use Rattle.port.specs.Receive.{receiveStep}
 use borrow.Author.Needs.{needs}
 use Rattle.port.proofs.record.Port.receive_step.Statement.{statement}
 use Rattle.port.proofs.record.Port.receive_step.Tie as tie
-use Rattle.port.proofs.record.Port.receive_step.Reads as reads
-use Rattle.port.proofs.record.Port.receive_step.Lts as lts
-use Rattle.port.proofs.record.Port.enter_receive.Reads as enter-receive-reads
-use Rattle.port.proofs.record.Port.receive_choice.Reads as receive-choice-reads
 
 -- src/receive.rt:237:15
 receive-choice-requires : tie.Need-receive-choice-requires

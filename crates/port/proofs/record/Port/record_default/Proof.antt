@@ -4,9 +4,6 @@ use Rattle.port.specs.Receive.{recordDefault}
 use borrow.Author.Needs.{needs}
 use Rattle.port.proofs.record.Port.record_default.Statement.{statement}
 use Rattle.port.proofs.record.Port.record_default.Tie as tie
-use Rattle.port.proofs.record.Port.record_default.Reads as reads
-use Rattle.port.proofs.record.Port.record_default.Lts as lts
-use Rattle.port.proofs.receive.recorded_block.Reads as recorded-block-reads
 
 -- src/receive.rt:108:53
 slice-aggregate-recorded-block : tie.Need-slice-aggregate-recorded-block

@@ -2,10 +2,6 @@ use Rattle.port.specs.Receive.{recordPdu}
 use borrow.Author.Needs.{needs}
 use Rattle.port.proofs.record.Port.record_pdu.Statement.{statement}
 use Rattle.port.proofs.record.Port.record_pdu.Tie as tie
-use Rattle.port.proofs.record.Port.record_pdu.Reads as reads
-use Rattle.port.proofs.record.Port.record_pdu.Lts as lts
-use Rattle.port.proofs.compare.in_sync.Reads as in-sync-reads
-use Rattle.port.proofs.receive.recorded_block.Reads as recorded-block-reads
 
 -- src/receive.rt:120:13
 recorded-block-requires : tie.Need-recorded-block-requires

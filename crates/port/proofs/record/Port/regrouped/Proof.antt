@@ -3,10 +3,6 @@ use Rattle.port.specs.Settings.{regrouped}
 use borrow.Author.Needs.{needs}
 use Rattle.port.proofs.record.Port.regrouped.Statement.{statement}
 use Rattle.port.proofs.record.Port.regrouped.Tie as tie
-use Rattle.port.proofs.record.Port.regrouped.Reads as reads
-use Rattle.port.proofs.record.Port.regrouped.Lts as lts
-use Rattle.port.proofs.record.Port.has_grouping.Reads as has-grouping-reads
-use Rattle.port.proofs.record.Port.with_selected.Reads as with-selected-reads
 
 -- src/settings.rt:125:12
 has-grouping-requires : tie.Need-has-grouping-requires

@@ -2,9 +2,6 @@ use Rattle.port.specs.Transmit.{sent}
 use borrow.Author.Needs.{needs}
 use Rattle.port.proofs.record.Port.sent.Statement.{statement}
 use Rattle.port.proofs.record.Port.sent.Tie as tie
-use Rattle.port.proofs.record.Port.sent.Reads as reads
-use Rattle.port.proofs.record.Port.sent.Lts as lts
-use Rattle.port.proofs.record.Ages.with_send.Reads as with-send-reads
 
 -- src/transmit.rt:95:13
 with-send-requires : tie.Need-with-send-requires

@@ -3,9 +3,6 @@ use Rattle.port.specs.Receive.{updateNtt}
 use borrow.Author.Needs.{needs}
 use Rattle.port.proofs.record.Port.update_ntt.Statement.{statement}
 use Rattle.port.proofs.record.Port.update_ntt.Tie as tie
-use Rattle.port.proofs.record.Port.update_ntt.Reads as reads
-use Rattle.port.proofs.record.Port.update_ntt.Lts as lts
-use Rattle.port.proofs.compare.same_view.Reads as same-view-reads
 
 -- src/receive.rt:143:12
 same-view-requires : tie.Need-same-view-requires

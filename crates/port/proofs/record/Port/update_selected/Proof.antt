@@ -3,10 +3,6 @@ use Rattle.port.specs.Receive.{updateSelected}
 use borrow.Author.Needs.{needs}
 use Rattle.port.proofs.record.Port.update_selected.Statement.{statement}
 use Rattle.port.proofs.record.Port.update_selected.Tie as tie
-use Rattle.port.proofs.record.Port.update_selected.Reads as reads
-use Rattle.port.proofs.record.Port.update_selected.Lts as lts
-use Rattle.port.proofs.compare.same_party.Reads as same-party-reads
-use Rattle.port.proofs.record.Port.with_selected.Reads as with-selected-reads
 
 -- src/receive.rt:133:12
 same-party-requires : tie.Need-same-party-requires

@@ -2,10 +2,6 @@ use Rattle.port.specs.Settings.{blank}
 use borrow.Author.Needs.{needs}
 use Rattle.port.proofs.settings.Settings.blank_port.Statement.{statement}
 use Rattle.port.proofs.settings.Settings.blank_port.Tie as tie
-use Rattle.port.proofs.settings.Settings.blank_port.Reads as reads
-use Rattle.port.proofs.settings.Settings.blank_port.Lts as lts
-use Rattle.port.proofs.settings.Settings.bits.Reads as bits-reads
-use Rattle.port.proofs.settings.Settings.own.Reads as own-reads
 
 -- src/settings.rt:85:20
 bits-requires : tie.Need-bits-requires

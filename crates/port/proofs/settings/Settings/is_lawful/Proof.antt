@@ -2,9 +2,6 @@ use Rattle.port.specs.Settings.{lawful}
 use borrow.Author.Needs.{needs}
 use Rattle.port.proofs.settings.Settings.is_lawful.Statement.{statement}
 use Rattle.port.proofs.settings.Settings.is_lawful.Tie as tie
-use Rattle.port.proofs.settings.Settings.is_lawful.Reads as reads
-use Rattle.port.proofs.settings.Settings.is_lawful.Lts as lts
-use Rattle.port.proofs.compare.alike.Reads as alike-reads
 
 -- src/settings.rt:46:9
 alike-requires : tie.Need-alike-requires

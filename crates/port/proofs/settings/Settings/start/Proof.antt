@@ -2,10 +2,6 @@ use Rattle.port.specs.Settings.{started}
 use borrow.Author.Needs.{needs}
 use Rattle.port.proofs.settings.Settings.start.Statement.{statement}
 use Rattle.port.proofs.settings.Settings.start.Tie as tie
-use Rattle.port.proofs.settings.Settings.start.Reads as reads
-use Rattle.port.proofs.settings.Settings.start.Lts as lts
-use Rattle.port.proofs.record.Port.moved_away.Reads as moved-away-reads
-use Rattle.port.proofs.settings.Settings.blank_port.Reads as blank-port-reads
 
 -- src/settings.rt:97:9
 blank-port-requires : tie.Need-blank-port-requires

@@ -1,0 +1,25 @@
+use borrow.Author.Needs.{needs}
+use Rattle.machine.proofs.states.Timers.tick.Statement.{statement}
+use Rattle.machine.proofs.states.Timers.tick.Tie as tie
+use Rattle.machine.proofs.states.Timers.tick.Reads as reads
+use Rattle.machine.proofs.states.Timers.tick.Lts as lts
+use Rattle.machine.proofs.ages.fallen.Reads as fallen-reads
+
+-- src/ages.rt:70:27
+fallen-requires : tie.Need-fallen-requires
+fallen-requires c κs = search needs
+
+-- src/ages.rt:70:54
+fallen-requires-2 : tie.Need-fallen-requires-2
+fallen-requires-2 c κs = search needs
+
+-- src/ages.rt:70:78
+fallen-requires-3 : tie.Need-fallen-requires-3
+fallen-requires-3 c κs = search needs
+
+-- src/ages.rt:64:5
+returns : tie.Need-returns
+returns c = simp (c .fallen3 .ensures, c .before .fallen2 .ensures, c .before .before .fallen .ensures)
+
+pub tick-spec : {M : Type 1} → statement M
+tick-spec = tie.close (tie.spec fallen-requires fallen-requires-2 fallen-requires-3 returns)

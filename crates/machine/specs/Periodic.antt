@@ -1,0 +1,34 @@
+-- The transitions of the Periodic Transmission machine (43.4.13, figure 43-11).
+use Prim.Native.Nat.{ℕ}
+use mathlib.Core.Bool.{Bool, true, false}
+use Rattle.machine.specs.declared.states.Periodic.{Periodic}
+use Rattle.machine.specs.declared.states.Periodic.the-variants.{NoPeriodic, FastPeriodic, SlowPeriodic, PeriodicTx}
+use Rattle.machine.specs.declared.periodic.PeriodicStep.{PeriodicStep}
+use Rattle.machine.specs.declared.periodic.PeriodicStep.the-variants.{Stay, Enter}
+use Rattle.machine.specs.Time.{fastPeriodicTime, slowPeriodicTime}
+
+-- by whether the machine is to be quiet, the timer has run out and the partner's Timeout is short: the open-ended transition first, then a timer that ran out, then the partner's Timeout (short or not)
+abbrev pub periodicNext : Periodic → Bool → Bool → Bool → PeriodicStep
+periodicNext s true out short = Enter NoPeriodic
+periodicNext NoPeriodic false out short = Enter FastPeriodic
+periodicNext FastPeriodic false true short = Enter PeriodicTx
+periodicNext FastPeriodic false false true = Stay
+periodicNext FastPeriodic false false false = Enter SlowPeriodic
+periodicNext SlowPeriodic false true short = Enter PeriodicTx
+periodicNext SlowPeriodic false false true = Enter PeriodicTx
+periodicNext SlowPeriodic false false false = Stay
+periodicNext PeriodicTx false out true = Enter FastPeriodic
+periodicNext PeriodicTx false out false = Enter SlowPeriodic
+
+-- the actions on entry: the timer that the state starts (0 stops it), and NTT in PERIODIC_TX
+abbrev pub periodicTime : Periodic → ℕ
+periodicTime NoPeriodic = 0
+periodicTime FastPeriodic = fastPeriodicTime
+periodicTime SlowPeriodic = slowPeriodicTime
+periodicTime PeriodicTx = 0
+
+abbrev pub isTx : Periodic → Bool
+isTx NoPeriodic = false
+isTx FastPeriodic = false
+isTx SlowPeriodic = false
+isTx PeriodicTx = true

@@ -1,0 +1,45 @@
+-- States and timers with one of them changed.
+use Prim.Native.Nat.{ℕ}
+use mathlib.Core.Bool.{Bool, _&&_}
+use Rattle.machine.specs.declared.states.Receive.{Receive}
+use Rattle.machine.specs.declared.states.Periodic.{Periodic}
+use Rattle.machine.specs.declared.states.Mux.{Mux}
+use Rattle.machine.specs.declared.states.Selection.{Selection}
+use Rattle.machine.specs.declared.states.Phase.{Phase}
+use Rattle.machine.specs.declared.states.Line.{Line}
+use Rattle.machine.specs.declared.states.Ticks.{Ticks}
+use Rattle.machine.specs.declared.states.Timers.{Timers}
+use Rattle.machine.specs.Bits.{alike}
+
+abbrev pub phase : Receive → Periodic → Mux → Selection → Phase
+phase r q m s = record { receive = r; periodic = q; mux = m; selected = s }
+
+abbrev pub receiving : Receive → Phase → Phase
+receiving r h = phase r (h .periodic) (h .mux) (h .selected)
+
+abbrev pub pacing : Periodic → Phase → Phase
+pacing q h = phase (h .receive) q (h .mux) (h .selected)
+
+abbrev pub muxing : Mux → Phase → Phase
+muxing m h = phase (h .receive) (h .periodic) m (h .selected)
+
+abbrev pub selecting : Selection → Phase → Phase
+selecting s h = phase (h .receive) (h .periodic) (h .mux) s
+
+abbrev pub ticks : ℕ → Ticks
+ticks n = record { 0 = n }
+
+abbrev pub timers : Ticks → Ticks → Ticks → Timers
+timers c q w = record { current = c; periodic = q; wait = w }
+
+abbrev pub currently : ℕ → Timers → Timers
+currently n t = timers (ticks n) (t .periodic) (t .wait)
+
+abbrev pub paced : ℕ → Timers → Timers
+paced n t = timers (t .current) (ticks n) (t .wait)
+
+abbrev pub waiting : ℕ → Timers → Timers
+waiting n t = timers (t .current) (t .periodic) (ticks n)
+
+abbrev pub sameLine : Line → Line → Bool
+sameLine x y = alike (x .up) (y .up) && alike (x .full) (y .full)

@@ -1,0 +1,34 @@
+-- Times in ticks of a tenth of a second (43.4.4, document 01), and when a timer has run out.
+use Prim.Native.Nat.{ℕ, _-_}
+use mathlib.Core.Bool.{Bool}
+use lib.Dec.{eqb}
+use Rattle.machine.specs.declared.states.Ticks.{Ticks}
+use Rattle.machine.specs.declared.states.Timers.{Timers}
+use Rattle.machine.specs.States.{ticks, timers}
+
+-- Fast_Periodic_Time, Slow_Periodic_Time, Short_Timeout_Time, Long_Timeout_Time, Aggregate_Wait_Time
+abbrev pub fastPeriodicTime : ℕ
+fastPeriodicTime = 10
+
+abbrev pub slowPeriodicTime : ℕ
+slowPeriodicTime = 300
+
+abbrev pub shortTimeoutTime : ℕ
+shortTimeoutTime = 30
+
+abbrev pub longTimeoutTime : ℕ
+longTimeoutTime = 900
+
+abbrev pub aggregateWaitTime : ℕ
+aggregateWaitTime = 20
+
+-- a timer that holds 0 in a state that uses it has run out
+abbrev pub ranOut : Ticks → Bool
+ranOut t = eqb (t .0) 0
+
+-- a running timer falls by one; a stopped one stays at 0
+abbrev pub fallen : Ticks → Ticks
+fallen t = ticks (t .0 - 1)
+
+abbrev pub timersFallen : Timers → Timers
+timersFallen t = timers (fallen (t .current)) (fallen (t .periodic)) (fallen (t .wait))

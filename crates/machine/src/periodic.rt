@@ -1,0 +1,72 @@
+// The transitions of the Periodic Transmission machine (figure 43-11).
+ghost use mathlib.Core.Path.{_≡_};
+ghost use Rattle.machine.specs.Periodic.{periodicNext, periodicTime, isTx};
+use crate::states::Periodic;
+
+pub const FAST_PERIODIC_TIME: u16 = 10;
+pub const SLOW_PERIODIC_TIME: u16 = 300;
+
+pub enum PeriodicStep {
+    Stay,
+    Enter(Periodic),
+}
+
+// Which transition applies: NO_PERIODIC from anywhere, then a timer that ran out, then the partner's Timeout.
+pub fn next(state: Periodic, quiet: bool, out: bool, short: bool) -> PeriodicStep
+    ensures { λ r. ⌜ r ≡ periodicNext state quiet out short ⌝ }
+{
+    if quiet {
+        return PeriodicStep::Enter(Periodic::NoPeriodic);
+    }
+    match state {
+        Periodic::NoPeriodic => PeriodicStep::Enter(Periodic::FastPeriodic),
+        Periodic::FastPeriodic => {
+            if out {
+                return PeriodicStep::Enter(Periodic::PeriodicTx);
+            }
+            if short {
+                return PeriodicStep::Stay;
+            }
+            PeriodicStep::Enter(Periodic::SlowPeriodic)
+        }
+        Periodic::SlowPeriodic => {
+            if out {
+                return PeriodicStep::Enter(Periodic::PeriodicTx);
+            }
+            if short {
+                return PeriodicStep::Enter(Periodic::PeriodicTx);
+            }
+            PeriodicStep::Stay
+        }
+        Periodic::PeriodicTx => {
+            if short {
+                return PeriodicStep::Enter(Periodic::FastPeriodic);
+            }
+            PeriodicStep::Enter(Periodic::SlowPeriodic)
+        }
+    }
+}
+
+// What the periodic timer is started with; 0 stops it.
+pub fn time(state: Periodic) -> u16
+    ensures { λ r. ⌜ r ≡ periodicTime state ⌝ }
+{
+    match state {
+        Periodic::NoPeriodic => 0,
+        Periodic::FastPeriodic => FAST_PERIODIC_TIME,
+        Periodic::SlowPeriodic => SLOW_PERIODIC_TIME,
+        Periodic::PeriodicTx => 0,
+    }
+}
+
+// PERIODIC_TX sets NTT.
+pub fn sets_ntt(state: Periodic) -> bool
+    ensures { λ r. ⌜ r ≡ isTx state ⌝ }
+{
+    match state {
+        Periodic::NoPeriodic => false,
+        Periodic::FastPeriodic => false,
+        Periodic::SlowPeriodic => false,
+        Periodic::PeriodicTx => true,
+    }
+}

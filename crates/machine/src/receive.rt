@@ -1,0 +1,57 @@
+// The transitions of the Receive machine (figure 43-10) but for those with an LACPDU.
+ghost use mathlib.Core.Path.{_≡_};
+ghost use Rattle.machine.specs.Receive.{receiveNext};
+use crate::states::Receive;
+
+pub enum ReceiveStep {
+    Stay,
+    Enter(Receive),
+}
+
+// Which transition applies without an LACPDU.
+pub fn next(state: Receive, up: bool, full: bool, out: bool) -> ReceiveStep
+    ensures { λ r. ⌜ r ≡ receiveNext state up full out ⌝ }
+{
+    match state {
+        Receive::Initialize => ReceiveStep::Enter(Receive::PortDisabled),
+        Receive::PortDisabled => {
+            if up {
+                if full {
+                    return ReceiveStep::Enter(Receive::Expired);
+                }
+                return ReceiveStep::Enter(Receive::LacpDisabled);
+            }
+            ReceiveStep::Stay
+        }
+        Receive::Expired => {
+            if up {
+                if out {
+                    return ReceiveStep::Enter(Receive::Defaulted);
+                }
+                return ReceiveStep::Stay;
+            }
+            ReceiveStep::Enter(Receive::PortDisabled)
+        }
+        Receive::LacpDisabled => {
+            if up {
+                return ReceiveStep::Stay;
+            }
+            ReceiveStep::Enter(Receive::PortDisabled)
+        }
+        Receive::Defaulted => {
+            if up {
+                return ReceiveStep::Stay;
+            }
+            ReceiveStep::Enter(Receive::PortDisabled)
+        }
+        Receive::Current => {
+            if up {
+                if out {
+                    return ReceiveStep::Enter(Receive::Expired);
+                }
+                return ReceiveStep::Stay;
+            }
+            ReceiveStep::Enter(Receive::PortDisabled)
+        }
+    }
+}
