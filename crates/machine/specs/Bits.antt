@@ -4,8 +4,15 @@ use Rattle.frame.specs.declared.state.PortState.{PortState}
 
 abbrev pub state : Bool → Bool → Bool → Bool → Bool → Bool → Bool → Bool → PortState
 state a t g s c d f e = record {
-    activity = a; timeout = t; aggregation = g; synchronization = s;
-    collecting = c; distributing = d; defaulted = f; expired = e }
+  activity = a;
+  timeout = t;
+  aggregation = g;
+  synchronization = s;
+  collecting = c;
+  distributing = d;
+  defaulted = f;
+  expired = e;
+}
 
 abbrev pub withTimeout : PortState → Bool → PortState
 withTimeout x b =

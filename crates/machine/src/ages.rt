@@ -33,19 +33,35 @@ impl Ages {
         ensures { λ r. ⌜ r ≡ sentAges self ⌝ }
     {
         if self.first == NO_SEND {
-            return Ages { first: 0, second: self.second, third: self.third };
+            return Ages {
+                first: 0,
+                second: self.second,
+                third: self.third,
+            };
         }
         if self.second == NO_SEND {
-            return Ages { first: 0, second: self.first, third: self.third };
+            return Ages {
+                first: 0,
+                second: self.first,
+                third: self.third,
+            };
         }
-        Ages { first: 0, second: self.first, third: self.second }
+        Ages {
+            first: 0,
+            second: self.first,
+            third: self.second,
+        }
     }
 
     // One tick later: each place by itself.
     pub fn tick(self) -> Self
         ensures { λ r. ⌜ r ≡ agesTicked self ⌝ }
     {
-        Ages { first: aged(self.first), second: aged(self.second), third: aged(self.third) }
+        Ages {
+            first: aged(self.first),
+            second: aged(self.second),
+            third: aged(self.third),
+        }
     }
 }
 
@@ -67,6 +83,10 @@ impl Timers {
         let current = self.current;
         let periodic = self.periodic;
         let wait = self.wait;
-        Timers { current: fallen(current), periodic: fallen(periodic), wait: fallen(wait) }
+        Timers {
+            current: fallen(current),
+            periodic: fallen(periodic),
+            wait: fallen(wait),
+        }
     }
 }

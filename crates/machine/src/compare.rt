@@ -33,7 +33,9 @@ pub fn same_numbers(x: Block, y: Block) -> bool
 {
     let a = x.system;
     let b = y.system;
-    same_system(a, b) & ((x.key == y.key) & ((x.port.priority == y.port.priority) & (x.port.number == y.port.number)))
+    same_system(a, b)
+        & ((x.key == y.key)
+            & ((x.port.priority == y.port.priority) & (x.port.number == y.port.number)))
 }
 
 // And Aggregation.
@@ -49,7 +51,8 @@ pub fn same_view(x: Block, y: Block) -> bool
 {
     same_party(x, y)
         & (alike(x.state.activity, y.state.activity)
-            & (alike(x.state.timeout, y.state.timeout) & alike(x.state.synchronization, y.state.synchronization)))
+            & (alike(x.state.timeout, y.state.timeout)
+                & alike(x.state.synchronization, y.state.synchronization)))
 }
 
 // Whether a frame's sender is in sync: `us` is what we say of ourselves, the frame says `a` of its sender and `b` of us.

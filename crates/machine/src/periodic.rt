@@ -4,6 +4,7 @@ ghost use Rattle.machine.specs.Periodic.{periodicNext, periodicTime, isT
 use crate::states::Periodic;
 
 pub const FAST_PERIODIC_TIME: u16 = 10;
+
 pub const SLOW_PERIODIC_TIME: u16 = 300;
 
 pub enum PeriodicStep {

@@ -73,7 +73,12 @@ impl Phase {
         let periodic = self.periodic;
         let mux = self.mux;
         let selected = self.selected;
-        Phase { receive, periodic, mux, selected }
+        Phase {
+            receive,
+            periodic,
+            mux,
+            selected,
+        }
     }
 
     pub fn with_periodic(self, periodic: Periodic) -> Self
@@ -82,7 +87,12 @@ impl Phase {
         let receive = self.receive;
         let mux = self.mux;
         let selected = self.selected;
-        Phase { receive, periodic, mux, selected }
+        Phase {
+            receive,
+            periodic,
+            mux,
+            selected,
+        }
     }
 
     pub fn with_mux(self, mux: Mux) -> Self
@@ -91,7 +101,12 @@ impl Phase {
         let receive = self.receive;
         let periodic = self.periodic;
         let selected = self.selected;
-        Phase { receive, periodic, mux, selected }
+        Phase {
+            receive,
+            periodic,
+            mux,
+            selected,
+        }
     }
 
     pub fn with_selected(self, selected: Selection) -> Self
@@ -100,7 +115,12 @@ impl Phase {
         let receive = self.receive;
         let periodic = self.periodic;
         let mux = self.mux;
-        Phase { receive, periodic, mux, selected }
+        Phase {
+            receive,
+            periodic,
+            mux,
+            selected,
+        }
     }
 }
 

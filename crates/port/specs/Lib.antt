@@ -3,4 +3,3 @@ pub mod Periodic
 pub mod Mux
 pub mod Receive
 pub mod Transmit
-pub mod Settings

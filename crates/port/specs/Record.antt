@@ -75,7 +75,8 @@ withWait p n = withTimers p (waiting n (p .timers))
 
 abbrev pub actorBlock : SystemId → ℕ → Port → Block
 actorBlock system number p = record {
-    system = system;
-    key = p .own .key;
-    port = record { priority = p .own .priority; number = number };
-    state = p .actor }
+  system = system;
+  key = p .own .key;
+  port = record { priority = p .own .priority; number = number };
+  state = p .actor;
+}

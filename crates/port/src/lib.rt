@@ -4,5 +4,4 @@ pub mod mux;
 pub mod periodic;
 pub mod receive;
 pub mod record;
-pub mod settings;
 pub mod transmit;

@@ -30,7 +30,13 @@ impl Port {
         let h = self.phase;
         let state = h.mux;
         let selected = h.selected;
-        machine::mux::next(state, selected, ready, self.partner.state.synchronization, self.partner.state.collecting)
+        machine::mux::next(
+            state,
+            selected,
+            ready,
+            self.partner.state.synchronization,
+            self.partner.state.collecting,
+        )
     }
 
     fn mux_step(self, ready: bool) -> Self
@@ -46,7 +52,10 @@ impl Port {
     pub fn detach(self) -> Self
         ensures { λ r. ⌜ r ≡ detached self ⌝ }
     {
-        self.with_selected(Selection::Unselected).mux_step(false).mux_step(false).mux_step(false)
+        self.with_selected(Selection::Unselected)
+            .mux_step(false)
+            .mux_step(false)
+            .mux_step(false)
     }
 
     // Step 4: the port takes an aggregator, becomes SELECTED and enters WAITING.
@@ -63,7 +72,11 @@ impl Port {
     {
         let h = self.phase;
         let m = h.mux;
-        if m.waits() { self.mux_step(ready) } else { self }
+        if m.waits() {
+            self.mux_step(ready)
+        } else {
+            self
+        }
     }
 
     // Step 6: up or down by the partner's bits until no step applies.

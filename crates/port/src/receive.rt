@@ -20,6 +20,7 @@ use machine::states::Receive;
 use machine::states::Selection;
 
 pub const SHORT_TIMEOUT_TIME: u16 = 30;
+
 pub const LONG_TIMEOUT_TIME: u16 = 900;
 
 // The block that gets recorded: the frame's or the default one, by the one step that is lent both.
@@ -86,14 +87,14 @@ impl Port {
     {
         let mut p = self.with_selected(Selection::Unselected).record_default();
         p.actor.expired = false;
-        p.with_current(0).with_receive(Receive::Initialize)
+        p.in_state(Receive::Initialize, 0)
     }
 
     fn port_disabled(mut self) -> Self
         ensures { λ r. ⌜ r ≡ portDisabled self ⌝ }
     {
         self.partner.state.synchronization = false;
-        self.with_current(0).with_receive(Receive::PortDisabled)
+        self.in_state(Receive::PortDisabled, 0)
     }
 
     // EXPIRED: the learned partner survives, but for Synchronization and Timeout.
@@ -103,7 +104,7 @@ impl Port {
         self.partner.state.synchronization = false;
         self.partner.state.timeout = true;
         self.actor.expired = true;
-        self.with_current(SHORT_TIMEOUT_TIME).with_receive(Receive::Expired)
+        self.in_state(Receive::Expired, SHORT_TIMEOUT_TIME)
     }
 
     fn lacp_disabled(self) -> Self
@@ -112,7 +113,7 @@ impl Port {
         let mut p = self.with_selected(Selection::Unselected).record_default();
         p.partner.state.aggregation = false;
         p.actor.expired = false;
-        p.with_current(0).with_receive(Receive::LacpDisabled)
+        p.in_state(Receive::LacpDisabled, 0)
     }
 
     // DEFAULTED: compares before it records.
@@ -122,14 +123,18 @@ impl Port {
         let default = self.own.default;
         let mut p = self.update_selected(default).record_default();
         p.actor.expired = false;
-        p.with_current(0).with_receive(Receive::Defaulted)
+        p.in_state(Receive::Defaulted, 0)
     }
 
     // Our own Timeout bit, not the partner's.
     fn timeout_time(self) -> u16
         ensures { λ r. ⌜ r ≡ timeoutTime self ⌝ }
     {
-        if self.actor.timeout { SHORT_TIMEOUT_TIME } else { LONG_TIMEOUT_TIME }
+        if self.actor.timeout {
+            SHORT_TIMEOUT_TIME
+        } else {
+            LONG_TIMEOUT_TIME
+        }
     }
 
     // CURRENT: compares before it records, so that a changed partner is seen.
@@ -138,9 +143,11 @@ impl Port {
         ensures { λ r. ⌜ r ≡ Receive·current us (blockOf (now (actor .entry))) b self ⌝ }
     {
         let a = Block::read(actor);
-        let mut p = self.update_selected(a).update_ntt(us, b).record_pdu(us, actor, b);
+        let mut p = self.update_selected(a)
+            .update_ntt(us, b)
+            .record_pdu(us, actor, b);
         p.actor.expired = false;
-        p.with_current(self.timeout_time()).with_receive(Receive::Current)
+        p.in_state(Receive::Current, self.timeout_time())
     }
 
     fn enter_receive(self, state: Receive) -> Self

@@ -34,15 +34,6 @@ pub struct Port {
 }
 
 impl Port {
-    pub fn with_receive(mut self, receive: Receive) -> Self
-        ensures { λ r. ⌜ r ≡ withReceive self receive ⌝ }
-    {
-        let h = self.phase;
-        let next = h.with_receive(receive);
-        self.phase = next;
-        self
-    }
-
     pub fn with_selected(mut self, selected: Selection) -> Self
         ensures { λ r. ⌜ r ≡ withSelected self selected ⌝ }
     {
@@ -52,13 +43,16 @@ impl Port {
         self
     }
 
-    // The current-while timer started, or stopped with 0.
-    pub fn with_current(mut self, n: u16) -> Self
-        ensures { λ r. ⌜ r ≡ withCurrent self n ⌝ }
+    // In a state of the receive machine, with the current-while timer started, or stopped with 0.
+    pub fn in_state(mut self, receive: Receive, n: u16) -> Self
+        ensures { λ r. ⌜ r ≡ withReceive (withCurrent self n) receive ⌝ }
     {
+        let h = self.phase;
+        let phase = h.with_receive(receive);
         let t = self.timers;
-        let next = t.with_current(n);
-        self.timers = next;
+        let timers = t.with_current(n);
+        self.phase = phase;
+        self.timers = timers;
         self
     }
 
@@ -66,8 +60,16 @@ impl Port {
     pub fn actor_block(self, system: SystemId, number: u16) -> Block
         ensures { λ r. ⌜ r ≡ actorBlock system number self ⌝ }
     {
-        let port = PortId { priority: self.own.priority, number };
+        let port = PortId {
+            priority: self.own.priority,
+            number,
+        };
         let state = self.actor;
-        Block { system, key: self.own.key, port, state }
+        Block {
+            system,
+            key: self.own.key,
+            port,
+            state,
+        }
     }
 }

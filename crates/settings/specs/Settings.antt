@@ -3,19 +3,19 @@ use Prim.Native.Nat.{ℕ}
 use mathlib.Core.Bool.{Bool, true, false, cond, _&&_}
 use lib.Dec.{eqb}
 use Rattle.frame.specs.declared.state.PortState.{PortState}
 use Rattle.port.specs.declared.record.Own.{Own}
 use Rattle.port.specs.declared.record.Port.{Port}
 use Rattle.machine.specs.declared.states.Receive.the-variants.{Initialize}
 use Rattle.machine.specs.declared.states.Periodic.the-variants.{NoPeriodic}
 use Rattle.machine.specs.declared.states.Mux.the-variants.{Detached}
 use Rattle.machine.specs.declared.states.Selection.the-variants.{Unselected}
-use Rattle.port.specs.declared.settings.Settings.{Settings}
+use Rattle.settings.specs.declared.Settings.{Settings}
 use Rattle.machine.specs.States.{phase, ticks, timers}
 use Rattle.machine.specs.Ages.{noSend, ages}
 use Rattle.port.specs.Record.{port, withOwn, withActor, withNtt}
 use Rattle.machine.specs.Bits.{state, alike}
 use Rattle.machine.specs.Compare.{sameAddress, sameBlock}
 use Rattle.port.specs.Receive.{unselected, moved}
 
 abbrev pub ownOf : Settings → Own
 ownOf s = record { address = s .address; key = s .key; priority = s .priority; default = s .default }
