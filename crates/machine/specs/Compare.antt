@@ -1,9 +1,11 @@
 -- The comparisons of 43.4.9, over information blocks.
+use Prim.Native.Nat.{ℕ}
 use mathlib.Core.Bool.{Bool, not, _&&_, _||_}
 use lib.Dec.{eqb}
 use Rattle.frame.specs.declared.block.Address.{Address}
 use Rattle.frame.specs.declared.block.Block.{Block}
 use Rattle.frame.specs.declared.block.SystemId.{SystemId}
+use Rattle.frame.specs.declared.block.PortId.{PortId}
 use Rattle.frame.specs.declared.state.PortState.{PortState}
 use Rattle.machine.specs.Bits.{alike}
 
@@ -22,6 +24,16 @@ sameNumbers x y =
 -- and Aggregation: what update_Selected, update_Default_Selected and recordPDU compare
 unfoldable pub sameParty : Block → Block → Bool
 sameParty x y = sameNumbers x y && alike (x .state .aggregation) (y .state .aggregation)
+
+-- whom a block names: just these six
+pub record Party : Type 0 where
+  pub system : SystemId
+  pub key : ℕ
+  pub port : PortId
+  pub aggregation : Bool
+
+abbrev pub party : Block → Party
+party b = record { system = b .system; key = b .key; port = b .port; aggregation = b .state .aggregation }
 
 -- and Activity, Timeout, Synchronization: what update_NTT compares
 unfoldable pub sameView : Block → Block → Bool

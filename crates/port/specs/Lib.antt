@@ -1,4 +1,6 @@
 pub mod Record
+pub mod Compared
+pub mod Timing
 pub mod Periodic
 pub mod Mux
 pub mod Receive

@@ -11,7 +11,7 @@ use Rattle.port.specs.Record.{withMux, withWait, withNtt, withActor, wit
 
 -- the actions on entry
 abbrev pub muxEntered : Mux → Port → Port
-muxEntered m p = withMux (withWait (withNtt (withActor p (muxBits m (p .actor))) (p .ntt || setsNtt m)) (waitTime m)) m
+muxEntered m p = withMux (withWait (withNtt (withActor p (muxBits m (p .actor))) (setsNtt m || p .ntt)) (waitTime m)) m
 
 abbrev pub muxTaken : MuxStep → Port → Port
 muxTaken Stay p = p

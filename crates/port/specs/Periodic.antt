@@ -18,7 +18,7 @@ quiet p = not (p .line .full) || (not (p .line .up) || bothPassive p)
 
 -- the actions on entry
 abbrev pub periodicEntered : Periodic → Port → Port
-periodicEntered s p = withNtt (withPace (withPeriodic p s) (periodicTime s)) (p .ntt || isTx s)
+periodicEntered s p = withNtt (withPace (withPeriodic p s) (periodicTime s)) (isTx s || p .ntt)
 
 abbrev pub periodicTaken : PeriodicStep → Port → Port
 periodicTaken Stay p = p

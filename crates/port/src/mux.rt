@@ -20,7 +20,7 @@ impl Port {
         self.phase = phase;
         self.timers = timers;
         self.actor = actor;
-        self.ntt = self.ntt | state.sets_ntt();
+        self.ntt = state.sets_ntt() | self.ntt;
         self
     }
 

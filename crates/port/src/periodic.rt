@@ -29,7 +29,7 @@ impl Port {
         let timers = t.with_periodic(machine::periodic::time(state));
         self.phase = phase;
         self.timers = timers;
-        self.ntt = self.ntt | machine::periodic::sets_ntt(state);
+        self.ntt = machine::periodic::sets_ntt(state) | self.ntt;
         self
     }
 

@@ -1,0 +1,1 @@
+// No code: theorems about the definitions of the crates below, stated in specs/ and proved in proofs/.

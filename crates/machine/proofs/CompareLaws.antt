@@ -1,0 +1,105 @@
+-- Each comparison is true exactly for values that are equal in what it compares. Assumes nothing.
+use Prim.Native.Nat.{ℕ}
+use mathlib.Core.Path.{_≡_, refl, ap, _∙_}
+use mathlib.Core.Bool.{Bool, true, false, _&&_, and-eq-true-iff, false≢true}
+use lib.Dec.{eqb}
+use borrow.Author.Tests.{eqb-true, eq-eqb}
+use Rattle.frame.specs.declared.block.Address.{Address}
+use Rattle.frame.specs.declared.block.Block.{Block}
+use Rattle.frame.specs.declared.block.SystemId.{SystemId}
+use Rattle.frame.specs.declared.block.PortId.{PortId}
+use Rattle.frame.specs.declared.state.PortState.{PortState}
+use Rattle.machine.specs.Bits.{alike}
+use Rattle.machine.specs.Compare.{sameAddress, sameSystem, sameNumbers, sameParty, sameState, sameBlock, party}
+
+-- ---- from a test to an equation
+
+pub alike-true : (x y : Bool) → alike x y ≡ true → x ≡ y
+alike-true true true e = refl
+alike-true true false e = absurd (false≢true e)
+alike-true false true e = absurd (false≢true e)
+alike-true false false e = refl
+
+both : (a b : Bool) → a && b ≡ true → (a ≡ true) × (b ≡ true)
+both a b e = and-eq-true-iff a b .0 e
+
+pub address-true : (x y : Address) → sameAddress x y ≡ true → x ≡ y
+unfolding sameAddress
+address-true x y e =
+    let h = both (eqb (x .high) (y .high)) _ e in
+    let t = both (eqb (x .middle) (y .middle)) _ (h .1) in
+    λ i. record { high = eqb-true (x .high) (y .high) (h .0) i; middle = eqb-true (x .middle) (y .middle) (t .0) i; low = eqb-true (x .low) (y .low) (t .1) i }
+
+pub system-true : (x y : SystemId) → sameSystem x y ≡ true → x ≡ y
+unfolding sameSystem
+system-true x y e =
+    let h = both (eqb (x .priority) (y .priority)) _ e in
+    λ i. record { priority = eqb-true (x .priority) (y .priority) (h .0) i; address = address-true (x .address) (y .address) (h .1) i }
+
+pub numbers-true : (x y : Block) → sameNumbers x y ≡ true → (x .system ≡ y .system) × (x .key ≡ y .key) × (x .port ≡ y .port)
+unfolding sameNumbers
+numbers-true x y e =
+    let s = both (sameSystem (x .system) (y .system)) _ e in
+    let k = both (eqb (x .key) (y .key)) _ (s .1) in
+    let p = both (eqb (x .port .priority) (y .port .priority)) _ (k .1) in
+    (system-true (x .system) (y .system) (s .0), eqb-true (x .key) (y .key) (k .0),
+        λ i. record { priority = eqb-true (x .port .priority) (y .port .priority) (p .0) i; number = eqb-true (x .port .number) (y .port .number) (p .1) i })
+
+pub party-true : (x y : Block) → sameParty x y ≡ true → party x ≡ party y
+unfolding sameParty
+party-true x y e =
+    let h = both (sameNumbers x y) _ e in
+    let n = numbers-true x y (h .0) in
+    λ i. record { system = n .0 i; key = n .1 i; port = n .2 i; aggregation = alike-true (x .state .aggregation) (y .state .aggregation) (h .1) i }
+
+pub state-true : (x y : PortState) → sameState x y ≡ true → x ≡ y
+unfolding sameState
+state-true x y e =
+    let a = both (alike (x .activity) (y .activity)) _ e in
+    let b = both (alike (x .timeout) (y .timeout)) _ (a .1) in
+    let c = both (alike (x .aggregation) (y .aggregation)) _ (b .1) in
+    let d = both (alike (x .synchronization) (y .synchronization)) _ (c .1) in
+    let f = both (alike (x .collecting) (y .collecting)) _ (d .1) in
+    let g = both (alike (x .distributing) (y .distributing)) _ (f .1) in
+    let h = both (alike (x .defaulted) (y .defaulted)) _ (g .1) in
+    λ i. record {
+        activity = alike-true (x .activity) (y .activity) (a .0) i;
+        timeout = alike-true (x .timeout) (y .timeout) (b .0) i;
+        aggregation = alike-true (x .aggregation) (y .aggregation) (c .0) i;
+        synchronization = alike-true (x .synchronization) (y .synchronization) (d .0) i;
+        collecting = alike-true (x .collecting) (y .collecting) (f .0) i;
+        distributing = alike-true (x .distributing) (y .distributing) (g .0) i;
+        defaulted = alike-true (x .defaulted) (y .defaulted) (h .0) i;
+        expired = alike-true (x .expired) (y .expired) (h .1) i }
+
+pub block-true : (x y : Block) → sameBlock x y ≡ true → x ≡ y
+unfolding sameBlock
+block-true x y e =
+    let h = both (sameNumbers x y) _ e in
+    let n = numbers-true x y (h .0) in
+    λ i. record { system = n .0 i; key = n .1 i; port = n .2 i; state = state-true (x .state) (y .state) (h .1) i }
+
+-- ---- a value is alike with itself
+
+pub alike-refl : (x : Bool) → alike x x ≡ true
+alike-refl true = refl
+alike-refl false = refl
+
+eqb-self : (n : ℕ) → eqb n n ≡ true
+eqb-self n = eq-eqb n n refl
+
+pub address-refl : (x : Address) → sameAddress x x ≡ true
+unfolding sameAddress
+address-refl x = rw (eqb-self (x .high), eqb-self (x .middle), eqb-self (x .low))
+
+pub system-refl : (x : SystemId) → sameSystem x x ≡ true
+unfolding sameSystem
+system-refl x = rw (eqb-self (x .priority), address-refl (x .address))
+
+pub numbers-refl : (x : Block) → sameNumbers x x ≡ true
+unfolding sameNumbers
+numbers-refl x = rw (system-refl (x .system), eqb-self (x .key), eqb-self (x .port .priority), eqb-self (x .port .number))
+
+pub party-refl : (x : Block) → sameParty x x ≡ true
+unfolding sameParty
+party-refl x = rw (numbers-refl x, alike-refl (x .state .aggregation))

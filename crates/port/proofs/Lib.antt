@@ -1,0 +1,5 @@
+pub mod PeriodicLaws
+pub mod MuxLaws
+pub mod ReceiveLaws
+pub mod TransmitLaws
+pub mod TimerLaws

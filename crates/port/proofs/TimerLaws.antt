@@ -1,0 +1,112 @@
+-- Timers stay within their times, and one that its state does not use holds 0: each machine keeps this of its own timer, and a tick of
+-- all three. Assumes nothing.
+use Prim.Native.Nat.{ℕ, _-_, _≤_}
+use mathlib.Core.Path.{_≡_, refl, sym, ap, _∙_}
+use mathlib.Core.Bool.{Bool, true, false, cond, true≢false}
+use native.Mathlib.Omega.{arith}
+use Rattle.frame.specs.declared.block.Block.{Block}
+use Rattle.machine.specs.declared.states.Receive.{Receive}
+use Rattle.machine.specs.declared.states.Periodic.{Periodic}
+use Rattle.machine.specs.declared.states.Periodic.the-variants.{NoPeriodic, FastPeriodic, SlowPeriodic, PeriodicTx}
+use Rattle.machine.specs.declared.states.Mux.{Mux}
+use Rattle.machine.specs.declared.states.Mux.the-variants.{Detached, Waiting, Attached, Collecting, Distributing}
+use Rattle.machine.specs.declared.states.Ticks.{Ticks}
+use Rattle.machine.specs.declared.periodic.PeriodicStep.{PeriodicStep}
+use Rattle.machine.specs.declared.periodic.PeriodicStep.the-variants as pace
+use Rattle.machine.specs.declared.mux.MuxStep.{MuxStep}
+use Rattle.machine.specs.declared.mux.MuxStep.the-variants as mux
+use Rattle.machine.specs.Time.{fallen, longTimeoutTime}
+use Rattle.machine.specs.States.{ticks}
+use Rattle.port.specs.declared.record.Port.{Port}
+use Rattle.port.specs.Timing.{Timed, CurrentTimed, PaceTimed, WaitTimed}
+use Rattle.port.specs.Periodic.{periodicTaken, periodicChoice, periodicStep, periodicRun}
+use Rattle.port.specs.Mux.{muxTaken, muxChoice, muxStep, muxRun}
+use Rattle.port.specs.Receive.{recordDefault, initialized, portDisabled, expired, lacpDisabled, defaulted, current, timeoutTime}
+use Rattle.port.specs.Transmit.{ticked}
+
+-- a timer that is in use and within its time, and one that is stopped
+running : (most : ℕ) (n : ℕ) → n ≤ most → Timed true most (ticks n)
+running most n h = record { within = h; stopped = λ e. absurd (true≢false e) }
+
+halted : (used : Bool) (most : ℕ) → Timed used most (ticks 0)
+halted used most = record { within = omega arith; stopped = λ e. refl }
+
+-- ---- the periodic timer
+
+pace-taken : (k : PeriodicStep) (p : Port) → PaceTimed p → PaceTimed (periodicTaken k p)
+pace-taken pace.Stay p h = h
+pace-taken (pace.Enter NoPeriodic) p h = halted _ _
+pace-taken (pace.Enter FastPeriodic) p h = running _ _ (omega arith)
+pace-taken (pace.Enter SlowPeriodic) p h = running _ _ (omega arith)
+pace-taken (pace.Enter PeriodicTx) p h = halted _ _
+
+pub pace-step : (p : Port) → PaceTimed p → PaceTimed (periodicStep p)
+unfolding periodicStep
+pace-step p h = pace-taken (periodicChoice p) p h
+
+pub pace-run : (p : Port) → PaceTimed p → PaceTimed (periodicRun p)
+unfolding periodicRun
+pace-run p h = pace-step (periodicStep p) (pace-step p h)
+
+-- ---- the wait timer
+
+wait-taken : (k : MuxStep) (p : Port) → WaitTimed p → WaitTimed (muxTaken k p)
+wait-taken mux.Stay p h = h
+wait-taken (mux.Enter Detached) p h = halted _ _
+wait-taken (mux.Enter Waiting) p h = running _ _ (omega arith)
+wait-taken (mux.Enter Attached) p h = halted _ _
+wait-taken (mux.Enter Collecting) p h = halted _ _
+wait-taken (mux.Enter Distributing) p h = halted _ _
+
+pub wait-step : (ready : Bool) (p : Port) → WaitTimed p → WaitTimed (muxStep ready p)
+unfolding muxStep
+wait-step ready p h = wait-taken (muxChoice ready p) p h
+
+pub wait-run : (p : Port) → WaitTimed p → WaitTimed (muxRun p)
+unfolding muxRun
+wait-run p h = wait-step false (muxStep false p) (wait-step false p h)
+
+-- ---- the current-while timer: each state says what it holds
+
+pub initialized-timed : (p : Port) → CurrentTimed (initialized p)
+unfolding initialized recordDefault
+initialized-timed p = halted _ _
+
+pub disabled-timed : (p : Port) → CurrentTimed (portDisabled p)
+unfolding portDisabled
+disabled-timed p = halted _ _
+
+pub expired-timed : (p : Port) → CurrentTimed (expired p)
+unfolding expired
+expired-timed p = running _ _ (omega arith)
+
+pub off-timed : (p : Port) → CurrentTimed (lacpDisabled p)
+unfolding lacpDisabled recordDefault
+off-timed p = halted _ _
+
+pub defaulted-timed : (p : Port) → CurrentTimed (defaulted p)
+unfolding defaulted recordDefault
+defaulted-timed p = halted _ _
+
+time-le : (b : Bool) → cond b 30 900 ≤ longTimeoutTime
+time-le true = omega arith
+time-le false = omega arith
+
+pub current-timed : (us a b : Block) (p : Port) → CurrentTimed (current us a b p)
+unfolding current
+current-timed us a b p = running _ _ (time-le (p .actor .timeout))
+
+-- ---- a tick
+
+falls : (used : Bool) (most : ℕ) (t : Ticks) → Timed used most t → Timed used most (fallen t)
+falls used most t h = record { within = less (t .0) (h .within); stopped = λ e. zero-stays (t .0) (h .stopped e) }
+  where
+    less : (n : ℕ) → n ≤ most → n - 1 ≤ most
+    less n k = omega arith
+
+    zero-stays : (n : ℕ) → n ≡ 0 → n - 1 ≡ 0
+    zero-stays n k = omega arith
+
+pub ticked-timed : (p : Port) → (CurrentTimed p × PaceTimed p × WaitTimed p) → (CurrentTimed (ticked p) × PaceTimed (ticked p) × WaitTimed (ticked p))
+unfolding ticked
+ticked-timed p h = (falls _ _ _ (h .0), falls _ _ _ (h .1), falls _ _ _ (h .2))

@@ -1,0 +1,42 @@
+-- What a send, a tick and the clearing of NTT leave alone. Assumes nothing.
+use mathlib.Core.Path.{_≡_, refl}
+use mathlib.Core.Bool.{Bool, true, false, cond}
+use Rattle.machine.specs.Ages.{noSend, ages}
+use Rattle.machine.specs.States.{timers, ticks}
+use Rattle.port.specs.declared.record.Port.{Port}
+use Rattle.port.specs.Record.{withNtt, withAges, withTimers}
+use Rattle.port.specs.Transmit.{sent, silent, quieted, ticked}
+
+-- a send touches NTT and the ages alone
+abbrev pub besideSends : Port → Port
+besideSends p = withNtt (withAges p (ages noSend noSend noSend)) false
+
+pub sent-keeps : (p : Port) → besideSends (sent p) ≡ besideSends p
+unfolding sent
+sent-keeps p = refl
+
+-- a tick touches the timers and the ages alone
+abbrev pub besideTime : Port → Port
+besideTime p = withAges (withTimers p (timers (ticks 0) (ticks 0) (ticks 0))) (ages noSend noSend noSend)
+
+pub ticked-keeps : (p : Port) → besideTime (ticked p) ≡ besideTime p
+unfolding ticked
+ticked-keeps p = refl
+
+-- the clearing of NTT touches NTT alone, and clears once
+if-keeps : (b : Bool) (p : Port) → withNtt (cond b (withNtt p false) p) false ≡ withNtt p false
+if-keeps true p = refl
+if-keeps false p = refl
+
+pub quieted-keeps : (p : Port) → withNtt (quieted p) false ≡ withNtt p false
+unfolding quieted
+quieted-keeps p = if-keeps (silent p) p
+
+if-twice : (b : Bool) (p : Port) → silent p ≡ b → quieted (cond b (withNtt p false) p) ≡ cond b (withNtt p false) p
+unfolding quieted silent
+if-twice true p e = rw e
+if-twice false p e = rw e
+
+pub quieted-twice : (p : Port) → quieted (quieted p) ≡ quieted p
+unfolding quieted
+quieted-twice p = if-twice (silent p) p refl

@@ -1,0 +1,40 @@
+-- A timer that its state does not use is stopped and holds 0; one that it uses is within its time (document 01, 'Timers').
+use Prim.Native.Nat.{ℕ, _≤_}
+use mathlib.Core.Path.{_≡_}
+use mathlib.Core.Bool.{Bool, true, false}
+use Rattle.machine.specs.declared.states.Receive.{Receive}
+use Rattle.machine.specs.declared.states.Receive.the-variants.{Initialize, PortDisabled, Expired, LacpDisabled, Defaulted, Current}
+use Rattle.machine.specs.declared.states.Periodic.{Periodic}
+use Rattle.machine.specs.declared.states.Periodic.the-variants.{NoPeriodic, FastPeriodic, SlowPeriodic, PeriodicTx}
+use Rattle.machine.specs.declared.states.Ticks.{Ticks}
+use Rattle.machine.specs.Mux.{waits}
+use Rattle.machine.specs.Time.{longTimeoutTime, slowPeriodicTime, aggregateWaitTime}
+use Rattle.port.specs.declared.record.Port.{Port}
+
+abbrev pub usesCurrent : Receive → Bool
+usesCurrent Initialize = false
+usesCurrent PortDisabled = false
+usesCurrent Expired = true
+usesCurrent LacpDisabled = false
+usesCurrent Defaulted = false
+usesCurrent Current = true
+
+abbrev pub usesPace : Periodic → Bool
+usesPace NoPeriodic = false
+usesPace FastPeriodic = true
+usesPace SlowPeriodic = true
+usesPace PeriodicTx = false
+
+-- a timer: whether its state uses it, its longest time, and what it holds
+pub record Timed (used : Bool) (most : ℕ) (t : Ticks) : Type 0 where
+  pub within : t .0 ≤ most
+  pub stopped : used ≡ false → t .0 ≡ 0
+
+abbrev pub CurrentTimed : Port → Type 0
+CurrentTimed p = Timed (usesCurrent (p .phase .receive)) longTimeoutTime (p .timers .current)
+
+abbrev pub PaceTimed : Port → Type 0
+PaceTimed p = Timed (usesPace (p .phase .periodic)) slowPeriodicTime (p .timers .periodic)
+
+abbrev pub WaitTimed : Port → Type 0
+WaitTimed p = Timed (waits (p .phase .mux)) aggregateWaitTime (p .timers .wait)
