@@ -11,6 +11,15 @@ use Rattle.settings.specs.Settings.{blank, started}
 pub one-port : OnePort
 unfolding up hears silence current sameAddress sameSystem sameNumbers sameParty sameView maintained inSync recordDefault recordPdu updateSelected updateDefaultSelected updateNtt initialized portDisabled expired lacpDisabled defaulted heard Receive·current moved received receiveChoice receiveStep receiveRun lined periodicChoice periodicStep periodicRun ticked blank started
 one-port = record {
-    active-short = refl; in-trunk = refl; in-trunk-long = refl; after-start = refl; after-link-up = refl;
-    silent-899 = refl; silent-900 = refl; silent-929 = refl; silent-930 = refl;
-    passive-unanswered = refl; passive-answered = refl }
+  active-short = refl;
+  in-trunk = refl;
+  in-trunk-long = refl;
+  after-start = refl;
+  after-link-up = refl;
+  silent-899 = refl;
+  silent-900 = refl;
+  silent-929 = refl;
+  silent-930 = refl;
+  passive-unanswered = refl;
+  passive-answered = refl;
+}

@@ -29,9 +29,19 @@ block s o = record { system = system s; key = 1; port = record { priority = 1; n
 -- an aggregatable port, active or passive, short or long, whose default partner block is all zeros
 abbrev pub settings : Bool → Bool → Settings
 settings active short = record {
-    address = address 9; key = 1; priority = 1; activity = active; timeout = short; aggregation = true;
-    default = record {
-        system = record { priority = 0; address = address 0 }; key = 0; port = record { priority = 0; number = 0 }; state = stateOf 0 } }
+  address = address 9;
+  key = 1;
+  priority = 1;
+  activity = active;
+  timeout = short;
+  aggregation = true;
+  default = record {
+    system = record { priority = 0; address = address 0 };
+    key = 0;
+    port = record { priority = 0; number = 0 };
+    state = stateOf 0;
+  };
+}
 
 -- started, with the link up; we are port 1 of system 9
 unfoldable pub up : Settings → Port

@@ -41,9 +41,11 @@ unfolding sameNumbers
 numbers-true x y e =
     let s = both (sameSystem (x .system) (y .system)) _ e in
     let k = both (eqb (x .key) (y .key)) _ (s .1) in
-    let p = both (eqb (x .port .priority) (y .port .priority)) _ (k .1) in
-    (system-true (x .system) (y .system) (s .0), eqb-true (x .key) (y .key) (k .0),
-        λ i. record { priority = eqb-true (x .port .priority) (y .port .priority) (p .0) i; number = eqb-true (x .port .number) (y .port .number) (p .1) i })
+    let p = both (eqb (x .port .priority) (y .port .priority)) _ (k .1) in (
+      system-true (x .system) (y .system) (s .0),
+      eqb-true (x .key) (y .key) (k .0),
+      λ i. record { priority = eqb-true (x .port .priority) (y .port .priority) (p .0) i; number = eqb-true (x .port .number) (y .port .number) (p .1) i },
+    )
 
 pub party-true : (x y : Block) → sameParty x y ≡ true → party x ≡ party y
 unfolding sameParty
@@ -63,14 +65,15 @@ state-true x y e =
     let g = both (alike (x .distributing) (y .distributing)) _ (f .1) in
     let h = both (alike (x .defaulted) (y .defaulted)) _ (g .1) in
     λ i. record {
-        activity = alike-true (x .activity) (y .activity) (a .0) i;
-        timeout = alike-true (x .timeout) (y .timeout) (b .0) i;
-        aggregation = alike-true (x .aggregation) (y .aggregation) (c .0) i;
-        synchronization = alike-true (x .synchronization) (y .synchronization) (d .0) i;
-        collecting = alike-true (x .collecting) (y .collecting) (f .0) i;
-        distributing = alike-true (x .distributing) (y .distributing) (g .0) i;
-        defaulted = alike-true (x .defaulted) (y .defaulted) (h .0) i;
-        expired = alike-true (x .expired) (y .expired) (h .1) i }
+      activity = alike-true (x .activity) (y .activity) (a .0) i;
+      timeout = alike-true (x .timeout) (y .timeout) (b .0) i;
+      aggregation = alike-true (x .aggregation) (y .aggregation) (c .0) i;
+      synchronization = alike-true (x .synchronization) (y .synchronization) (d .0) i;
+      collecting = alike-true (x .collecting) (y .collecting) (f .0) i;
+      distributing = alike-true (x .distributing) (y .distributing) (g .0) i;
+      defaulted = alike-true (x .defaulted) (y .defaulted) (h .0) i;
+      expired = alike-true (x .expired) (y .expired) (h .1) i;
+    }
 
 pub block-true : (x y : Block) → sameBlock x y ≡ true → x ≡ y
 unfolding sameBlock

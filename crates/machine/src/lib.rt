@@ -2,6 +2,7 @@
 // comparisons of 43.4.9, and the ages of sends. No record of a port is known here.
 pub mod ages;
 pub mod compare;
+pub mod entry;
 pub mod mux;
 pub mod periodic;
 pub mod receive;

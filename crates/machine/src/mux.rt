@@ -1,11 +1,8 @@
 // The transitions of the Mux machine, independent control (figure 43-13), and what its states mean to others.
 ghost use mathlib.Core.Path.{_≡_};
-ghost use Rattle.machine.specs.Mux.{waits, isAttached, collects, distributes, muxNext, muxBits, setsNtt, waitTime};
+ghost use Rattle.machine.specs.Mux.{waits, isAttached, collects, distributes, muxNext};
 use crate::states::Mux;
 use crate::states::Selection;
-use frame::state::PortState;
-
-pub const AGGREGATE_WAIT_TIME: u16 = 20;
 
 pub enum MuxStep {
     Stay,
@@ -106,62 +103,6 @@ impl Mux {
             Mux::Attached => false,
             Mux::Collecting => false,
             Mux::Distributing => true,
-        }
-    }
-
-    // The actor's bits on entry to a state.
-    pub fn bits(self, old: PortState) -> PortState
-        ensures { λ r. ⌜ r ≡ muxBits self old ⌝ }
-    {
-        let mut s = old;
-        match self {
-            Mux::Detached => {
-                s.synchronization = false;
-                s.distributing = false;
-                s.collecting = false;
-                s
-            }
-            Mux::Waiting => s,
-            Mux::Attached => {
-                s.synchronization = true;
-                s.collecting = false;
-                s
-            }
-            Mux::Collecting => {
-                s.collecting = true;
-                s.distributing = false;
-                s
-            }
-            Mux::Distributing => {
-                s.distributing = true;
-                s
-            }
-        }
-    }
-
-    // Whether entry to a state sets NTT.
-    pub fn sets_ntt(self) -> bool
-        ensures { λ r. ⌜ r ≡ setsNtt self ⌝ }
-    {
-        match self {
-            Mux::Detached => true,
-            Mux::Waiting => false,
-            Mux::Attached => true,
-            Mux::Collecting => true,
-            Mux::Distributing => false,
-        }
-    }
-
-    // What the wait timer is started with; 0 stops it.
-    pub fn wait_time(self) -> u16
-        ensures { λ r. ⌜ r ≡ waitTime self ⌝ }
-    {
-        match self {
-            Mux::Detached => 0,
-            Mux::Waiting => AGGREGATE_WAIT_TIME,
-            Mux::Attached => 0,
-            Mux::Collecting => 0,
-            Mux::Distributing => 0,
         }
     }
 }

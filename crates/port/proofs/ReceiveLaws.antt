@@ -159,7 +159,12 @@ same-rule : (p : Port) (b : Block) → party b ≡ party (p .partner)
     → _≡_ {A = Compared} (record { key = p .own .key; aggregation = p .actor .aggregation; system = b .system; partnerKey = b .key; partnerAggregation = b .state .aggregation })
     (compared p)
 same-rule p b e = λ i. record {
-    key = p .own .key; aggregation = p .actor .aggregation; system = e i .system; partnerKey = e i .key; partnerAggregation = e i .aggregation }
+  key = p .own .key;
+  aggregation = p .actor .aggregation;
+  system = e i .system;
+  partnerKey = e i .key;
+  partnerAggregation = e i .aggregation;
+}
 
 pub defaulted-unselects : (p : Port) → defaulted p .phase .selected ≡ Selected → compared (defaulted p) ≡ compared p
 unfolding defaulted recordDefault updateDefaultSelected updateSelected

@@ -14,8 +14,9 @@ pub record Compared : Type 0 where
 
 abbrev pub compared : Port → Compared
 compared p = record {
-    key = p .own .key;
-    aggregation = p .actor .aggregation;
-    system = p .partner .system;
-    partnerKey = p .partner .key;
-    partnerAggregation = p .partner .state .aggregation }
+  key = p .own .key;
+  aggregation = p .actor .aggregation;
+  system = p .partner .system;
+  partnerKey = p .partner .key;
+  partnerAggregation = p .partner .state .aggregation;
+}

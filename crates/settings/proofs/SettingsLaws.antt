@@ -22,15 +22,23 @@ apart e = let z : _≡_ {A = ℕ} 0 1 = cc in absurd (omega arith)
 -- the record as the rule reads it after new settings, where the grouping is the same
 same-rule : (s : Settings) (p : Port) → sameGrouping s p ≡ true
     → _≡_ {A = Compared} (record {
-        key = s .key; aggregation = s .aggregation; system = p .partner .system; partnerKey = p .partner .key;
-        partnerAggregation = p .partner .state .aggregation }) (compared p)
+      key = s .key;
+      aggregation = s .aggregation;
+      system = p .partner .system;
+      partnerKey = p .partner .key;
+      partnerAggregation = p .partner .state .aggregation;
+    }) (compared p)
 unfolding sameGrouping
 same-rule s p e =
     let k = and-eq-true-iff (eqb (s .key) (p .own .key)) _ .0 e in
     let a = and-eq-true-iff (eqb (s .priority) (p .own .priority)) _ .0 (k .1) in
     λ i. record {
-        key = eqb-true (s .key) (p .own .key) (k .0) i; aggregation = alike-true (s .aggregation) (p .actor .aggregation) (a .1) i;
-        system = p .partner .system; partnerKey = p .partner .key; partnerAggregation = p .partner .state .aggregation }
+      key = eqb-true (s .key) (p .own .key) (k .0) i;
+      aggregation = alike-true (s .aggregation) (p .actor .aggregation) (a .1) i;
+      system = p .partner .system;
+      partnerKey = p .partner .key;
+      partnerAggregation = p .partner .state .aggregation;
+    }
 
 pub changed-unselects : (s : Settings) (p : Port) → changed s p .phase .selected ≡ Selected → compared (changed s p) ≡ compared p
 unfolding changed regrouped
@@ -38,8 +46,12 @@ changed-unselects s p h = go (sameGrouping s p) refl h
   where
     go : (b : Bool) → sameGrouping s p ≡ b → cond b p (unselected p) .phase .selected ≡ Selected
         → _≡_ {A = Compared} (record {
-            key = s .key; aggregation = s .aggregation; system = cond b p (unselected p) .partner .system;
-            partnerKey = cond b p (unselected p) .partner .key; partnerAggregation = cond b p (unselected p) .partner .state .aggregation }) (compared p)
+          key = s .key;
+          aggregation = s .aggregation;
+          system = cond b p (unselected p) .partner .system;
+          partnerKey = cond b p (unselected p) .partner .key;
+          partnerAggregation = cond b p (unselected p) .partner .state .aggregation;
+        }) (compared p)
     go false e h = apart h
     go true e h = same-rule s p e
 

@@ -1,23 +1,18 @@
+-- `machine::ages::aged` meets its contract: on each way out it gives what the definition gives, by the tests on the way. Assumes nothing.
 use borrow.Author.Tests.{le-leb, lt-leb}
 use borrow.Author.Needs.{needs}
 use Rattle.machine.proofs.ages.aged.Statement.{statement}
 use Rattle.machine.proofs.ages.aged.Tie as tie
-use Rattle.machine.proofs.ages.aged.Reads as reads
-use Rattle.machine.proofs.ages.aged.Lts as lts
 
--- src/transmit.rt:39:8
 sub-if1 : tie.Need-sub-if1
 sub-if1 c = search needs
 
--- src/transmit.rt:40:9
 returns : tie.Need-returns
 returns c = rw (le-leb _ _ (c .if1 .taken))
 
--- src/transmit.rt:42:5
 add-result : tie.Need-add-result
 add-result c = search needs
 
--- src/transmit.rt:36:1
 returns-2 : tie.Need-returns-2
 returns-2 c = rw (lt-leb _ _ (c .if1 .left))
 

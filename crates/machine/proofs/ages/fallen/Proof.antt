@@ -1,18 +1,14 @@
+-- `machine::ages::fallen` meets its contract: on each way out it gives what the definition gives, by the tests on the way. Assumes nothing.
 use borrow.Author.Needs.{needs}
 use Rattle.machine.proofs.ages.fallen.Statement.{statement}
 use Rattle.machine.proofs.ages.fallen.Tie as tie
-use Rattle.machine.proofs.ages.fallen.Reads as reads
-use Rattle.machine.proofs.ages.fallen.Lts as lts
 
--- src/transmit.rt:49:9
 returns : tie.Need-returns
 returns c = rw (c .if1 .taken)
 
--- src/transmit.rt:51:11
 sub-t3 : tie.Need-sub-t3
 sub-t3 c = search needs
 
--- src/transmit.rt:45:1
 returns-2 : tie.Need-returns-2
 returns-2 c = search needs
 

@@ -1,16 +1,12 @@
+-- `machine::compare::same_numbers` meets its contract: the definition, with what the callees ensure put in. Assumes nothing.
 use Rattle.machine.specs.Compare.{sameNumbers}
 use borrow.Author.Needs.{needs}
 use Rattle.machine.proofs.compare.same_numbers.Statement.{statement}
 use Rattle.machine.proofs.compare.same_numbers.Tie as tie
-use Rattle.machine.proofs.compare.same_numbers.Reads as reads
-use Rattle.machine.proofs.compare.same_numbers.Lts as lts
-use Rattle.machine.proofs.compare.same_system.Reads as same-system-reads
 
--- src/compare.rt:36:5
 same-system-requires : tie.Need-same-system-requires
 same-system-requires c κs = search needs
 
--- src/compare.rt:31:1
 returns : tie.Need-returns
 unfolding sameNumbers
 returns c = simp (c .before .before .before .before .before .before .same-system .ensures)

@@ -1,44 +1,33 @@
+-- `machine::compare::same_state` meets its contract: the definition, with what the callees ensure put in. Assumes nothing.
 use Rattle.machine.specs.Compare.{sameState}
 use borrow.Author.Needs.{needs}
 use Rattle.machine.proofs.compare.same_state.Statement.{statement}
 use Rattle.machine.proofs.compare.same_state.Tie as tie
-use Rattle.machine.proofs.compare.same_state.Reads as reads
-use Rattle.machine.proofs.compare.same_state.Lts as lts
-use Rattle.machine.proofs.compare.alike.Reads as alike-reads
 
--- src/compare.rt:66:5
 alike-requires : tie.Need-alike-requires
 alike-requires c κs = search needs
 
--- src/compare.rt:67:12
 alike-requires-2 : tie.Need-alike-requires-2
 alike-requires-2 c κs = search needs
 
--- src/compare.rt:68:16
 alike-requires-3 : tie.Need-alike-requires-3
 alike-requires-3 c κs = search needs
 
--- src/compare.rt:69:20
 alike-requires-4 : tie.Need-alike-requires-4
 alike-requires-4 c κs = search needs
 
--- src/compare.rt:70:24
 alike-requires-5 : tie.Need-alike-requires-5
 alike-requires-5 c κs = search needs
 
--- src/compare.rt:71:28
 alike-requires-6 : tie.Need-alike-requires-6
 alike-requires-6 c κs = search needs
 
--- src/compare.rt:72:32
 alike-requires-7 : tie.Need-alike-requires-7
 alike-requires-7 c κs = search needs
 
--- src/compare.rt:72:66
 alike-requires-8 : tie.Need-alike-requires-8
 alike-requires-8 c κs = search needs
 
--- src/compare.rt:63:1
 returns : tie.Need-returns
 unfolding sameState
 returns c = simp (c .alike8 .ensures, c .before .alike7 .ensures, c .before .before .alike6 .ensures, c .before .before .before .alike5 .ensures, c .before .before .before .before .alike4 .ensures, c .before .before .before .before .before .alike3 .ensures, c .before .before .before .before .before .before .alike2 .ensures, c .before .before .before .before .before .before .before .alike .ensures)

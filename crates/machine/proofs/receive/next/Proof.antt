@@ -1,86 +1,65 @@
+-- `machine::receive::next` meets its contract: on each way out it gives what the definition gives, by the tests on the way. Assumes nothing.
 use borrow.Author.Needs.{needs}
 use Rattle.machine.proofs.receive.next.Statement.{statement}
 use Rattle.machine.proofs.receive.next.Tie as tie
-use Rattle.machine.proofs.receive.next.Reads as reads
-use Rattle.machine.proofs.receive.next.Lts as lts
 
--- src/receive.rt:37:51
 enum-told : tie.Need-enum-told
 enum-told c = search needs
 
--- src/receive.rt:39:16
 enum-told-2 : tie.Need-enum-told-2
 enum-told-2 c = search needs
 
--- src/receive.rt:41:21
 returns : tie.Need-returns
 returns c = simp (c .if2 .taken, c .before .if1 .taken, c .before .before .enum-told2 .given .1)
 
--- src/receive.rt:43:17
 returns-2 : tie.Need-returns-2
 returns-2 c = simp (c .if2 .left, c .before .if1 .taken, c .before .before .enum-told2 .given .1)
 
--- src/receive.rt:48:16
 enum-told-3 : tie.Need-enum-told-3
 enum-told-3 c = search needs
 
--- src/receive.rt:50:21
 returns-3 : tie.Need-returns-3
 returns-3 c = simp (c .if4 .taken, c .before .if3 .taken, c .before .before .enum-told3 .given .1)
 
--- src/receive.rt:52:17
 returns-4 : tie.Need-returns-4
 returns-4 c = search needs
 
--- src/receive.rt:57:16
 enum-told-4 : tie.Need-enum-told-4
 enum-told-4 c = search needs
 
--- src/receive.rt:58:17
 returns-5 : tie.Need-returns-5
 returns-5 c = search needs
 
--- src/receive.rt:63:16
 enum-told-5 : tie.Need-enum-told-5
 enum-told-5 c = search needs
 
--- src/receive.rt:64:17
 returns-6 : tie.Need-returns-6
 returns-6 c = search needs
 
--- src/receive.rt:69:16
 enum-told-6 : tie.Need-enum-told-6
 enum-told-6 c = search needs
 
--- src/receive.rt:71:21
 returns-7 : tie.Need-returns-7
 returns-7 c = simp (c .if8 .taken, c .before .if7 .taken, c .before .before .enum-told6 .given .1)
 
--- src/receive.rt:73:17
 returns-8 : tie.Need-returns-8
 returns-8 c = search needs
 
--- src/receive.rt:33:1
 returns-9 : tie.Need-returns-9
 returns-9 c = simp (c .enum-told .given .1)
 
--- src/receive.rt:33:1
 returns-10 : tie.Need-returns-10
 returns-10 c = search needs
 
--- src/receive.rt:33:1
 returns-11 : tie.Need-returns-11
 returns-11 c = simp (c .if3 .left, c .before .enum-told3 .given .1)
 
--- src/receive.rt:33:1
 returns-12 : tie.Need-returns-12
 returns-12 c = simp (c .if5 .left, c .before .enum-told4 .given .1)
 
--- src/receive.rt:33:1
 returns-13 : tie.Need-returns-13
 returns-13 c = simp (c .if6 .left, c .before .enum-told5 .given .1)
 
--- src/receive.rt:33:1
 returns-14 : tie.Need-returns-14
 returns-14 c = simp (c .if7 .left, c .before .enum-told6 .given .1)
 

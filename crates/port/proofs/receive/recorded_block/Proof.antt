@@ -1,3 +1,5 @@
+-- `port::receive::recorded_block` meets its contract: whichever of the two blocks applies has 15 octets, and is read.
+-- Assumes nothing.
 use mathlib.Core.Path.{_≡_, refl}
 use mathlib.Core.List.{List}
 use Prim.Native.Nat.{ℕ}
@@ -16,29 +18,23 @@ applying-length : (s : Source) (a b : List ℕ) → length a ≡ 15 → length b
 applying-length Default a b ha hb = hb
 applying-length Pdu a b ha hb = ha
 
--- src/receive.rt:86:19
 slice-aggregate-write : tie.Need-slice-aggregate-write
 slice-aggregate-write c = search needs
 
--- src/receive.rt:86:5
 write-requires : tie.Need-write-requires
 write-requires c κs = search needs
 
--- src/receive.rt:87:52
 slice-aggregate-recorded : tie.Need-slice-aggregate-recorded
 slice-aggregate-recorded c = search needs
 
--- src/receive.rt:87:17
 recorded-requires : tie.Need-recorded-requires
 recorded-requires c κs = search needs
 
--- src/receive.rt:87:5
 read-requires : tie.Need-read-requires
 read-requires c κs =
     let a = (c .before .before .before .before .before .before .args) in
     rw ((c .recorded .ensures), (c .before .before .before .write .ensures)) (applying-length (a .source) (now (a .pdu)) (blockOctets (a .default)) (c .before .before .before .before .before .before .pre) refl)
 
--- src/receive.rt:81:1
 returns : tie.Need-returns
 returns c = rw ((c .read .ensures), (c .before .recorded .ensures), (c .before .before .before .before .write .ensures))
 

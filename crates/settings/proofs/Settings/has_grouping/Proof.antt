@@ -1,16 +1,12 @@
+-- `settings::Settings::has_grouping` meets its contract: the definition, with what the callees ensure put in. Assumes nothing.
 use Rattle.settings.specs.Settings.{sameGrouping}
 use borrow.Author.Needs.{needs}
 use Rattle.settings.proofs.Settings.has_grouping.Statement.{statement}
 use Rattle.settings.proofs.Settings.has_grouping.Tie as tie
-use Rattle.settings.proofs.Settings.has_grouping.Reads as reads
-use Rattle.settings.proofs.Settings.has_grouping.Lts as lts
-use Rattle.machine.proofs.compare.alike.Reads as alike-reads
 
--- src/lib.rt:104:72
 alike-requires : tie.Need-alike-requires
 alike-requires c κs = search needs
 
--- src/lib.rt:101:5
 returns : tie.Need-returns
 unfolding sameGrouping
 returns c = simp (c .alike .ensures)

@@ -1,18 +1,14 @@
+-- `machine::states::Ages::with_send` meets its contract: on each way out it gives what the definition gives, by the tests on the way. Assumes nothing.
 use borrow.Author.Tests.{eq-eqb, ne-eqb}
 use Rattle.machine.proofs.states.Ages.with_send.Statement.{statement}
 use Rattle.machine.proofs.states.Ages.with_send.Tie as tie
-use Rattle.machine.proofs.states.Ages.with_send.Reads as reads
-use Rattle.machine.proofs.states.Ages.with_send.Lts as lts
 
--- src/transmit.rt:66:13
 returns : tie.Need-returns
 returns c = rw (eq-eqb _ _ (c .if1 .taken))
 
--- src/transmit.rt:69:13
 returns-2 : tie.Need-returns-2
 returns-2 c = rw (ne-eqb _ _ (c .before .before .if1 .left), eq-eqb _ _ (c .if2 .taken))
 
--- src/transmit.rt:62:5
 returns-3 : tie.Need-returns-3
 returns-3 c = rw (ne-eqb _ _ (c .before .before .if1 .left), ne-eqb _ _ (c .if2 .left))
 

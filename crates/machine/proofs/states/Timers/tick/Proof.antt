@@ -1,23 +1,17 @@
+-- `machine::states::Timers::tick` meets its contract: the definition, with what the callees ensure put in. Assumes nothing.
 use borrow.Author.Needs.{needs}
 use Rattle.machine.proofs.states.Timers.tick.Statement.{statement}
 use Rattle.machine.proofs.states.Timers.tick.Tie as tie
-use Rattle.machine.proofs.states.Timers.tick.Reads as reads
-use Rattle.machine.proofs.states.Timers.tick.Lts as lts
-use Rattle.machine.proofs.ages.fallen.Reads as fallen-reads
 
--- src/ages.rt:70:27
 fallen-requires : tie.Need-fallen-requires
 fallen-requires c κs = search needs
 
--- src/ages.rt:70:54
 fallen-requires-2 : tie.Need-fallen-requires-2
 fallen-requires-2 c κs = search needs
 
--- src/ages.rt:70:78
 fallen-requires-3 : tie.Need-fallen-requires-3
 fallen-requires-3 c κs = search needs
 
--- src/ages.rt:64:5
 returns : tie.Need-returns
 returns c = simp (c .fallen3 .ensures, c .before .fallen2 .ensures, c .before .before .fallen .ensures)
 

@@ -1,23 +1,20 @@
+-- `port::record::Port::attach` meets its contract: on each way out it gives what the definition gives, by the tests on the way. Assumes nothing.
 use mathlib.Core.Path.{sym, _∙_}
 use Rattle.port.specs.Mux.{attachedIf}
 use borrow.Author.Needs.{needs}
 use Rattle.port.proofs.record.Port.attach.Statement.{statement}
 use Rattle.port.proofs.record.Port.attach.Tie as tie
 
--- src/mux.rt:198:12
 waits-requires : tie.Need-waits-requires
 waits-requires c κs = search needs
 
--- src/mux.rt:198:24
 mux-step-requires : tie.Need-mux-step-requires
 mux-step-requires c κs = search needs
 
--- src/mux.rt:193:5
 returns : tie.Need-returns
 unfolding attachedIf
 returns c = rw (sym (c .before .before .waits .ensures) ∙ (c .before .if1 .taken), c .mux-step .ensures)
 
--- src/mux.rt:193:5
 returns-2 : tie.Need-returns-2
 unfolding attachedIf
 returns-2 c = rw (sym (c .before .waits .ensures) ∙ (c .if1 .left))

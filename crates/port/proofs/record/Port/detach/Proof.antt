@@ -1,25 +1,21 @@
+-- `port::record::Port::detach` meets its contract: the definition, with what the callees ensure put in. Assumes nothing.
 use Rattle.port.specs.Mux.{detached}
 use borrow.Author.Needs.{needs}
 use Rattle.port.proofs.record.Port.detach.Statement.{statement}
 use Rattle.port.proofs.record.Port.detach.Tie as tie
 
--- src/mux.rt:181:9
 with-selected-requires : tie.Need-with-selected-requires
 with-selected-requires c κs = search needs
 
--- src/mux.rt:181:9
 mux-step-requires : tie.Need-mux-step-requires
 mux-step-requires c κs = search needs
 
--- src/mux.rt:181:9
 mux-step-requires-2 : tie.Need-mux-step-requires-2
 mux-step-requires-2 c κs = search needs
 
--- src/mux.rt:181:9
 mux-step-requires-3 : tie.Need-mux-step-requires-3
 mux-step-requires-3 c κs = search needs
 
--- src/mux.rt:178:5
 returns : tie.Need-returns
 unfolding detached
 returns c = simp (c .mux-step3 .ensures, c .before .mux-step2 .ensures, c .before .before .mux-step .ensures, c .before .before .before .with-selected .ensures)

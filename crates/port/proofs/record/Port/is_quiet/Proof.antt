@@ -1,12 +1,11 @@
+-- `port::record::Port::is_quiet` meets its contract: the definition, with what the callees ensure put in. Assumes nothing.
 use borrow.Author.Needs.{needs}
 use Rattle.port.proofs.record.Port.is_quiet.Statement.{statement}
 use Rattle.port.proofs.record.Port.is_quiet.Tie as tie
 
--- src/periodic.rt:64:44
 both-passive-requires : tie.Need-both-passive-requires
 both-passive-requires c κs = search needs
 
--- src/periodic.rt:61:5
 returns : tie.Need-returns
 returns c = simp (c .both-passive .ensures)
 

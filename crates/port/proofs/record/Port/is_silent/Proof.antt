@@ -1,13 +1,12 @@
+-- `port::record::Port::is_silent` meets its contract: the definition, with what the callees ensure put in. Assumes nothing.
 use Rattle.port.specs.Transmit.{silent}
 use borrow.Author.Needs.{needs}
 use Rattle.port.proofs.record.Port.is_silent.Statement.{statement}
 use Rattle.port.proofs.record.Port.is_silent.Tie as tie
 
--- src/transmit.rt:104:43
 both-passive-requires : tie.Need-both-passive-requires
 both-passive-requires c κs = search needs
 
--- src/transmit.rt:101:5
 returns : tie.Need-returns
 unfolding silent
 returns c = simp (c .before .both-passive .ensures)

@@ -1,17 +1,15 @@
+-- `port::record::Port::moved_away` meets its contract: the definition, with what the callees ensure put in. Assumes nothing.
 use Rattle.port.specs.Receive.{moved}
 use borrow.Author.Needs.{needs}
 use Rattle.port.proofs.record.Port.moved_away.Statement.{statement}
 use Rattle.port.proofs.record.Port.moved_away.Tie as tie
 
--- src/receive.rt:254:9
 initialize-requires : tie.Need-initialize-requires
 initialize-requires c κs = search needs
 
--- src/receive.rt:254:9
 port-disabled-requires : tie.Need-port-disabled-requires
 port-disabled-requires c κs = search needs
 
--- src/receive.rt:251:5
 returns : tie.Need-returns
 unfolding moved
 returns c = simp (c .port-disabled .ensures, c .before .initialize .ensures)

@@ -1,17 +1,15 @@
+-- `port::record::Port::mux` meets its contract: the definition, with what the callees ensure put in. Assumes nothing.
 use Rattle.port.specs.Mux.{muxRun}
 use borrow.Author.Needs.{needs}
 use Rattle.port.proofs.record.Port.mux.Statement.{statement}
 use Rattle.port.proofs.record.Port.mux.Tie as tie
 
--- src/mux.rt:205:9
 mux-step-requires : tie.Need-mux-step-requires
 mux-step-requires c κs = search needs
 
--- src/mux.rt:205:9
 mux-step-requires-2 : tie.Need-mux-step-requires-2
 mux-step-requires-2 c κs = search needs
 
--- src/mux.rt:202:5
 returns : tie.Need-returns
 unfolding muxRun
 returns c = simp (c .mux-step2 .ensures, c .before .mux-step .ensures)

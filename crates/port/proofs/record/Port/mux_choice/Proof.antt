@@ -1,13 +1,12 @@
+-- `port::record::Port::mux_choice` meets its contract: the definition, with what the callees ensure put in. Assumes nothing.
 use Rattle.port.specs.Mux.{muxChoice}
 use borrow.Author.Needs.{needs}
 use Rattle.port.proofs.record.Port.mux_choice.Statement.{statement}
 use Rattle.port.proofs.record.Port.mux_choice.Tie as tie
 
--- src/mux.rt:165:9
 next-requires : tie.Need-next-requires
 next-requires c κs = search needs
 
--- src/mux.rt:159:5
 returns : tie.Need-returns
 unfolding muxChoice
 returns c = simp (c .next .ensures)

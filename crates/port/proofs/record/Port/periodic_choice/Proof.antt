@@ -1,17 +1,15 @@
+-- `port::record::Port::periodic_choice` meets its contract: the definition, with what the callees ensure put in. Assumes nothing.
 use Rattle.port.specs.Periodic.{periodicChoice}
 use borrow.Author.Needs.{needs}
 use Rattle.port.proofs.record.Port.periodic_choice.Statement.{statement}
 use Rattle.port.proofs.record.Port.periodic_choice.Tie as tie
 
--- src/periodic.rt:99:21
 is-quiet-requires : tie.Need-is-quiet-requires
 is-quiet-requires c κs = search needs
 
--- src/periodic.rt:99:9
 next-requires : tie.Need-next-requires
 next-requires c κs = search needs
 
--- src/periodic.rt:93:5
 returns : tie.Need-returns
 unfolding periodicChoice
 returns c = simp (c .next .ensures, c .before .is-quiet .ensures)

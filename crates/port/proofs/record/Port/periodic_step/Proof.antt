@@ -1,31 +1,26 @@
+-- `port::record::Port::periodic_step` meets its contract: on each way out it gives what the definition gives, by the tests on the way. Assumes nothing.
 use mathlib.Core.Path.{sym, _∙_}
 use Rattle.port.specs.Periodic.{periodicStep}
 use borrow.Author.Needs.{needs}
 use Rattle.port.proofs.record.Port.periodic_step.Statement.{statement}
 use Rattle.port.proofs.record.Port.periodic_step.Tie as tie
 
--- src/periodic.rt:105:15
 periodic-choice-requires : tie.Need-periodic-choice-requires
 periodic-choice-requires c κs = search needs
 
--- src/periodic.rt:106:35
 enum-told : tie.Need-enum-told
 enum-told c = search needs
 
--- src/periodic.rt:107:33
 enum-known-s : tie.Need-enum-known-s
 enum-known-s c = search needs
 
--- src/periodic.rt:107:39
 enter-periodic-requires : tie.Need-enter-periodic-requires
 enter-periodic-requires c κs = search needs
 
--- src/periodic.rt:102:5
 returns : tie.Need-returns
 unfolding periodicStep
 returns c = rw (sym (c .before .before .periodic-choice .ensures) ∙ (c .enum-told .given .1))
 
--- src/periodic.rt:102:5
 returns-2 : tie.Need-returns-2
 unfolding periodicStep
 returns-2 c = rw (sym (c .before .before .before .before .periodic-choice .ensures) ∙ (c .before .before .s .given .1), c .enter-periodic .ensures)

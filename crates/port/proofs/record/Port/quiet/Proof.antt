@@ -1,19 +1,17 @@
+-- `port::record::Port::quiet` meets its contract: on each way out it gives what the definition gives, by the tests on the way. Assumes nothing.
 use mathlib.Core.Path.{sym, _∙_}
 use Rattle.port.specs.Transmit.{quieted}
 use borrow.Author.Needs.{needs}
 use Rattle.port.proofs.record.Port.quiet.Statement.{statement}
 use Rattle.port.proofs.record.Port.quiet.Tie as tie
 
--- src/transmit.rt:111:12
 is-silent-requires : tie.Need-is-silent-requires
 is-silent-requires c κs = search needs
 
--- src/transmit.rt:113:13
 returns : tie.Need-returns
 unfolding quieted
 returns c = simp (sym (c .before .is-silent .ensures) ∙ (c .if1 .taken))
 
--- src/transmit.rt:108:5
 returns-2 : tie.Need-returns-2
 unfolding quieted
 returns-2 c = simp (sym (c .before .is-silent .ensures) ∙ (c .if1 .left))

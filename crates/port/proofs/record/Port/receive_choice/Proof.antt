@@ -1,13 +1,12 @@
+-- `port::record::Port::receive_choice` meets its contract: the definition, with what the callees ensure put in. Assumes nothing.
 use Rattle.port.specs.Receive.{receiveChoice}
 use borrow.Author.Needs.{needs}
 use Rattle.port.proofs.record.Port.receive_choice.Statement.{statement}
 use Rattle.port.proofs.record.Port.receive_choice.Tie as tie
 
--- src/receive.rt:231:9
 next-requires : tie.Need-next-requires
 next-requires c κs = search needs
 
--- src/receive.rt:225:5
 returns : tie.Need-returns
 unfolding receiveChoice
 returns c = simp (c .next .ensures)

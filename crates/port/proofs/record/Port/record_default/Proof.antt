@@ -1,3 +1,4 @@
+-- `recordDefault` meets its contract: the default block goes to its octets and back unchanged. Assumes nothing.
 use mathlib.Core.Path.{_∙_}
 use Rattle.frame.proofs.BlockLaws.{block-back}
 use Rattle.port.specs.Receive.{recordDefault}
@@ -5,15 +6,12 @@ use borrow.Author.Needs.{needs}
 use Rattle.port.proofs.record.Port.record_default.Statement.{statement}
 use Rattle.port.proofs.record.Port.record_default.Tie as tie
 
--- src/receive.rt:108:53
 slice-aggregate-recorded-block : tie.Need-slice-aggregate-recorded-block
 slice-aggregate-recorded-block c = search needs
 
--- src/receive.rt:108:13
 recorded-block-requires : tie.Need-recorded-block-requires
 recorded-block-requires c κs = search needs
 
--- src/receive.rt:103:5
 returns : tie.Need-returns
 unfolding recordDefault
 returns c =

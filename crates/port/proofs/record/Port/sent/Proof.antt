@@ -1,13 +1,12 @@
+-- `port::record::Port::sent` meets its contract: the definition, with what the callees ensure put in. Assumes nothing.
 use Rattle.port.specs.Transmit.{sent}
 use borrow.Author.Needs.{needs}
 use Rattle.port.proofs.record.Port.sent.Statement.{statement}
 use Rattle.port.proofs.record.Port.sent.Tie as tie
 
--- src/transmit.rt:95:13
 with-send-requires : tie.Need-with-send-requires
 with-send-requires c κs = search needs
 
--- src/transmit.rt:91:5
 returns : tie.Need-returns
 unfolding sent
 returns c = simp (c .with-send .ensures)

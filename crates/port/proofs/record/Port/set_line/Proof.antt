@@ -1,31 +1,23 @@
+-- `port::record::Port::set_line` meets its contract: on each way out it gives what the definition gives, by the tests on the way. Assumes nothing.
 use mathlib.Core.Path.{sym, _∙_}
 use Rattle.port.specs.Receive.{lined}
 use borrow.Author.Needs.{needs}
 use Rattle.port.proofs.record.Port.set_line.Statement.{statement}
 use Rattle.port.proofs.record.Port.set_line.Tie as tie
-use Rattle.port.proofs.record.Port.set_line.Reads as reads
-use Rattle.port.proofs.record.Port.set_line.Lts as lts
-use Rattle.machine.proofs.states.Line.same.Reads as same-reads
-use Rattle.port.proofs.record.Port.receive.Reads as receive-reads
 
--- src/receive.rt:206:12
 same-requires : tie.Need-same-requires
 same-requires c κs = search needs
 
--- src/receive.rt:207:13
 returns : tie.Need-returns
 unfolding lined
 returns c = simp (sym (c .before .same .ensures) ∙ (c .if1 .taken))
 
--- src/receive.rt:210:13
 receive-requires : tie.Need-receive-requires
 receive-requires c κs = search needs
 
--- src/receive.rt:212:9
 receive-requires-2 : tie.Need-receive-requires-2
 receive-requires-2 c κs = search needs
 
--- src/receive.rt:202:5
 returns-2 : tie.Need-returns-2
 unfolding lined
 returns-2 c = simp (c .receive2 .ensures, c .before .receive .ensures, sym (c .before .before .before .before .same .ensures) ∙ (c .before .before .before .if1 .left))
