@@ -14,6 +14,7 @@ crates/cases/stdout: for frame number N, from 1, what document 01 says of it:
         N response
     Numbers are in hexadecimal; STATE has a letter of ATGSCDFE for each set bit, from bit 0.
     HEX is 124 octets with OWN_ADDRESS and, in an LACPDU, COLLECTOR_MAX_DELAY.
+    After the frames comes the story of one port, as tools/story.txt has it.
 
 To make both again:
     apt-get install python3-scapy
@@ -27,6 +28,8 @@ from scapy.contrib.lacp import LACP, MarkerProtocol, SlowProtocol
 from scapy.layers.l2 import Ether
 
 CASES = Path(__file__).resolve().parent.parent / "crates" / "cases"
+# What the program prints after the frames, worked out by hand from the figures of Clause 43.
+STORY = Path(__file__).resolve().parent / "story.txt"
 
 SLOW_ADDRESS = "01:80:c2:00:00:02"
 SLOW_TYPE = 0x8809
@@ -320,7 +323,7 @@ def main():
         text += text_of(number, frame)
     (CASES / "data").mkdir(parents=True, exist_ok=True)
     (CASES / "data" / "frames").write_bytes(frames)
-    (CASES / "stdout").write_text(text, encoding="ascii")
+    (CASES / "stdout").write_text(text + STORY.read_text(encoding="ascii"), encoding="ascii")
     print(f"{len(cases)} frames, {len(frames)} octets")
 
 

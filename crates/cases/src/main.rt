@@ -1,5 +1,7 @@
 // Reads the frames of the file `frames`, which an independent program wrote (tools/make-frames.py), and prints what the
 // frame tests say of each: of an LACPDU also its two blocks and the LACPDU that is written from them, of a Marker the Response.
+mod story;
+
 ghost use Prim.Native.Nat.{_≤_};
 ghost use mathlib.Core.Path.{_≡_};
 ghost use lib.ListN.{length};
@@ -20,7 +22,7 @@ fn own_address() -> Address {
     }
 }
 
-fn print(text: &[u8]) {
+pub(crate) fn print(text: &[u8]) {
     io::write_all(STDOUT_FILENO, text);
 }
 
@@ -43,7 +45,7 @@ fn print_bit(bit: bool, letter: u8) {
     if bit { print(&[letter]) } else { print(b"-") }
 }
 
-fn print_state(s: PortState) {
+pub(crate) fn print_state(s: PortState) {
     print_bit(s.activity, b'A');
     print_bit(s.timeout, b'T');
     print_bit(s.aggregation, b'G');
@@ -151,4 +153,5 @@ fn main() {
     }
     print_all(fd);
     libc::close(fd);
+    story::print_story();
 }
