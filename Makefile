@@ -1,6 +1,6 @@
 .PHONY: cases test
 
-# Proves the libraries and the program, and prints what the frame tests say of 170 frames that scapy wrote.
+# Proves the libraries and the program, and prints what the frame tests say of 170 frames that scapy wrote, and one port's story.
 cases:
 	rt check cases
 	cat crates/cases/stdout
