@@ -1,0 +1,6 @@
+pub mod OctetLaws
+pub mod CodeLaws
+pub mod RangeLaws
+pub mod RecordLaws
+pub mod StoreLaws
+pub mod TableLaws

@@ -1,0 +1,97 @@
+use mathlib.Core.Path.{refl, _∙_}
+use mathlib.Core.List.{[], _∷_}
+use native.Mathlib.Omega.{arith}
+use denote.Ref.{now}
+use Rattle.octets.specs.Octets.{putAt}
+use Rattle.octets.proofs.Laws.{put-part, written, over-all}
+use Rattle.frame.specs.Block.{blockOctets}
+use Rattle.table.specs.Record.{phaseOctets, statusOctets, timersOctets, agesOctets, ownOctets, encoded}
+use borrow.Author.Needs.{needs}
+use Rattle.table.proofs.record.write_record.Statement.{statement}
+use Rattle.table.proofs.record.write_record.Tie as tie
+use Rattle.table.proofs.record.write_record.Reads as reads
+use Rattle.table.proofs.record.write_record.Lts as lts
+use Rattle.frame.proofs.block.Block.write.Reads as write-reads
+use Rattle.table.proofs.record.write_ages.Reads as write-ages-reads
+use Rattle.table.proofs.record.write_own.Reads as write-own-reads
+use Rattle.table.proofs.record.write_phase.Reads as write-phase-reads
+use Rattle.table.proofs.record.write_status.Reads as write-status-reads
+use Rattle.table.proofs.record.write_timers.Reads as write-timers-reads
+
+-- src/record.rt:177:5
+write-phase-requires : tie.Need-write-phase-requires
+write-phase-requires c κs = search needs
+
+-- src/record.rt:180:5
+write-status-requires : tie.Need-write-status-requires
+write-status-requires c κs = search needs
+
+-- src/record.rt:182:5
+write-timers-requires : tie.Need-write-timers-requires
+write-timers-requires c κs = search needs
+
+-- src/record.rt:184:5
+write-ages-requires : tie.Need-write-ages-requires
+write-ages-requires c κs = search needs
+
+-- src/record.rt:186:5
+write-own-requires : tie.Need-write-own-requires
+write-own-requires c κs = search needs
+
+-- src/record.rt:188:19
+sub-write : tie.Need-sub-write
+sub-write c = search needs
+
+-- src/record.rt:188:19
+part-write-start : tie.Need-part-write-start
+part-write-start c = search needs
+
+-- src/record.rt:188:19
+part-write-end : tie.Need-part-write-end
+part-write-end c = search needs
+
+-- src/record.rt:188:5
+write-requires : tie.Need-write-requires
+write-requires c κs = search needs
+
+-- src/record.rt:172:1
+same-length : tie.Need-same-length
+same-length c = search needs
+
+-- src/record.rt:172:1
+returns : tie.Need-returns
+unfolding encoded
+returns c =
+    let p = c .before .before .before .before .before .before .before .before .before .before .before .before .before .before .before .before .before .before .before .before .before .before .before .before .before .before .before .before .before .before .before .before .args .p in
+    let l = now (c .before .before .before .before .before .before .before .before .before .before .before .before .before .before .before .before .before .before .before .before .before .before .before .before .before .before .before .before .before .before .before .before .args .out) in
+    let status = statusOctets (p .aggregator) (p .ntt) (p .line) (p .actor) in
+    let front =
+    putAt 17 (ownOctets (p .own)) (putAt 14 (agesOctets (p .ages)) (putAt 9 (timersOctets (p .timers)) (putAt 4 status (putAt 0 (phaseOctets (p .phase)) l)))) in
+    rw (
+      c .before .before .write .ensures,
+      c .before .before .before .before .before .before .before .write-own .ensures,
+      c .before .before .before .before .before .before .before .before .before .before .before .before .write-ages .ensures,
+      c .before .before .before .before .before .before .before .before .before .before .before .before .before .before .before .before .before .write-timers .ensures,
+      c .before .before .before .before .before .before .before .before .before .before .before .before .before .before .before .before .before .before .before .before .before .before .write-status .ensures,
+      c .before .before .before .before .before .before .before .before .before .before .before .before .before .before .before .before .before .before .before .before .before .before .before .before .before .before .before .before .write-phase .ensures,
+    )
+    (put-part 42 57 (blockOctets (p .partner)) front refl
+    ∙ written
+    (phaseOctets (p .phase) ∷ status ∷ timersOctets (p .timers) ∷ agesOctets (p .ages) ∷ ownOctets (p .own) ∷ blockOctets (p .partner) ∷ []) l
+    ∙ over-all (encoded p) l (omega arith))
+
+pub write-record-spec : {M : Type 1} → statement M
+write-record-spec =
+    tie.close
+    (tie.spec
+    write-phase-requires
+    write-status-requires
+    write-timers-requires
+    write-ages-requires
+    write-own-requires
+    sub-write
+    part-write-start
+    part-write-end
+    write-requires
+    same-length
+    returns)

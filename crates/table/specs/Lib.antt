@@ -1,0 +1,5 @@
+pub mod Layout
+pub mod Codes
+pub mod Record
+pub mod Range
+pub mod Table

@@ -1,0 +1,83 @@
+// The table in lent memory: a header and one record for each port. Where each field lies, reading and writing records, and the
+// check that answer 1 rests on. Nothing of a table's size stands on the stack.
+ghost use mathlib.Core.Path.{_≡_};
+ghost use Prim.Native.Nat.{_+_, _≤_};
+ghost use lib.ListN.{length};
+ghost use Rattle.octets.specs.Octets.{putAt};
+ghost use Rattle.table.specs.Layout.{place, tableSize, recordSize};
+ghost use Rattle.table.specs.Record.{encoded};
+ghost use Rattle.table.specs.Range.{recordInRange};
+ghost use Rattle.table.specs.Table.{portAt, recordAt, firstInRange, tableInRange};
+use crate::layout::HEADER;
+use crate::layout::MOST_PORTS;
+use crate::layout::RECORD;
+use crate::layout::place_of;
+use crate::range::is_record;
+use crate::range::within;
+use crate::record::read_record;
+use crate::record::write_record;
+use port::record::Port;
+
+pub mod codes;
+pub mod layout;
+pub mod range;
+pub mod record;
+
+// The record of port `i`, from 0.
+pub fn load(table: &[u8], i: usize) -> Port
+    requires { ⌜ place i + recordSize ≤ length (now table) ⌝ }
+    ensures { λ r. ⌜ r ≡ portAt (now (table .entry)) i ⌝ }
+{
+    let at = place_of(i);
+    read_record(&table[at..at + RECORD])
+}
+
+// Writes the record of port `i`, from 0; every other octet stays.
+pub fn store(table: &mut [u8], i: usize, p: Port)
+    requires { ⌜ place i + recordSize ≤ length (now table) ⌝ }
+    ensures { λ _. ⌜ now (table .exit) ≡ putAt (place i) (encoded p) (now (table .entry)) ⌝ }
+{
+    let at = place_of(i);
+    write_record(p, &mut table[at..at + RECORD]);
+}
+
+// Whether record `i`, from 0, of a table of `count` ports is in range.
+fn is_record_at(table: &[u8], i: usize, count: u8) -> bool
+    requires { ⌜ place i + recordSize ≤ length (now table) ⌝ }
+    ensures { λ r. ⌜ r ≡ recordInRange count (recordAt (now (table .entry)) i) ⌝ }
+{
+    let at = place_of(i);
+    is_record(count, &table[at..at + RECORD])
+}
+
+// Whether every record of a table of `count` ports is in range.
+fn has_records(table: &[u8], count: u8) -> bool
+    requires { ⌜ tableSize count ≤ length (now table) ⌝ }
+    ensures { λ r. ⌜ r ≡ firstInRange count count (now (table .entry)) ⌝ }
+{
+    let n = count as usize;
+    let mut good = true;
+    let mut i: usize = 0;
+    while i < n {
+        good = good & is_record_at(table, i, count);
+        i += 1;
+    }
+    good
+}
+
+// Whether memory, of any length and content, is a table: answer 1 is given exactly if not.
+pub fn is_table(table: &[u8]) -> bool
+    ensures { λ r. ⌜ r ≡ tableInRange (now (table .entry)) ⌝ }
+{
+    if table.len() < HEADER {
+        return false;
+    }
+    let count = table[0];
+    if !within(1, count, MOST_PORTS) {
+        return false;
+    }
+    if table.len() != place_of(count as usize) {
+        return false;
+    }
+    has_records(table, count)
+}

@@ -1,0 +1,63 @@
+// Answer 1's ranges of a record's octets.
+ghost use mathlib.Core.Path.{_≡_};
+ghost use lib.ListN.{length};
+ghost use Rattle.table.specs.Layout.{recordSize, within as Layout·within};
+ghost use Rattle.table.specs.Range.{codesInRange, timersInRange, ageInRange, agesInRange, recordInRange};
+use crate::record::ages_in;
+use crate::record::timers_in;
+use machine::ages::FORGOTTEN_AGE;
+use machine::ages::NO_SEND;
+use machine::entry::AGGREGATE_WAIT_TIME;
+use machine::periodic::SLOW_PERIODIC_TIME;
+use machine::states::Ages;
+use machine::states::Timers;
+use port::receive::LONG_TIMEOUT_TIME;
+
+// Whether n is neither below `low` nor above `high`.
+pub fn within(low: u8, n: u8, high: u8) -> bool
+    ensures { λ r. ⌜ r ≡ Layout·within low n high ⌝ }
+{
+    (low <= n) & (n <= high)
+}
+
+// States, aggregator held and flags, in a table of `count` ports.
+fn codes_in_range(count: u8, s: &[u8]) -> bool
+    requires { ⌜ length (now s) ≡ recordSize ⌝ }
+    ensures { λ r. ⌜ r ≡ codesInRange count (now (s .entry)) ⌝ }
+{
+    within(0, s[0], 5)
+        & (within(0, s[1], 3)
+            & (within(0, s[2], 4)
+                & (within(0, s[3], 1)
+                    & (within(1, s[4], count)
+                        & (within(0, s[5], 1) & (within(0, s[6], 1) & within(0, s[7], 1)))))))
+}
+
+// Each timer at most the longest time with which it is started.
+fn timers_in_range(timers: Timers) -> bool
+    ensures { λ r. ⌜ r ≡ timersInRange timers ⌝ }
+{
+    (timers.current.0 <= LONG_TIMEOUT_TIME)
+        & ((timers.periodic.0 <= SLOW_PERIODIC_TIME) & (timers.wait.0 <= AGGREGATE_WAIT_TIME))
+}
+
+// A send that is remembered, or none.
+fn age_in_range(age: u8) -> bool
+    ensures { λ r. ⌜ r ≡ ageInRange age ⌝ }
+{
+    (age < FORGOTTEN_AGE) | (age == NO_SEND)
+}
+
+fn ages_in_range(ages: Ages) -> bool
+    ensures { λ r. ⌜ r ≡ agesInRange ages ⌝ }
+{
+    age_in_range(ages.first) & (age_in_range(ages.second) & age_in_range(ages.third))
+}
+
+// Whether the octets of a record, in a table of `count` ports, are in range.
+pub fn is_record(count: u8, s: &[u8]) -> bool
+    requires { ⌜ length (now s) ≡ recordSize ⌝ }
+    ensures { λ r. ⌜ r ≡ recordInRange count (now (s .entry)) ⌝ }
+{
+    codes_in_range(count, s) & (timers_in_range(timers_in(s)) & ages_in_range(ages_in(s)))
+}

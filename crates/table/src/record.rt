@@ -1,0 +1,207 @@
+// A port's record and its 57 octets, group by group.
+ghost use mathlib.Core.Path.{_≡_};
+ghost use lib.ListN.{length};
+ghost use Rattle.octets.specs.Octets.{putAt};
+ghost use Rattle.table.specs.Layout.{recordSize};
+ghost use Rattle.table.specs.Record.{phaseOctets, phaseIn, statusOctets, lineIn, timersOctets, timersIn, agesOctets, agesIn, ownOctets, ownIn, encoded, decoded};
+use crate::codes::flag_octet;
+use crate::codes::flag_of;
+use crate::codes::mux_code;
+use crate::codes::mux_of;
+use crate::codes::periodic_code;
+use crate::codes::periodic_of;
+use crate::codes::receive_code;
+use crate::codes::receive_of;
+use crate::codes::selected_code;
+use crate::codes::selected_of;
+use frame::block::Address;
+use frame::block::Block;
+use frame::state::PortState;
+use machine::states::Ages;
+use machine::states::Line;
+use machine::states::Phase;
+use machine::states::Ticks;
+use machine::states::Timers;
+use port::record::Own;
+use port::record::Port;
+
+// Octets 0 to 3.
+fn write_phase(phase: Phase, out: &mut [u8])
+    requires { ⌜ length (now out) ≡ recordSize ⌝ }
+    ensures { λ _. ⌜ now (out .exit) ≡ putAt 0 (phaseOctets phase) (now (out .entry)) ⌝ }
+{
+    let receive = phase.receive;
+    let periodic = phase.periodic;
+    let mux = phase.mux;
+    let selected = phase.selected;
+    octets::put(
+        out,
+        0,
+        &[
+            receive_code(receive),
+            periodic_code(periodic),
+            mux_code(mux),
+            selected_code(selected),
+        ],
+    );
+}
+
+fn phase_in(s: &[u8]) -> Phase
+    requires { ⌜ length (now s) ≡ recordSize ⌝ }
+    ensures { λ r. ⌜ r ≡ phaseIn (now (s .entry)) ⌝ }
+{
+    Phase {
+        receive: receive_of(s[0]),
+        periodic: periodic_of(s[1]),
+        mux: mux_of(s[2]),
+        selected: selected_of(s[3]),
+    }
+}
+
+// Octets 4 to 8.
+fn write_status(aggregator: u8, ntt: bool, line: Line, actor: PortState, out: &mut [u8])
+    requires { ⌜ length (now out) ≡ recordSize ⌝ }
+    ensures { λ _. ⌜ now (out .exit) ≡ putAt 4 (statusOctets aggregator ntt line actor) (now (out .entry)) ⌝ }
+{
+    octets::put(
+        out,
+        4,
+        &[
+            aggregator,
+            flag_octet(ntt),
+            flag_octet(line.up),
+            flag_octet(line.full),
+            actor.octet(),
+        ],
+    );
+}
+
+fn line_in(s: &[u8]) -> Line
+    requires { ⌜ length (now s) ≡ recordSize ⌝ }
+    ensures { λ r. ⌜ r ≡ lineIn (now (s .entry)) ⌝ }
+{
+    Line {
+        up: flag_of(s[6]),
+        full: flag_of(s[7]),
+    }
+}
+
+// Octets 9 to 13. The wait timer has one octet.
+fn write_timers(timers: Timers, out: &mut [u8])
+    requires { ⌜ length (now out) ≡ recordSize ⌝ }
+    ensures { λ _. ⌜ now (out .exit) ≡ putAt 9 (timersOctets timers) (now (out .entry)) ⌝ }
+{
+    octets::put(
+        out,
+        9,
+        &[
+            octets::high_octet(timers.current.0),
+            octets::low_octet(timers.current.0),
+            octets::high_octet(timers.periodic.0),
+            octets::low_octet(timers.periodic.0),
+            octets::low_octet(timers.wait.0),
+        ],
+    );
+}
+
+fn wide(n: u8) -> u16
+    ensures { λ r. ⌜ r ≡ n ⌝ }
+{
+    n as u16
+}
+
+pub fn timers_in(s: &[u8]) -> Timers
+    requires { ⌜ length (now s) ≡ recordSize ⌝ }
+    ensures { λ r. ⌜ r ≡ timersIn (now (s .entry)) ⌝ }
+{
+    let current = Ticks(octets::number(s, 9));
+    let periodic = Ticks(octets::number(s, 11));
+    let wait = Ticks(wide(s[13]));
+    Timers {
+        current,
+        periodic,
+        wait,
+    }
+}
+
+// Octets 14 to 16.
+fn write_ages(ages: Ages, out: &mut [u8])
+    requires { ⌜ length (now out) ≡ recordSize ⌝ }
+    ensures { λ _. ⌜ now (out .exit) ≡ putAt 14 (agesOctets ages) (now (out .entry)) ⌝ }
+{
+    octets::put(out, 14, &[ages.first, ages.second, ages.third]);
+}
+
+pub fn ages_in(s: &[u8]) -> Ages
+    requires { ⌜ length (now s) ≡ recordSize ⌝ }
+    ensures { λ r. ⌜ r ≡ agesIn (now (s .entry)) ⌝ }
+{
+    Ages {
+        first: s[14],
+        second: s[15],
+        third: s[16],
+    }
+}
+
+// Octets 17 to 41.
+fn write_own(own: Own, out: &mut [u8])
+    requires { ⌜ length (now out) ≡ recordSize ⌝ }
+    ensures { λ _. ⌜ now (out .exit) ≡ putAt 17 (ownOctets own) (now (out .entry)) ⌝ }
+{
+    let address = own.address;
+    address.write(out, 17);
+    octets::put_number(out, 23, own.key);
+    octets::put_number(out, 25, own.priority);
+    let default = own.default;
+    default.write(&mut out[27..42]);
+}
+
+fn own_in(s: &[u8]) -> Own
+    requires { ⌜ length (now s) ≡ recordSize ⌝ }
+    ensures { λ r. ⌜ r ≡ ownIn (now (s .entry)) ⌝ }
+{
+    Own {
+        address: Address::read(s, 17),
+        key: octets::number(s, 23),
+        priority: octets::number(s, 25),
+        default: Block::read(&s[27..42]),
+    }
+}
+
+// Writes a record into its octets.
+pub fn write_record(p: Port, out: &mut [u8])
+    requires { ⌜ length (now out) ≡ recordSize ⌝ }
+    ensures { λ _. ⌜ now (out .exit) ≡ encoded p ⌝ }
+{
+    let phase = p.phase;
+    write_phase(phase, out);
+    let line = p.line;
+    let actor = p.actor;
+    write_status(p.aggregator, p.ntt, line, actor, out);
+    let timers = p.timers;
+    write_timers(timers, out);
+    let ages = p.ages;
+    write_ages(ages, out);
+    let own = p.own;
+    write_own(own, out);
+    let partner = p.partner;
+    partner.write(&mut out[42..57]);
+}
+
+// The record that 57 octets tell of.
+pub fn read_record(s: &[u8]) -> Port
+    requires { ⌜ length (now s) ≡ recordSize ⌝ }
+    ensures { λ r. ⌜ r ≡ decoded (now (s .entry)) ⌝ }
+{
+    Port {
+        phase: phase_in(s),
+        aggregator: s[4],
+        ntt: flag_of(s[5]),
+        line: line_in(s),
+        actor: PortState::of_octet(s[8]),
+        timers: timers_in(s),
+        ages: ages_in(s),
+        own: own_in(s),
+        partner: Block::read(&s[42..57]),
+    }
+}

@@ -1,0 +1,4 @@
+pub mod Selection
+pub mod Ready
+pub mod Settled
+pub mod Displaced

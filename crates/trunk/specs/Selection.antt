@@ -1,0 +1,53 @@
+-- The selection rule (43.4.14, document 01 'Selection'), over what it reads of each record. Ports are counted from 0 here, and their
+-- aggregators from 1.
+use Prim.Native.Nat.{ℕ, zero, suc, _+_}
+use mathlib.Core.Bool.{Bool, false, cond, not, _&&_, _||_}
+use mathlib.Core.List.{List}
+use lib.ListN.{getD}
+use lib.Dec.{eqb}
+use Rattle.frame.specs.declared.block.SystemId.{SystemId}
+use Rattle.machine.specs.Compare.{sameSystem}
+use Rattle.port.specs.Compared.{Compared}
+
+-- a port is individual if its own or its partner's Aggregation is clear, or its partner's system priority and address are ours
+unfoldable pub individual : SystemId → Compared → Bool
+individual ours c = not (c .aggregation) || (not (c .partnerAggregation) || sameSystem (c .system) ours)
+
+-- own key, partner system priority, partner system and partner key are all equal
+unfoldable pub sameKeys : Compared → Compared → Bool
+sameKeys c d = eqb (c .key) (d .key) && (sameSystem (c .system) (d .system) && eqb (c .partnerKey) (d .partnerKey))
+
+-- two other ports share a group exactly if neither is individual and these are equal
+unfoldable pub sameGroup : SystemId → Compared → Compared → Bool
+sameGroup ours c d = not (individual ours c) && (not (individual ours d) && sameKeys c d)
+
+-- what is read where there is no port
+abbrev pub nobody : Compared
+nobody = record {
+  key = 0;
+  aggregation = false;
+  system = record { priority = 0; address = record { high = 0; middle = 0; low = 0 } };
+  partnerKey = 0;
+  partnerAggregation = false;
+}
+
+-- whether ports i and j, two ports, share a group
+unfoldable pub joins : SystemId → List Compared → ℕ → ℕ → Bool
+joins ours cs i j = sameGroup ours (getD cs i nobody) (getD cs j nobody)
+
+-- a port shares a group with itself; an individual port is a group of one
+unfoldable pub sharesGroup : SystemId → List Compared → ℕ → ℕ → Bool
+sharesGroup ours cs i j = eqb i j || joins ours cs i j
+
+-- the first of j, j + 1, .. that passes the test, of n of them; j + n where none does
+unfoldable pub firstFrom : (ℕ → Bool) → ℕ → ℕ → ℕ
+firstFrom f j zero = j
+firstFrom f j (suc n) = cond (f j) j (firstFrom f (j + 1) n)
+
+-- the lowest-numbered port of port i's group: the first before it that shares its group, or itself
+unfoldable pub lowest : SystemId → List Compared → ℕ → ℕ
+lowest ours cs i = firstFrom (joins ours cs i) 0 i
+
+-- a group's aggregator is that of its lowest-numbered port
+unfoldable pub ruleOf : SystemId → List Compared → ℕ → ℕ
+ruleOf ours cs i = lowest ours cs i + 1

@@ -1,0 +1,46 @@
+-- Steps 3 to 6 of document 01's order of work, on all records.
+use Prim.Native.Nat.{ℕ, _+_}
+use mathlib.Core.Bool.{Bool, true, false, cond, not, _||_}
+use mathlib.Core.List.{List, [], _∷_, map}
+use lib.Dec.{eqb}
+use Rattle.frame.specs.declared.block.SystemId.{SystemId}
+use Rattle.machine.specs.declared.states.Selection.{Selection}
+use Rattle.machine.specs.declared.states.Selection.the-variants.{Unselected, Selected}
+use Rattle.port.specs.declared.record.Port.{Port}
+use Rattle.port.specs.Compared.{compared}
+use Rattle.port.specs.Mux.{detached, placed, attachedIf, muxRun}
+use Rattle.port.specs.Transmit.{quieted}
+use Rattle.trunk.specs.Selection.{ruleOf}
+use Rattle.trunk.specs.Ready.{ready}
+
+-- each record changed by its index, the first of them i
+unfoldable pub mapFrom : (ℕ → Port → Port) → ℕ → List Port → List Port
+mapFrom f i [] = []
+mapFrom f i (p ∷ ps) = f i p ∷ mapFrom f (i + 1) ps
+
+abbrev pub isUnselected : Selection → Bool
+isUnselected Unselected = true
+isUnselected Selected = false
+
+-- UNSELECTED, or holds another aggregator than k, which the rule gives
+unfoldable pub mustMove : ℕ → Port → Bool
+mustMove k p = isUnselected (p .phase .selected) || not (eqb (p .aggregator) k)
+
+-- steps 3 and 4 for one port: down to DETACHED through each state, and only then to the rule's aggregator
+unfoldable pub reselected : ℕ → Port → Port
+reselected k p = cond (mustMove k p) (placed k (detached p)) p
+
+-- steps 3 and 4: the rule afresh
+unfoldable pub selectedAll : SystemId → List Port → List Port
+selectedAll ours ps = mapFrom (λ i p. reselected (ruleOf ours (map compared ps) i) p) 0 ps
+
+-- step 5: Ready is worked out once for each aggregator
+unfoldable pub attachedAll : List Port → List Port
+attachedAll ps = map (λ p. attachedIf (ready (p .aggregator) ps) p) ps
+
+-- step 6; what a later request does after it has its place here
+unfoldable pub climbed : Port → Port
+climbed p = quieted (muxRun p)
+
+unfoldable pub settled : SystemId → List Port → List Port
+settled ours ps = map climbed (attachedAll (selectedAll ours ps))
