@@ -4,3 +4,4 @@ pub mod RangeLaws
 pub mod RecordLaws
 pub mod StoreLaws
 pub mod TableLaws
+pub mod MadeLaws

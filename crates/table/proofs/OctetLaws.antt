@@ -1,10 +1,10 @@
 -- Octets written into the middle of others: pieces one after the other, what stands where it was written, and what stands before
 -- and after. By the laws of taking and dropping across an append. Last, lists that hold octets only. Assumes nothing.
 use Prim.Native.Nat.{ℕ, zero, suc, _+_, _-_, _≤_, _<_}
-use mathlib.Core.Path.{_≡_, refl, sym, ap, _∙_}
+use mathlib.Core.Path.{_≡_, sym, ap, _∙_}
 use mathlib.Core.List.{List, [], _∷_, _++_, append-assoc}
 use native.Mathlib.Omega.{arith}
-use lib.ListN.{length, take, drop, getD, length-append, length-drop, take-append-drop}
+use lib.ListN.{length, take, drop, length-append, length-drop, take-append-drop}
 use lib.Seq.{length-take-le, take-append-le, drop-append-le, take-at, drop-at, take-append-add, drop-append-add, drop-drop, getD-drop}
 use Rattle.octets.specs.Octets.{putAt}
 use Rattle.octets.proofs.Laws.{over, joinedUp, puts, puts-over}

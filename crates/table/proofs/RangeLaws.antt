@@ -1,8 +1,8 @@
 -- The ranges of answer 1 taken apart into facts on numbers, and put together again. Each is a conjunction of tests.
 -- Assumes nothing.
-use Prim.Native.Nat.{ℕ, _+_, _*_, _/_, _%_, _≤_, _<_}
+use Prim.Native.Nat.{ℕ, _+_, _%_, _≤_, _<_}
 use mathlib.Core.Path.{_≡_, refl}
-use mathlib.Core.Bool.{Bool, true, false, _&&_, _||_, and-eq-true-iff, false≢true}
+use mathlib.Core.Bool.{Bool, true, false, _&&_, _||_, and-eq-true-iff}
 use mathlib.Core.List.{List, [], _∷_, _++_}
 use native.Mathlib.Omega.{arith}
 use lib.ListN.{getD}
@@ -14,6 +14,7 @@ use Rattle.frame.specs.declared.block.Block.{Block}
 use Rattle.frame.specs.State.{stateOctet}
 use Rattle.frame.specs.Block.{addressAt, addressOctets, blockOf, blockOctets}
 use Rattle.frame.proofs.BlockLaws.{Octets, octet-le}
+use Rattle.machine.specs.Ages.{forgottenAge, noSend}
 use Rattle.machine.specs.Time.{slowPeriodicTime, longTimeoutTime, aggregateWaitTime}
 use Rattle.machine.specs.declared.states.Timers.{Timers}
 use Rattle.machine.specs.declared.states.Ages.{Ages}
@@ -84,15 +85,15 @@ unfolding timersInRange
 wait-fits t e =
     let others = both (leb (t .current .0) longTimeoutTime) (leb (t .periodic .0) slowPeriodicTime && leb (t .wait .0) aggregateWaitTime) e .1 in
     let least = both (leb (t .periodic .0) slowPeriodicTime) (leb (t .wait .0) aggregateWaitTime) others .1 in
-    let most : t .wait .0 ≤ 20 = leb-true (t .wait .0) 20 least in
+    let most : t .wait .0 ≤ aggregateWaitTime = leb-true (t .wait .0) aggregateWaitTime least in
     omega arith
 
 age-fits : (a : ℕ) → ageInRange a ≡ true → a < 256
-age-fits a e = either (ltb a 10) (eqb a 255) e (λ s. ltb-true a 10 s) (λ s. eqb-true a 255 s)
+age-fits a e = either (ltb a forgottenAge) (eqb a noSend) e (λ s. ltb-true a forgottenAge s) (λ s. eqb-true a noSend s)
   where
-    either : (x y : Bool) → x || y ≡ true → (x ≡ true → a < 10) → (y ≡ true → a ≡ 255) → a < 256
-    either true y s young none = let less : a < 10 = young refl in omega arith
-    either false y s young none = let is : a ≡ 255 = none s in omega arith
+    either : (x y : Bool) → x || y ≡ true → (x ≡ true → a < forgottenAge) → (y ≡ true → a ≡ noSend) → a < 256
+    either true y s young none = let less : a < forgottenAge = young refl in omega arith
+    either false y s young none = let is : a ≡ noSend = none s in omega arith
 
 pub ages-fit : (g : Ages) → agesInRange g ≡ true → (g .first < 256) × (g .second < 256) × (g .third < 256)
 unfolding agesInRange
@@ -103,13 +104,13 @@ ages-fit g e =
 
 -- ---- numbers that were read from octets fit their two octets
 
-number-fits : (l : List ℕ) → Octets l → (i : ℕ) → fits (numberAt l i) ≡ true
+pub number-fits : (l : List ℕ) → Octets l → (i : ℕ) → fits (numberAt l i) ≡ true
 number-fits l o i =
     let h : getD l i 0 < 256 = o i in
     let k : getD l (i + 1) 0 < 256 = o (i + 1) in
     lt-ltb (numberAt l i) 65536 (omega arith)
 
-address-fits : (l : List ℕ) → Octets l → (i : ℕ) → addressFits (addressAt l i) ≡ true
+pub address-fits : (l : List ℕ) → Octets l → (i : ℕ) → addressFits (addressAt l i) ≡ true
 address-fits l o i = joined (number-fits l o i) (joined (number-fits l o (i + 2)) (number-fits l o (i + 4)))
 
 pub block-fits : (l : List ℕ) → Octets l → blockFits (blockOf l) ≡ true
@@ -124,12 +125,12 @@ own-fits o l os a k q b = rw (a, k, q) (joined (address-fits l os 17) (joined (n
 
 -- ---- and have octets for their two octets
 
-number-octets : (n : ℕ) → fits n ≡ true → Octets (numberOctets n)
+pub number-octets : (n : ℕ) → fits n ≡ true → Octets (numberOctets n)
 number-octets n e =
     let less : n < 65536 = ltb-true n 65536 e in
     octets-of (numberOctets n) (omega arith, (omega arith, tt))
 
-address-octets : (a : Address) → addressFits a ≡ true → Octets (addressOctets a)
+pub address-octets : (a : Address) → addressFits a ≡ true → Octets (addressOctets a)
 address-octets a e =
     let e₀ = both (fits (a .high)) (fits (a .middle) && fits (a .low)) e in
     let e₁ = both (fits (a .middle)) (fits (a .low)) (e₀ .1) in
@@ -176,8 +177,8 @@ unfolding timersInRange
 timers-octets t e =
     let e₀ = both (leb (t .current .0) longTimeoutTime) (leb (t .periodic .0) slowPeriodicTime && leb (t .wait .0) aggregateWaitTime) e in
     let e₁ = both (leb (t .periodic .0) slowPeriodicTime) (leb (t .wait .0) aggregateWaitTime) (e₀ .1) in
-    let c : t .current .0 ≤ 900 = leb-true (t .current .0) 900 (e₀ .0) in
-    let q : t .periodic .0 ≤ 300 = leb-true (t .periodic .0) 300 (e₁ .0) in
+    let c : t .current .0 ≤ longTimeoutTime = leb-true (t .current .0) longTimeoutTime (e₀ .0) in
+    let q : t .periodic .0 ≤ slowPeriodicTime = leb-true (t .periodic .0) slowPeriodicTime (e₁ .0) in
     append-octets (numberOctets (t .current .0)) (numberOctets (t .periodic .0) ++ (t .wait .0 % 256 ∷ []))
     (number-octets (t .current .0) (lt-ltb (t .current .0) 65536 (omega arith)))
     (append-octets (numberOctets (t .periodic .0)) (t .wait .0 % 256 ∷ [])

@@ -2,21 +2,18 @@
 -- Assumes nothing.
 use Prim.Native.Nat.{ℕ, _+_, _%_, _≤_, _<_}
 use mathlib.Core.Path.{_≡_, refl, sym, ap, _∙_}
-use mathlib.Core.List.{List, [], _∷_, _++_}
+use mathlib.Core.List.{List, _∷_, _++_}
 use native.Mathlib.Omega.{arith}
 use lib.ListN.{length, take, drop, getD, length-drop}
 use lib.Seq.{length-take-le}
 use Rattle.octets.specs.Octets.{high, low, numberAt}
 use Rattle.octets.proofs.Laws.{number-back, high-back, low-back, spread, spread-all, spread-part}
-use Rattle.frame.specs.declared.block.Block.{Block}
 use Rattle.frame.specs.Block.{blockOf, blockOctets}
-use Rattle.frame.specs.Wire.{part}
 use Rattle.frame.proofs.BlockLaws.{state-back, octet-back, octet-le, block-back, octets-back, Octets}
 use Rattle.port.specs.declared.record.Port.{Port}
 use Rattle.table.specs.Layout.{recordSize}
-use Rattle.table.specs.Record.{phaseOctets, phaseIn, statusOctets, lineIn, timersOctets, timersIn, agesOctets, agesIn, ownOctets, ownIn, encoded, decoded}
+use Rattle.table.specs.Record.{phaseOctets, statusOctets, timersOctets, timersIn, agesOctets, ownOctets, ownIn, encoded, decoded}
 use Rattle.table.specs.Codes.{flagOctet, receiveCode, periodicCode, muxCode, selectedCode}
-use Rattle.frame.specs.State.{stateOctet}
 use Rattle.table.proofs.OctetLaws.{octets-of, append-octets, take-octets, drop-octets}
 use Rattle.table.proofs.CodeLaws.{flag-back, receive-back, periodic-back, mux-back, selected-back, flag-octet-back, receive-code-back, periodic-code-back, mux-code-back, selected-code-back, flag-within, receive-within, periodic-within, mux-within, selected-within}
 use Rattle.table.specs.Range.{codesInRange, timersInRange, recordInRange, portInRange}
@@ -109,7 +106,7 @@ record-octets-back count l n o e =
     ∷ first-back l o 23 i ∷ second-back l o 23 i
     ∷ first-back l o 25 i ∷ second-back l o 25 i
     ∷ (default i ++ partner i)))
-    ∙ spread-all l 57 n
+    ∙ spread-all l recordSize n
 
 -- ---- in range
 

@@ -14,7 +14,7 @@ use Rattle.octets.specs.Octets.{putAt}
 use Rattle.octets.proofs.Laws.{length-put, spread, spread-part}
 use Rattle.port.specs.declared.record.Port.{Port}
 use Rattle.table.specs.declared.layout.Header.{Header}
-use Rattle.table.specs.Layout.{recordSize, place, headerOf}
+use Rattle.table.specs.Layout.{headerSize, recordSize, place, headerOf}
 use Rattle.table.specs.Record.{encoded, decoded}
 use Rattle.table.specs.Table.{countIn, recordAt, portAt, portsFrom, ports}
 use Rattle.table.proofs.OctetLaws.{put-here, put-after, put-before}
@@ -29,10 +29,10 @@ module _ (i : ℕ) (s t : List ℕ) (n : length s ≡ recordSize) (h : place i +
   pub put-header : headerOf (putAt (place i) s t) ≡ headerOf t
   put-header =
       let u = putAt (place i) s t in
-      let front : spread 0 11 u ≡ spread 0 11 t =
-      spread-part 0 11 u (rw put-length (omega arith))
-      ∙ put-after 0 11 (place i) s t (omega arith) (omega arith)
-      ∙ sym (spread-part 0 11 t (omega arith)) in
+      let front : spread 0 headerSize u ≡ spread 0 headerSize t =
+      spread-part 0 headerSize u (rw put-length (omega arith))
+      ∙ put-after 0 headerSize (place i) s t (omega arith) (omega arith)
+      ∙ sym (spread-part 0 headerSize t (omega arith)) in
       ap headerOf front
 
   pub put-same : recordAt (putAt (place i) s t) i ≡ s

@@ -8,9 +8,11 @@ use Rattle.octets.specs.Octets.{numberAt, numberOctets}
 use Rattle.frame.specs.Block.{addressAt, addressOctets}
 use Rattle.table.specs.declared.layout.Header.{Header}
 
+-- the octets of the header
 abbrev pub headerSize : ℕ
 headerSize = 11
 
+-- the octets of a record
 abbrev pub recordSize : ℕ
 recordSize = 57
 

@@ -12,6 +12,7 @@ use Rattle.machine.specs.Time.{slowPeriodicTime, longTimeoutTime, aggregateWait
 use Rattle.machine.specs.Ages.{forgottenAge, noSend}
 use Rattle.port.specs.declared.record.Own.{Own}
 use Rattle.port.specs.declared.record.Port.{Port}
+use Rattle.table.specs.declared.layout.Header.{Header}
 use Rattle.table.specs.Layout.{within}
 use Rattle.table.specs.Record.{timersIn, agesIn}
 
@@ -33,6 +34,7 @@ timersInRange t = leb (t .current .0) longTimeoutTime && (leb (t .periodic .0) s
 abbrev pub ageInRange : ℕ → Bool
 ageInRange a = ltb a forgottenAge || eqb a noSend
 
+-- each of the three ages
 unfoldable pub agesInRange : Ages → Bool
 agesInRange g = ageInRange (g .first) && (ageInRange (g .second) && ageInRange (g .third))
 
@@ -42,20 +44,29 @@ recordInRange count l = codesInRange count l && (timersInRange (timersIn l) && a
 
 -- ---- the same of a record's fields, whose numbers also fit their two octets
 
+-- a number of two octets
 abbrev pub fits : ℕ → Bool
 fits n = ltb n 65536
 
+-- six octets, two at a time
 abbrev pub addressFits : Address → Bool
 addressFits a = fits (a .high) && (fits (a .middle) && fits (a .low))
 
+-- the numbers of a block
 unfoldable pub blockFits : Block → Bool
 blockFits b =
     fits (b .system .priority)
     && (addressFits (b .system .address) && (fits (b .key) && (fits (b .port .priority) && fits (b .port .number))))
 
+-- the numbers of the settings
 unfoldable pub ownFits : Own → Bool
 ownFits o = addressFits (o .address) && (fits (o .key) && (fits (o .priority) && blockFits (o .default)))
 
+-- the header's numbers; its count has a test of its own
+unfoldable pub headerFits : Header → Bool
+headerFits h = fits (h .system .priority) && (addressFits (h .system .address) && fits (h .delay .0))
+
+-- whether a record's fields are in range
 unfoldable pub portInRange : ℕ → Port → Bool
 portInRange count p =
     within 1 (p .aggregator) count

@@ -14,10 +14,11 @@ use Rattle.table.specs.Range.{recordInRange}
 abbrev pub countIn : List ℕ → ℕ
 countIn t = getD t 0 0
 
--- the octets of record i, from 0, and the record that they tell of
+-- the octets of record i, from 0
 unfoldable pub recordAt : List ℕ → ℕ → List ℕ
 recordAt t i = take recordSize (drop (place i) t)
 
+-- the record that they tell of
 unfoldable pub portAt : List ℕ → ℕ → Port
 portAt t i = decoded (recordAt t i)
 

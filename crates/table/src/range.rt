@@ -48,6 +48,7 @@ fn age_in_range(age: u8) -> bool
     (age < FORGOTTEN_AGE) | (age == NO_SEND)
 }
 
+// Each of the three ages.
 fn ages_in_range(ages: Ages) -> bool
     ensures { λ r. ⌜ r ≡ agesInRange ages ⌝ }
 {

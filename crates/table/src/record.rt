@@ -25,7 +25,7 @@ use machine::states::Timers;
 use port::record::Own;
 use port::record::Port;
 
-// Octets 0 to 3.
+// Writes octets 0 to 3: receive state, periodic state, mux state, Selected.
 fn write_phase(phase: Phase, out: &mut [u8])
     requires { ⌜ length (now out) ≡ recordSize ⌝ }
     ensures { λ _. ⌜ now (out .exit) ≡ putAt 0 (phaseOctets phase) (now (out .entry)) ⌝ }
@@ -46,6 +46,7 @@ fn write_phase(phase: Phase, out: &mut [u8])
     );
 }
 
+// The states in octets 0 to 3.
 fn phase_in(s: &[u8]) -> Phase
     requires { ⌜ length (now s) ≡ recordSize ⌝ }
     ensures { λ r. ⌜ r ≡ phaseIn (now (s .entry)) ⌝ }
@@ -58,7 +59,7 @@ fn phase_in(s: &[u8]) -> Phase
     }
 }
 
-// Octets 4 to 8.
+// Writes octets 4 to 8: aggregator held, NTT, link, duplex, Actor_Oper_Port_State.
 fn write_status(aggregator: u8, ntt: bool, line: Line, actor: PortState, out: &mut [u8])
     requires { ⌜ length (now out) ≡ recordSize ⌝ }
     ensures { λ _. ⌜ now (out .exit) ≡ putAt 4 (statusOctets aggregator ntt line actor) (now (out .entry)) ⌝ }
@@ -76,6 +77,7 @@ fn write_status(aggregator: u8, ntt: bool, line: Line, actor: PortState, out: &m
     );
 }
 
+// Link and duplex in octets 6 and 7.
 fn line_in(s: &[u8]) -> Line
     requires { ⌜ length (now s) ≡ recordSize ⌝ }
     ensures { λ r. ⌜ r ≡ lineIn (now (s .entry)) ⌝ }
@@ -86,7 +88,7 @@ fn line_in(s: &[u8]) -> Line
     }
 }
 
-// Octets 9 to 13. The wait timer has one octet.
+// Writes octets 9 to 13: current-while, periodic timer, and the wait timer, of which the low octet is kept.
 fn write_timers(timers: Timers, out: &mut [u8])
     requires { ⌜ length (now out) ≡ recordSize ⌝ }
     ensures { λ _. ⌜ now (out .exit) ≡ putAt 9 (timersOctets timers) (now (out .entry)) ⌝ }
@@ -104,12 +106,14 @@ fn write_timers(timers: Timers, out: &mut [u8])
     );
 }
 
+// An octet as a number of ticks.
 fn wide(n: u8) -> u16
     ensures { λ r. ⌜ r ≡ n ⌝ }
 {
     n as u16
 }
 
+// The timers in octets 9 to 13.
 pub fn timers_in(s: &[u8]) -> Timers
     requires { ⌜ length (now s) ≡ recordSize ⌝ }
     ensures { λ r. ⌜ r ≡ timersIn (now (s .entry)) ⌝ }
@@ -124,7 +128,7 @@ pub fn timers_in(s: &[u8]) -> Timers
     }
 }
 
-// Octets 14 to 16.
+// Writes octets 14 to 16: the ages of sends.
 fn write_ages(ages: Ages, out: &mut [u8])
     requires { ⌜ length (now out) ≡ recordSize ⌝ }
     ensures { λ _. ⌜ now (out .exit) ≡ putAt 14 (agesOctets ages) (now (out .entry)) ⌝ }
@@ -132,6 +136,7 @@ fn write_ages(ages: Ages, out: &mut [u8])
     octets::put(out, 14, &[ages.first, ages.second, ages.third]);
 }
 
+// The ages in octets 14 to 16.
 pub fn ages_in(s: &[u8]) -> Ages
     requires { ⌜ length (now s) ≡ recordSize ⌝ }
     ensures { λ r. ⌜ r ≡ agesIn (now (s .entry)) ⌝ }
@@ -143,7 +148,7 @@ pub fn ages_in(s: &[u8]) -> Ages
     }
 }
 
-// Octets 17 to 41.
+// Writes octets 17 to 41: own address, key, port priority, default partner block.
 fn write_own(own: Own, out: &mut [u8])
     requires { ⌜ length (now out) ≡ recordSize ⌝ }
     ensures { λ _. ⌜ now (out .exit) ≡ putAt 17 (ownOctets own) (now (out .entry)) ⌝ }
@@ -156,6 +161,7 @@ fn write_own(own: Own, out: &mut [u8])
     default.write(&mut out[27..42]);
 }
 
+// The settings in octets 17 to 41.
 fn own_in(s: &[u8]) -> Own
     requires { ⌜ length (now s) ≡ recordSize ⌝ }
     ensures { λ r. ⌜ r ≡ ownIn (now (s .entry)) ⌝ }
@@ -168,7 +174,7 @@ fn own_in(s: &[u8]) -> Own
     }
 }
 
-// Writes a record into its octets.
+// Writes a record into its 57 octets.
 pub fn write_record(p: Port, out: &mut [u8])
     requires { ⌜ length (now out) ≡ recordSize ⌝ }
     ensures { λ _. ⌜ now (out .exit) ≡ encoded p ⌝ }

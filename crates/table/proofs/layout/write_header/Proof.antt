@@ -1,4 +1,6 @@
-use mathlib.Core.Path.{sym, _∙_}
+-- `write_header` meets its contract: four pieces, written one after the other from the front on, are the header.
+-- Assumes nothing.
+use mathlib.Core.Path.{_∙_}
 use mathlib.Core.List.{[], _∷_}
 use denote.Ref.{now}
 use Rattle.octets.specs.Octets.{numberOctets}
@@ -8,37 +10,25 @@ use Rattle.table.specs.Layout.{headerOctets}
 use borrow.Author.Needs.{needs}
 use Rattle.table.proofs.layout.write_header.Statement.{statement}
 use Rattle.table.proofs.layout.write_header.Tie as tie
-use Rattle.table.proofs.layout.write_header.Reads as reads
-use Rattle.table.proofs.layout.write_header.Lts as lts
-use Rattle.frame.proofs.block.Address.write.Reads as write-reads
-use Rattle.octets.proofs.put.Reads as put-reads
-use Rattle.octets.proofs.put_number.Reads as put-number-reads
 
--- src/layout.rt:67:27
 slice-aggregate-put : tie.Need-slice-aggregate-put
 slice-aggregate-put c = search needs
 
--- src/layout.rt:67:5
 put-requires : tie.Need-put-requires
 put-requires c κs = search needs
 
--- src/layout.rt:68:5
 put-number-requires : tie.Need-put-number-requires
 put-number-requires c κs = search needs
 
--- src/layout.rt:70:5
 write-requires : tie.Need-write-requires
 write-requires c κs = search needs
 
--- src/layout.rt:71:5
 put-number-requires-2 : tie.Need-put-number-requires-2
 put-number-requires-2 c κs = search needs
 
--- src/layout.rt:63:1
 same-length : tie.Need-same-length
 same-length c = search needs
 
--- src/layout.rt:63:1
 returns : tie.Need-returns
 returns c =
     let h = c .before .before .before .before .before .before .before .before .before .before .before .before .before .before .before .before .before .before .before .args .header in

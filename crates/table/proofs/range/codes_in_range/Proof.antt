@@ -1,76 +1,57 @@
+-- `codes_in_range` meets its contract: each octet by its own test. Assumes nothing.
 use Rattle.table.specs.Range.{codesInRange}
 use borrow.Author.Needs.{needs}
 use Rattle.table.proofs.range.codes_in_range.Statement.{statement}
 use Rattle.table.proofs.range.codes_in_range.Tie as tie
-use Rattle.table.proofs.range.codes_in_range.Reads as reads
-use Rattle.table.proofs.range.codes_in_range.Lts as lts
-use Rattle.table.proofs.range.within.Reads as within-reads
 
--- src/range.rt:28:15
 shared-slice-read-within : tie.Need-shared-slice-read-within
 shared-slice-read-within c = search needs
 
--- src/range.rt:28:5
 within-requires : tie.Need-within-requires
 within-requires c κs = search needs
 
--- src/range.rt:29:22
 shared-slice-read-within-2 : tie.Need-shared-slice-read-within-2
 shared-slice-read-within-2 c = search needs
 
--- src/range.rt:29:12
 within-requires-2 : tie.Need-within-requires-2
 within-requires-2 c κs = search needs
 
--- src/range.rt:30:26
 shared-slice-read-within-3 : tie.Need-shared-slice-read-within-3
 shared-slice-read-within-3 c = search needs
 
--- src/range.rt:30:16
 within-requires-3 : tie.Need-within-requires-3
 within-requires-3 c κs = search needs
 
--- src/range.rt:31:30
 shared-slice-read-within-4 : tie.Need-shared-slice-read-within-4
 shared-slice-read-within-4 c = search needs
 
--- src/range.rt:31:20
 within-requires-4 : tie.Need-within-requires-4
 within-requires-4 c κs = search needs
 
--- src/range.rt:32:34
 shared-slice-read-within-5 : tie.Need-shared-slice-read-within-5
 shared-slice-read-within-5 c = search needs
 
--- src/range.rt:32:24
 within-requires-5 : tie.Need-within-requires-5
 within-requires-5 c κs = search needs
 
--- src/range.rt:33:38
 shared-slice-read-within-6 : tie.Need-shared-slice-read-within-6
 shared-slice-read-within-6 c = search needs
 
--- src/range.rt:33:28
 within-requires-6 : tie.Need-within-requires-6
 within-requires-6 c κs = search needs
 
--- src/range.rt:33:60
 shared-slice-read-within-7 : tie.Need-shared-slice-read-within-7
 shared-slice-read-within-7 c = search needs
 
--- src/range.rt:33:50
 within-requires-7 : tie.Need-within-requires-7
 within-requires-7 c κs = search needs
 
--- src/range.rt:33:81
 shared-slice-read-within-8 : tie.Need-shared-slice-read-within-8
 shared-slice-read-within-8 c = search needs
 
--- src/range.rt:33:71
 within-requires-8 : tie.Need-within-requires-8
 within-requires-8 c κs = search needs
 
--- src/range.rt:24:1
 returns : tie.Need-returns
 unfolding codesInRange
 returns c = simp (c .within8 .ensures, c .before .before .within7 .ensures, c .before .before .before .before .within6 .ensures, c .before .before .before .before .before .before .within5 .ensures, c .before .before .before .before .before .before .before .before .within4 .ensures, c .before .before .before .before .before .before .before .before .before .before .within3 .ensures, c .before .before .before .before .before .before .before .before .before .before .before .before .within2 .ensures, c .before .before .before .before .before .before .before .before .before .before .before .before .before .before .within .ensures)

@@ -1,11 +1,9 @@
+-- `timers_in_range` meets its contract: its tests are those of the definition. Assumes nothing.
 use mathlib.Core.Path.{refl}
 use Rattle.table.specs.Range.{timersInRange}
 use Rattle.table.proofs.range.timers_in_range.Statement.{statement}
 use Rattle.table.proofs.range.timers_in_range.Tie as tie
-use Rattle.table.proofs.range.timers_in_range.Reads as reads
-use Rattle.table.proofs.range.timers_in_range.Lts as lts
 
--- src/range.rt:37:1
 returns : tie.Need-returns
 unfolding timersInRange
 returns c = refl

@@ -1,3 +1,5 @@
+-- `write_own` meets its contract: four pieces, one after the other from octet 17 on, the last of them a lent part that comes
+-- back as a block. Assumes nothing.
 use mathlib.Core.Path.{refl, _∙_}
 use mathlib.Core.List.{[], _∷_}
 use native.Mathlib.Omega.{arith}
@@ -9,45 +11,31 @@ use Rattle.table.proofs.OctetLaws.{puts-at}
 use borrow.Author.Needs.{needs}
 use Rattle.table.proofs.record.write_own.Statement.{statement}
 use Rattle.table.proofs.record.write_own.Tie as tie
-use Rattle.table.proofs.record.write_own.Reads as reads
-use Rattle.table.proofs.record.write_own.Lts as lts
-use Rattle.frame.proofs.block.Address.write.Reads as block-Address-write-reads
-use Rattle.frame.proofs.block.Block.write.Reads as block-Block-write-reads
-use Rattle.octets.proofs.put_number.Reads as put-number-reads
 
--- src/record.rt:152:5
 write-requires : tie.Need-write-requires
 write-requires c κs = search needs
 
--- src/record.rt:153:5
 put-number-requires : tie.Need-put-number-requires
 put-number-requires c κs = search needs
 
--- src/record.rt:154:5
 put-number-requires-2 : tie.Need-put-number-requires-2
 put-number-requires-2 c κs = search needs
 
--- src/record.rt:156:19
 sub-write : tie.Need-sub-write
 sub-write c = search needs
 
--- src/record.rt:156:19
 part-write-start : tie.Need-part-write-start
 part-write-start c = search needs
 
--- src/record.rt:156:19
 part-write-end : tie.Need-part-write-end
 part-write-end c = search needs
 
--- src/record.rt:156:5
 write-requires-2 : tie.Need-write-requires-2
 write-requires-2 c κs = search needs
 
--- src/record.rt:147:1
 same-length : tie.Need-same-length
 same-length c = search needs
 
--- src/record.rt:147:1
 returns : tie.Need-returns
 returns c =
     let o = c .before .before .before .before .before .before .before .before .before .before .before .before .before .before .before .before .before .before .before .args .own in

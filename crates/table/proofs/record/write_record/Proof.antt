@@ -1,3 +1,5 @@
+-- `write_record` meets its contract: six pieces, one after the other from the front on, the last of them a lent part that comes
+-- back as a block, cover the 57 octets. Assumes nothing.
 use mathlib.Core.Path.{refl, _∙_}
 use mathlib.Core.List.{[], _∷_}
 use native.Mathlib.Omega.{arith}
@@ -9,56 +11,37 @@ use Rattle.table.specs.Record.{phaseOctets, statusOctets, timersOctets, 
 use borrow.Author.Needs.{needs}
 use Rattle.table.proofs.record.write_record.Statement.{statement}
 use Rattle.table.proofs.record.write_record.Tie as tie
-use Rattle.table.proofs.record.write_record.Reads as reads
-use Rattle.table.proofs.record.write_record.Lts as lts
-use Rattle.frame.proofs.block.Block.write.Reads as write-reads
-use Rattle.table.proofs.record.write_ages.Reads as write-ages-reads
-use Rattle.table.proofs.record.write_own.Reads as write-own-reads
-use Rattle.table.proofs.record.write_phase.Reads as write-phase-reads
-use Rattle.table.proofs.record.write_status.Reads as write-status-reads
-use Rattle.table.proofs.record.write_timers.Reads as write-timers-reads
 
--- src/record.rt:177:5
 write-phase-requires : tie.Need-write-phase-requires
 write-phase-requires c κs = search needs
 
--- src/record.rt:180:5
 write-status-requires : tie.Need-write-status-requires
 write-status-requires c κs = search needs
 
--- src/record.rt:182:5
 write-timers-requires : tie.Need-write-timers-requires
 write-timers-requires c κs = search needs
 
--- src/record.rt:184:5
 write-ages-requires : tie.Need-write-ages-requires
 write-ages-requires c κs = search needs
 
--- src/record.rt:186:5
 write-own-requires : tie.Need-write-own-requires
 write-own-requires c κs = search needs
 
--- src/record.rt:188:19
 sub-write : tie.Need-sub-write
 sub-write c = search needs
 
--- src/record.rt:188:19
 part-write-start : tie.Need-part-write-start
 part-write-start c = search needs
 
--- src/record.rt:188:19
 part-write-end : tie.Need-part-write-end
 part-write-end c = search needs
 
--- src/record.rt:188:5
 write-requires : tie.Need-write-requires
 write-requires c κs = search needs
 
--- src/record.rt:172:1
 same-length : tie.Need-same-length
 same-length c = search needs
 
--- src/record.rt:172:1
 returns : tie.Need-returns
 unfolding encoded
 returns c =

@@ -1,45 +1,32 @@
+-- `write_timers` meets its contract: the octets are the high and low ones of the timers. Assumes nothing.
 use borrow.Author.Needs.{needs}
 use Rattle.table.proofs.record.write_timers.Statement.{statement}
 use Rattle.table.proofs.record.write_timers.Tie as tie
-use Rattle.table.proofs.record.write_timers.Reads as reads
-use Rattle.table.proofs.record.write_timers.Lts as lts
-use Rattle.octets.proofs.high_octet.Reads as high-octet-reads
-use Rattle.octets.proofs.low_octet.Reads as low-octet-reads
-use Rattle.octets.proofs.put.Reads as put-reads
 
--- src/record.rt:98:13
 high-octet-requires : tie.Need-high-octet-requires
 high-octet-requires c κs = search needs
 
--- src/record.rt:99:13
 low-octet-requires : tie.Need-low-octet-requires
 low-octet-requires c κs = search needs
 
--- src/record.rt:100:13
 high-octet-requires-2 : tie.Need-high-octet-requires-2
 high-octet-requires-2 c κs = search needs
 
--- src/record.rt:101:13
 low-octet-requires-2 : tie.Need-low-octet-requires-2
 low-octet-requires-2 c κs = search needs
 
--- src/record.rt:102:13
 low-octet-requires-3 : tie.Need-low-octet-requires-3
 low-octet-requires-3 c κs = search needs
 
--- src/record.rt:97:9
 slice-aggregate-put : tie.Need-slice-aggregate-put
 slice-aggregate-put c = search needs
 
--- src/record.rt:94:5
 put-requires : tie.Need-put-requires
 put-requires c κs = search needs
 
--- src/record.rt:90:1
 same-length : tie.Need-same-length
 same-length c = search needs
 
--- src/record.rt:90:1
 returns : tie.Need-returns
 returns c = rw (c .before .before .put .ensures, c .before .before .before .before .low-octet3 .ensures, c .before .before .before .before .before .low-octet2 .ensures, c .before .before .before .before .before .before .high-octet2 .ensures, c .before .before .before .before .before .before .before .low-octet .ensures, c .before .before .before .before .before .before .before .before .high-octet .ensures)
 
