@@ -1,0 +1,4 @@
+pub mod SweepLaws
+pub mod RangeKept
+pub mod TableWork
+pub mod SelectLaws

@@ -1,0 +1,41 @@
+-- The search for the lowest-numbered port of a group, turn by turn. Assumes nothing.
+use Prim.Native.Nat.{ℕ, zero, suc, _+_, _-_, _<_, _≤_}
+use mathlib.Core.Path.{_≡_, refl, sym, ap, _∙_}
+use mathlib.Core.Bool.{Bool, true, false, cond}
+use mathlib.Core.List.{List, map}
+use native.Mathlib.Omega.{arith}
+use native.Mathlib.Nat.{sub-zero}
+use Rattle.frame.specs.declared.block.SystemId.{SystemId}
+use Rattle.port.specs.Compared.{Compared, compared}
+use Rattle.table.specs.Table.{countIn, ports, portAt}
+use Rattle.trunk.specs.Selection.{sameGroup, nobody, joins, firstFrom, lowest}
+use Rattle.trunk.proofs.TableWork.{map-port-at}
+
+module _ (f : ℕ → Bool) (i j : ℕ) (h : j < i) where
+  left-is : i - j ≡ suc (i - (j + 1))
+  left-is = omega arith
+
+  -- found here
+  pub first-here : f j ≡ true → firstFrom f j (i - j) ≡ j
+  unfolding firstFrom
+  first-here e = rw (left-is, e)
+
+  -- or further on
+  pub first-further : f j ≡ false → firstFrom f j (i - j) ≡ firstFrom f (j + 1) (i - (j + 1))
+  unfolding firstFrom
+  first-further e = rw (left-is, e)
+
+-- none left
+pub first-none : (f : ℕ → Bool) (i j : ℕ) → j ≡ i → firstFrom f j (i - j) ≡ j
+unfolding firstFrom
+first-none f i j e = let z : i - j ≡ 0 = omega arith in rw z
+
+pub lowest-starts : (ours : SystemId) (cs : List Compared) (i : ℕ) → lowest ours cs i ≡ firstFrom (joins ours cs i) 0 (i - 0)
+unfolding lowest
+lowest-starts ours cs i = rw (sub-zero i)
+
+-- whether two records of a table share a group
+pub joins-at : (ours : SystemId) (t : List ℕ) (i j : ℕ) → i < countIn t → j < countIn t
+    → joins ours (map compared (ports t)) i j ≡ sameGroup ours (compared (portAt t i)) (compared (portAt t j))
+unfolding joins
+joins-at ours t i j hi hj = rw (map-port-at compared t i nobody hi, map-port-at compared t j nobody hj)

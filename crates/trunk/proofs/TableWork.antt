@@ -1,0 +1,60 @@
+-- Work on the lent memory, record by record: what a store leaves, and pieces of work one after the other. Assumes nothing.
+use Prim.Native.Nat.{ℕ, suc, zero, _<_, _≤_, _+_}
+use mathlib.Core.Path.{_≡_, refl, sym, ap, _∙_}
+use mathlib.Core.Bool.{Bool, true}
+use mathlib.Core.List.{List, [], _∷_, map}
+use native.Mathlib.Omega.{arith}
+use lib.ListN.{length, getD, set}
+use Rattle.octets.specs.Octets.{putAt}
+use Rattle.frame.proofs.BlockLaws.{Octets}
+use Rattle.port.specs.declared.record.Port.{Port}
+use Rattle.table.specs.declared.layout.Header.{Header}
+use Rattle.table.specs.Layout.{place, recordSize, headerOf}
+use Rattle.table.specs.Record.{encoded}
+use Rattle.table.specs.Range.{portInRange}
+use Rattle.table.specs.Table.{tableInRange, countIn, ports, portAt}
+use Rattle.table.proofs.RecordLaws.{port-back}
+use Rattle.table.proofs.StoreLaws.{ports-length, ports-at, stored-length, stored-header, stored-ports}
+use Rattle.table.proofs.TableLaws.{InRange, in-range, in-range-is, inside, port-in-range, stored-in-range}
+use Rattle.trunk.specs.Worked.{Worked}
+
+-- record i lies within a table in range
+pub room : (t : List ℕ) → tableInRange t ≡ true → (i : ℕ) → i < countIn t → place i + recordSize ≤ length t
+room t e i h = inside t (in-range t e) i h
+
+-- the record at i is in range
+pub ranged-at : (t : List ℕ) → tableInRange t ≡ true → Octets t → (i : ℕ) → i < countIn t → portInRange (countIn t) (portAt t i) ≡ true
+ranged-at t e o i h = port-in-range t (in-range t e) o i h
+
+-- a store of a record in range
+pub stored : (t : List ℕ) (i : ℕ) (p : Port) → tableInRange t ≡ true → i < countIn t → portInRange (countIn t) p ≡ true
+    → Worked t (putAt (place i) (encoded p) t) (set (ports t) i p)
+stored t i p e h r =
+    let here = room t e i h in
+    record {
+      header = stored-header i p t here;
+      size = stored-length i p t here;
+      ranged = in-range-is (putAt (place i) (encoded p) t) (stored-in-range i p t (in-range t e) h r);
+      records = stored-ports i p t here (port-back (countIn t) p r) h;
+    }
+
+-- nothing done
+pub unworked : (t : List ℕ) → tableInRange t ≡ true → Worked t t (ports t)
+unworked t e = record { header = refl; size = refl; ranged = e; records = refl }
+
+-- one piece of work after another
+pub then : {t u v : List ℕ} {ps qs : List Port} → Worked t u ps → Worked u v qs → Worked t v qs
+then a b = record { header = b .header ∙ a .header; size = b .size ∙ a .size; ranged = b .ranged; records = b .records }
+
+pub count-kept : {t u : List ℕ} {ps : List Port} → Worked t u ps → countIn u ≡ countIn t
+count-kept a = ap (λ (h : Header). h .count) (a .header)
+
+-- what a list's projection holds at an index
+pub map-at : {A : Type 0} (g : Port → A) (ps : List Port) (i : ℕ) (a : A) (d : Port) → i < length ps → getD (map g ps) i a ≡ g (getD ps i d)
+map-at g [] i a d h = absurd (omega arith)
+map-at g (p ∷ ps) zero a d h = refl
+map-at g (p ∷ ps) (suc i) a d h = map-at g ps i a d (omega arith)
+
+pub map-port-at : {A : Type 0} (g : Port → A) (t : List ℕ) (i : ℕ) (a : A) → i < countIn t → getD (map g (ports t)) i a ≡ g (portAt t i)
+map-port-at g t i a h =
+    map-at g (ports t) i a (portAt t i) (rw ports-length h) ∙ ap g (ports-at t i (portAt t i) h)

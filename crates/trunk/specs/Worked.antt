@@ -1,0 +1,16 @@
+-- What a piece of work on a table in range leaves: the same header and size, again in range, and these records. With the law that
+-- header and records fix a table's octets, this fixes every octet.
+use mathlib.Core.Path.{_≡_}
+use mathlib.Core.Bool.{true}
+use mathlib.Core.List.{List}
+use Prim.Native.Nat.{ℕ}
+use lib.ListN.{length}
+use Rattle.port.specs.declared.record.Port.{Port}
+use Rattle.table.specs.Layout.{headerOf}
+use Rattle.table.specs.Table.{tableInRange, ports}
+
+pub record Worked (t u : List ℕ) (qs : List Port) : Type 0 where
+  pub header : headerOf u ≡ headerOf t
+  pub size : length u ≡ length t
+  pub ranged : tableInRange u ≡ true
+  pub records : ports u ≡ qs

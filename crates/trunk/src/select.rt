@@ -1,0 +1,80 @@
+// The selection rule (43.4.14), and steps 3 and 4.
+ghost use mathlib.Core.Path.{_≡_};
+ghost use mathlib.Core.Bool.{true};
+ghost use mathlib.Core.List.{map};
+ghost use Prim.Native.Nat.{_<_, _≤_};
+ghost use lib.ListN.{set};
+ghost use Rattle.port.specs.Compared.{compared};
+ghost use Rattle.table.specs.Table.{tableInRange, countIn, ports, portAt};
+ghost use Rattle.trunk.specs.Selection.{individual, sameGroup, lowest as Selection·lowest, ruleOf};
+ghost use Rattle.trunk.specs.Settled.{isUnselected, mustMove, reselected, selectedAll};
+ghost use Rattle.trunk.specs.Worked.{Worked};
+use frame::block::SystemId;
+use machine::compare::same_system;
+use machine::states::Selection;
+use port::record::Port;
+
+// Own or partner's Aggregation clear, or the partner is our own system.
+fn is_individual(p: Port, ours: SystemId) -> bool
+    ensures { λ r. ⌜ r ≡ individual ours (compared p) ⌝ }
+{
+    let partner = p.partner;
+    let system = partner.system;
+    !p.actor.aggregation | (!partner.state.aggregation | same_system(system, ours))
+}
+
+// Whether two other ports share a group.
+fn same_group(p: Port, q: Port, ours: SystemId) -> bool
+    ensures { λ r. ⌜ r ≡ sameGroup ours (compared p) (compared q) ⌝ }
+{
+    let a = p.partner;
+    let b = q.partner;
+    let s = a.system;
+    let t = b.system;
+    let keys = (p.own.key == q.own.key) & (same_system(s, t) & (a.key == b.key));
+    !is_individual(p, ours) & (!is_individual(q, ours) & keys)
+}
+
+// The lowest-numbered port of port i's group, from 0.
+fn lowest(table: &[u8], i: usize, ours: SystemId) -> usize
+    requires { ⌜ (tableInRange (now table) ≡ true) × (i < countIn (now table)) ⌝ }
+    ensures { λ r. ⌜ (r ≡ Selection·lowest ours (map compared (ports (now (table .entry)))) i) × (r ≤ i) ⌝ }
+{
+    let p = table::load(table, i);
+    let mut j: usize = 0;
+    while j < i {
+        if same_group(p, table::load(table, j), ours) {
+            return j;
+        }
+        j += 1;
+    }
+    i
+}
+
+// UNSELECTED, or holds another aggregator than k.
+fn must_move(p: Port, k: u8) -> bool
+    ensures { λ r. ⌜ r ≡ mustMove k p ⌝ }
+{
+    let h = p.phase;
+    let s = h.selected;
+    is_unselected(s) | !(p.aggregator == k)
+}
+
+fn is_unselected(s: Selection) -> bool
+    ensures { λ r. ⌜ r ≡ isUnselected s ⌝ }
+{
+    match s {
+        Selection::Unselected => true,
+        Selection::Selected => false,
+    }
+}
+
+// Down to DETACHED through each state, and only then to aggregator k.
+fn reselect(p: Port, k: u8) -> Port
+    ensures { λ r. ⌜ r ≡ reselected k p ⌝ }
+{
+    if must_move(p, k) {
+        return p.detach().place(k);
+    }
+    p
+}
