@@ -2,3 +2,4 @@ pub mod SweepLaws
 pub mod RangeKept
 pub mod TableWork
 pub mod SelectLaws
+pub mod KeepLaws

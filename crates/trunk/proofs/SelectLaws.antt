@@ -9,7 +9,13 @@ use Rattle.frame.specs.declared.block.SystemId.{SystemId}
 use Rattle.port.specs.Compared.{Compared, compared}
 use Rattle.table.specs.Table.{countIn, ports, portAt}
 use Rattle.trunk.specs.Selection.{sameGroup, nobody, joins, firstFrom, lowest}
-use Rattle.trunk.proofs.TableWork.{map-port-at}
+use Rattle.port.specs.declared.record.Port.{Port}
+use Rattle.trunk.specs.Selection.{ruleOf}
+use Rattle.trunk.specs.Settled.{reselected}
+use Rattle.trunk.specs.Worked.{Worked}
+use Rattle.trunk.proofs.SweepLaws.{doneTo, done-keeps}
+use Rattle.trunk.proofs.TableWork.{map-port-at, next-is}
+use Rattle.trunk.proofs.KeepLaws.{reselected-compared}
 
 module _ (f : ℕ → Bool) (i j : ℕ) (h : j < i) where
   left-is : i - j ≡ suc (i - (j + 1))
@@ -39,3 +45,17 @@ pub joins-at : (ours : SystemId) (t : List ℕ) (i j : ℕ) → i < countIn t �
     → joins ours (map compared (ports t)) i j ≡ sameGroup ours (compared (portAt t i)) (compared (portAt t j))
 unfolding joins
 joins-at ours t i j hi hj = rw (map-port-at compared t i nobody hi, map-port-at compared t j nobody hj)
+
+-- ---- steps 3 and 4, port after port: the rule reads the same in the partly selected table
+
+abbrev pub selecting : SystemId → List Port → ℕ → Port → Port
+selecting ours ps i p = reselected (ruleOf ours (map compared ps) i) p
+
+pub select-same : (ours : SystemId) {t u : List ℕ} (i : ℕ) → Worked t u (doneTo (selecting ours (ports t)) i (ports t)) → i < countIn t
+    → selecting ours (ports u) i (portAt u i) ≡ selecting ours (ports t) i (portAt t i)
+select-same ours {t} {u} i so-far h =
+    let f = selecting ours (ports t) in
+    let read : map compared (ports u) ≡ map compared (ports t) =
+        ap (λ (l : List Port). map compared l) (so-far .records)
+        ∙ done-keeps compared f (λ j p. reselected-compared (ruleOf ours (map compared (ports t)) j) p) i (ports t) in
+    rw (read, next-is f i so-far h)

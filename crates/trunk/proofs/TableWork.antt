@@ -16,7 +16,9 @@ use Rattle.table.specs.Table.{tableInRange, countIn, ports, portAt}
 use Rattle.table.proofs.RecordLaws.{port-back}
 use Rattle.table.proofs.StoreLaws.{ports-length, ports-at, stored-length, stored-header, stored-ports}
 use Rattle.table.proofs.TableLaws.{InRange, in-range, in-range-is, inside, port-in-range, stored-in-range}
+use Rattle.trunk.specs.Settled.{mapFrom}
 use Rattle.trunk.specs.Worked.{Worked}
+use Rattle.trunk.proofs.SweepLaws.{doneTo, done-next, done-none, done-more, done-all}
 
 -- record i lies within a table in range
 pub room : (t : List ℕ) → tableInRange t ≡ true → (i : ℕ) → i < countIn t → place i + recordSize ≤ length t
@@ -58,3 +60,40 @@ map-at g (p ∷ ps) (suc i) a d h = map-at g ps i a d (omega arith)
 pub map-port-at : {A : Type 0} (g : Port → A) (t : List ℕ) (i : ℕ) (a : A) → i < countIn t → getD (map g (ports t)) i a ≡ g (portAt t i)
 map-port-at g t i a h =
     map-at g (ports t) i a (portAt t i) (rw ports-length h) ∙ ap g (ports-at t i (portAt t i) h)
+
+-- ---- a loop over the records: the first i of them are done
+
+module _ (f : ℕ → Port → Port) {t u : List ℕ} (i : ℕ) (so-far : Worked t u (doneTo f i (ports t))) (h : i < countIn t) where
+  pub in-list : i < length (ports t)
+  in-list = rw ports-length h
+
+  pub in-table : i < countIn u
+  in-table = rw (count-kept so-far) h
+
+  -- what the turn finds at i is as it was
+  pub next-is : portAt u i ≡ portAt t i
+  next-is =
+      sym (ports-at u i (portAt t i) in-table)
+      ∙ ap (λ (l : List Port). getD l i (portAt t i)) (so-far .records)
+      ∙ done-next f (ports t) i (portAt t i) in-list
+      ∙ ports-at t i (portAt t i) h
+
+  -- a turn that puts f's record at i
+  pub turn : {v : List ℕ} (q : Port) → Worked u v (set (ports u) i q) → q ≡ f i (portAt t i) → Worked t v (doneTo f (i + 1) (ports t))
+  turn q done e =
+      let all = then so-far done in
+      record {
+        header = all .header; size = all .size; ranged = all .ranged;
+        records =
+            all .records
+            ∙ ap (λ (l : List Port). set l i q) (so-far .records)
+            ∙ ap (λ (x : Port). set (doneTo f i (ports t)) i x) (e ∙ ap (f i) (sym (ports-at t i (portAt t i) h)))
+            ∙ done-more f (ports t) i (portAt t i) in-list }
+
+-- before the first turn, and after the last
+pub loop-begins : (f : ℕ → Port → Port) (t : List ℕ) → tableInRange t ≡ true → Worked t t (doneTo f 0 (ports t))
+loop-begins f t e = record { header = refl; size = refl; ranged = e; records = sym (done-none f (ports t) (portAt t 0)) }
+
+pub loop-ends : (f : ℕ → Port → Port) {t u : List ℕ} (n : ℕ) → countIn t ≡ n → Worked t u (doneTo f n (ports t)) → Worked t u (mapFrom f 0 (ports t))
+loop-ends f {t} n e w = record {
+    header = w .header; size = w .size; ranged = w .ranged; records = w .records ∙ done-all f (ports t) n (portAt t 0) (ports-length t ∙ e) }

@@ -78,3 +78,27 @@ fn reselect(p: Port, k: u8) -> Port
     }
     p
 }
+
+// Steps 3 and 4 for port i: the rule afresh.
+fn select_one(table: &mut [u8], i: usize, ours: SystemId)
+    requires { ⌜ (tableInRange (now table) ≡ true) × (i < countIn (now table)) ⌝ }
+    ensures { λ _. ⌜ Worked (now (table .entry)) (now (table .exit)) (set (ports (now (table .entry))) i (reselected (ruleOf ours (map compared (ports (now (table .entry)))) i) (portAt (now (table .entry)) i))) ⌝ }
+{
+    let k = lowest(table, i, ours) + 1;
+    let p = table::load(table, i);
+    let q = reselect(p, k as u8);
+    table::store(table, i, q);
+}
+
+// Steps 3 and 4 for all ports.
+pub fn select_all(table: &mut [u8], ours: SystemId)
+    requires { ⌜ tableInRange (now table) ≡ true ⌝ }
+    ensures { λ _. ⌜ Worked (now (table .entry)) (now (table .exit)) (selectedAll ours (ports (now (table .entry)))) ⌝ }
+{
+    let n = table[0] as usize;
+    let mut i: usize = 0;
+    while i < n {
+        select_one(table, i, ours);
+        i += 1;
+    }
+}
