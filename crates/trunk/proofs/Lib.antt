@@ -3,3 +3,5 @@ pub mod RangeKept
 pub mod TableWork
 pub mod SelectLaws
 pub mod KeepLaws
+pub mod ReadyLaws
+pub mod StepLaws

@@ -1,9 +1,10 @@
 -- Steps 3 to 6 and displacement keep a record in range. Assumes nothing.
 use Prim.Native.Nat.{ℕ, _≤_}
 use mathlib.Core.Path.{_≡_, refl, sym, ap, _∙_}
-use mathlib.Core.Bool.{Bool, true, false, cond, _&&_}
+use mathlib.Core.Bool.{Bool, true, false, cond, not, _&&_}
 use native.Mathlib.Omega.{arith}
-use lib.Dec.{leb}
+use lib.Dec.{leb, eqb}
+use Rattle.frame.specs.declared.block.Block.{Block}
 use Rattle.machine.specs.declared.states.Mux.{Mux}
 use Rattle.machine.specs.declared.states.Mux.the-variants.{Detached, Waiting, Attached, Collecting, Distributing}
 use Rattle.machine.specs.declared.states.Selection.{Selection}
@@ -122,3 +123,7 @@ module _ (count : ℕ) where
         own = r .own;
         partner = default-fits (p .own) (r .own);
       })
+
+  pub displaced-ranged : (r : ℕ) (a : Block) (i : ℕ) (p : Port) → portInRange count p ≡ true → portInRange count (displacedIf r a i p) ≡ true
+  unfolding displacedIf
+  displaced-ranged r a i p e = if-ranged (not (eqb i r) && isDisplaced a p) (moved p) p (moved-ranged p e) e

@@ -56,6 +56,6 @@ pub select-same : (ours : SystemId) {t u : List ℕ} (i : ℕ) → Worked t u (d
 select-same ours {t} {u} i so-far h =
     let f = selecting ours (ports t) in
     let read : map compared (ports u) ≡ map compared (ports t) =
-        ap (λ (l : List Port). map compared l) (so-far .records)
-        ∙ done-keeps compared f (λ j p. reselected-compared (ruleOf ours (map compared (ports t)) j) p) i (ports t) in
+    ap (λ (l : List Port). map compared l) (so-far .records)
+    ∙ done-keeps compared f (λ j p. reselected-compared (ruleOf ours (map compared (ports t)) j) p) i (ports t) in
     rw (read, next-is f i so-far h)

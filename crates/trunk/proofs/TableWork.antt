@@ -83,12 +83,15 @@ module _ (f : ℕ → Port → Port) {t u : List ℕ} (i : ℕ) (so-far : Worked
   turn q done e =
       let all = then so-far done in
       record {
-        header = all .header; size = all .size; ranged = all .ranged;
+        header = all .header;
+        size = all .size;
+        ranged = all .ranged;
         records =
             all .records
             ∙ ap (λ (l : List Port). set l i q) (so-far .records)
             ∙ ap (λ (x : Port). set (doneTo f i (ports t)) i x) (e ∙ ap (f i) (sym (ports-at t i (portAt t i) h)))
-            ∙ done-more f (ports t) i (portAt t i) in-list }
+            ∙ done-more f (ports t) i (portAt t i) in-list;
+      }
 
 -- before the first turn, and after the last
 pub loop-begins : (f : ℕ → Port → Port) (t : List ℕ) → tableInRange t ≡ true → Worked t t (doneTo f 0 (ports t))
@@ -96,4 +99,12 @@ loop-begins f t e = record { header = refl; size = refl; ranged = e; records = s
 
 pub loop-ends : (f : ℕ → Port → Port) {t u : List ℕ} (n : ℕ) → countIn t ≡ n → Worked t u (doneTo f n (ports t)) → Worked t u (mapFrom f 0 (ports t))
 loop-ends f {t} n e w = record {
-    header = w .header; size = w .size; ranged = w .ranged; records = w .records ∙ done-all f (ports t) n (portAt t 0) (ports-length t ∙ e) }
+  header = w .header;
+  size = w .size;
+  ranged = w .ranged;
+  records = w .records ∙ done-all f (ports t) n (portAt t 0) (ports-length t ∙ e);
+}
+
+-- the same records, said otherwise
+pub said : {t u : List ℕ} {ps qs : List Port} → ps ≡ qs → Worked t u ps → Worked t u qs
+said e w = record { header = w .header; size = w .size; ranged = w .ranged; records = w .records ∙ e }

@@ -1,5 +1,7 @@
 -- Steps 3 to 6 of document 01's order of work, on all records.
-use Prim.Native.Nat.{ℕ, _+_}
+use Prim.Native.Nat.{ℕ, _+_, _<_}
+use mathlib.Core.Path.{_≡_}
+use lib.ListN.{length, getD}
 use mathlib.Core.Bool.{Bool, true, false, cond, not, _||_}
 use mathlib.Core.List.{List, [], _∷_, map}
 use lib.Dec.{eqb}
@@ -44,3 +46,7 @@ climbed p = quieted (muxRun p)
 
 unfoldable pub settled : SystemId → List Port → List Port
 settled ours ps = map climbed (attachedAll (selectedAll ours ps))
+
+-- every port is SELECTED, as step 4 leaves them
+abbrev pub AllSelected : List Port → Type 0
+AllSelected ps = (i : ℕ) (d : Port) → i < length ps → getD ps i d .phase .selected ≡ Selected

@@ -1,1 +1,69 @@
-// stub
+// Displaced ports (43.4.8 port_moved).
+ghost use mathlib.Core.Path.{_≡_};
+ghost use mathlib.Core.Bool.{true};
+ghost use Prim.Native.Nat.{_<_};
+ghost use lib.ListN.{set};
+ghost use Rattle.table.specs.Table.{tableInRange, countIn, ports, portAt};
+ghost use Rattle.trunk.specs.Displaced.{isDisabled, isDisplaced, displacedIf, displaced};
+ghost use Rattle.trunk.specs.Worked.{Worked};
+use frame::block::Block;
+use machine::compare::same_address;
+use machine::states::Receive;
+use port::record::Port;
+
+fn is_disabled(s: Receive) -> bool
+    ensures { λ r. ⌜ r ≡ isDisabled s ⌝ }
+{
+    match s {
+        Receive::Initialize => false,
+        Receive::PortDisabled => true,
+        Receive::Expired => false,
+        Receive::LacpDisabled => false,
+        Receive::Defaulted => false,
+        Receive::Current => false,
+    }
+}
+
+// In PORT_DISABLED, with a partner whose system address and port are those of the block `a`.
+fn is_displaced(p: Port, a: Block) -> bool
+    ensures { λ r. ⌜ r ≡ isDisplaced a p ⌝ }
+{
+    let h = p.phase;
+    let s = h.receive;
+    let partner = p.partner;
+    let x = partner.system.address;
+    let y = a.system.address;
+    is_disabled(s) & (same_address(x, y) & (partner.port.number == a.port.number))
+}
+
+// What port i does when port r heard the block `a`.
+fn displace(p: Port, i: usize, r: usize, a: Block) -> Port
+    ensures { λ q. ⌜ q ≡ displacedIf r a i p ⌝ }
+{
+    if !(i == r) & is_displaced(p, a) {
+        return p.moved_away();
+    }
+    p
+}
+
+fn displace_one(table: &mut [u8], i: usize, r: usize, a: Block)
+    requires { ⌜ (tableInRange (now table) ≡ true) × (i < countIn (now table)) ⌝ }
+    ensures { λ _. ⌜ Worked (now (table .entry)) (now (table .exit)) (set (ports (now (table .entry))) i (displacedIf r a i (portAt (now (table .entry)) i))) ⌝ }
+{
+    let p = table::load(table, i);
+    let q = displace(p, i, r, a);
+    table::store(table, i, q);
+}
+
+// Port r, from 0, heard the block `a`: every other port that is displaced does INITIALIZE, then PORT_DISABLED.
+pub fn displace_all(table: &mut [u8], r: usize, a: Block)
+    requires { ⌜ tableInRange (now table) ≡ true ⌝ }
+    ensures { λ _. ⌜ Worked (now (table .entry)) (now (table .exit)) (displaced r a (ports (now (table .entry)))) ⌝ }
+{
+    let n = table[0] as usize;
+    let mut i: usize = 0;
+    while i < n {
+        displace_one(table, i, r, a);
+        i += 1;
+    }
+}

@@ -1,1 +1,60 @@
-// stub
+// Ready of an aggregator (43.4.8), and step 5.
+ghost use mathlib.Core.Path.{_≡_};
+ghost use mathlib.Core.Bool.{true};
+ghost use Prim.Native.Nat.{_<_};
+ghost use lib.ListN.{set};
+ghost use Rattle.port.specs.Mux.{attachedIf};
+ghost use Rattle.table.specs.Table.{tableInRange, countIn, ports, portAt};
+ghost use Rattle.trunk.specs.Ready.{holdsBack, heldBack, ready};
+ghost use Rattle.trunk.specs.Settled.{AllSelected, attachedAll};
+ghost use Rattle.trunk.specs.Worked.{Worked};
+use port::record::Port;
+
+// Whether a port waits for aggregator k with its timer still running.
+fn holds_back(p: Port, k: u8) -> bool
+    ensures { λ r. ⌜ r ≡ holdsBack k p ⌝ }
+{
+    let h = p.phase;
+    let m = h.mux;
+    ((p.aggregator == k) & m.waits()) & !(p.timers.wait.0 == 0)
+}
+
+// Whether some port holds aggregator k back.
+fn is_held_back(table: &[u8], k: u8) -> bool
+    requires { ⌜ tableInRange (now table) ≡ true ⌝ }
+    ensures { λ r. ⌜ r ≡ heldBack k (ports (now (table .entry))) ⌝ }
+{
+    let n = table[0] as usize;
+    let mut i: usize = 0;
+    while i < n {
+        if holds_back(table::load(table, i), k) {
+            return true;
+        }
+        i += 1;
+    }
+    false
+}
+
+// Step 5 for port i. Where the port waits, its aggregator has a waiting port, so it is Ready unless somebody holds it back.
+fn attach_one(table: &mut [u8], i: usize)
+    requires { ⌜ (tableInRange (now table) ≡ true) × (i < countIn (now table)) ⌝ }
+    ensures { λ _. ⌜ Worked (now (table .entry)) (now (table .exit)) (set (ports (now (table .entry))) i (attachedIf (ready (portAt (now (table .entry)) i .aggregator) (ports (now (table .entry)))) (portAt (now (table .entry)) i))) ⌝ }
+{
+    let p = table::load(table, i);
+    let held = is_held_back(table, p.aggregator);
+    let q = p.attach(!held);
+    table::store(table, i, q);
+}
+
+// Step 5 for all ports, which step 4 left SELECTED.
+pub fn attach_all(table: &mut [u8])
+    requires { ⌜ (tableInRange (now table) ≡ true) × AllSelected (ports (now table)) ⌝ }
+    ensures { λ _. ⌜ Worked (now (table .entry)) (now (table .exit)) (attachedAll (ports (now (table .entry)))) ⌝ }
+{
+    let n = table[0] as usize;
+    let mut i: usize = 0;
+    while i < n {
+        attach_one(table, i);
+        i += 1;
+    }
+}

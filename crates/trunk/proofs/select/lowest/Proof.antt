@@ -1,6 +1,7 @@
-use Prim.Native.Nat.{ℕ, _≤_, _<_, _-_}
+-- `trunk::select::lowest` meets its contract: the search from port 0 on, turn by turn. Assumes nothing.
+use Prim.Native.Nat.{_≤_, _<_, _-_}
 use mathlib.Core.Path.{_≡_, sym, _∙_}
-use mathlib.Core.List.{List, map}
+use mathlib.Core.List.{map}
 use native.Mathlib.Omega.{arith}
 use denote.Ref.{now}
 use Rattle.port.specs.Compared.{compared}
@@ -10,10 +11,6 @@ use Rattle.trunk.proofs.TableWork.{room}
 use Rattle.trunk.proofs.SelectLaws.{first-here, first-further, first-none, lowest-starts, joins-at}
 use Rattle.trunk.proofs.select.lowest.Statement.{statement}
 use Rattle.trunk.proofs.select.lowest.Tie as tie
-use Rattle.trunk.proofs.select.lowest.Reads as reads
-use Rattle.trunk.proofs.select.lowest.Lts as lts
-use Rattle.table.proofs.load.Reads as load-reads
-use Rattle.trunk.proofs.select.same_group.Reads as same-group-reads
 
 abbrev Inv-loop : tie.InvT-loop
 Inv-loop table i ours p j₀ j =
@@ -22,23 +19,18 @@ Inv-loop table i ours p j₀ j =
 abbrev μ-loop : tie.MeasureT-loop
 μ-loop table i ours p j₀ j = i - j
 
--- src/select.rt:43:9
 load-requires : tie.Need-load-requires Inv-loop μ-loop
 load-requires c κs = room (now (c .before .args .table)) (c .before .pre .0) (c .before .args .i) (c .before .pre .1)
 
--- src/select.rt:45:5
 loop-holds : tie.Need-loop-holds Inv-loop μ-loop
 loop-holds c = (omega arith, lowest-starts (c .before .before .args .ours) (map compared (ports (now (c .before .before .args .table)))) (c .before .before .args .i))
 
--- src/select.rt:46:26
 load-requires-2 : tie.Need-load-requires-2 Inv-loop μ-loop
 load-requires-2 c κs = room (now (c .before .before .before .before .args .table)) (c .before .before .before .before .pre .0) (c .before .loop .j) (omega arith)
 
--- src/select.rt:46:12
 same-group-requires : tie.Need-same-group-requires Inv-loop μ-loop
 same-group-requires c κs = tt
 
--- src/select.rt:47:13
 returns : tie.Need-returns Inv-loop μ-loop
 returns c =
     let a = (c .before .before .before .before .before .before .before .args) in
@@ -50,15 +42,12 @@ returns c =
     ∙ sym (rw ((c .before .before .before .before .before .load .ensures), (c .before .before .load2 .ensures)) at (c .before .same-group .ensures)) in
     (sym ((c .before .before .before .before .loop .inv .1) ∙ first-here _ (a .i) j less (told ∙ (c .if1 .taken))), omega arith)
 
--- src/select.rt:49:9
 add-j : tie.Need-add-j Inv-loop μ-loop
 add-j c = omega arith
 
--- src/select.rt:45:5
 loop-less : tie.Need-loop-less Inv-loop μ-loop
 loop-less c = omega arith
 
--- src/select.rt:45:5
 loop-again : tie.Need-loop-again Inv-loop μ-loop
 loop-again c =
     let a = (c .before .before .before .before .before .before .before .args) in
@@ -70,7 +59,6 @@ loop-again c =
     ∙ sym (rw ((c .before .before .before .before .before .load .ensures), (c .before .before .load2 .ensures)) at (c .before .same-group .ensures)) in
     (omega arith, (c .before .before .before .before .loop .inv .1) ∙ first-further _ (a .i) j less (told ∙ (c .if1 .left)))
 
--- src/select.rt:39:1
 returns-2 : tie.Need-returns-2 Inv-loop μ-loop
 returns-2 c =
     let i = (c .before .before .before .before .args .i) in

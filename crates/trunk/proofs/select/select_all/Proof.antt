@@ -1,4 +1,5 @@
-use Prim.Native.Nat.{ℕ, _≤_, _<_, _-_}
+-- `trunk::select::select_all` meets its contract: the loop has done the first i records (`doneTo`), and a turn does the next. Assumes nothing.
+use Prim.Native.Nat.{_≤_, _<_, _-_}
 use mathlib.Core.Path.{_≡_, refl}
 use native.Mathlib.Omega.{arith}
 use denote.Ref.{now}
@@ -11,9 +12,6 @@ use Rattle.trunk.proofs.SelectLaws.{selecting, select-same}
 use Rattle.trunk.proofs.TableWork.{loop-begins, loop-ends, in-table, turn}
 use Rattle.trunk.proofs.select.select_all.Statement.{statement}
 use Rattle.trunk.proofs.select.select_all.Tie as tie
-use Rattle.trunk.proofs.select.select_all.Reads as reads
-use Rattle.trunk.proofs.select.select_all.Lts as lts
-use Rattle.trunk.proofs.select.select_one.Reads as select-one-reads
 
 abbrev Inv-loop : tie.InvT-loop
 Inv-loop table₀ ours n i₀ table i =
@@ -22,35 +20,28 @@ Inv-loop table₀ ours n i₀ table i =
 abbrev μ-loop : tie.MeasureT-loop
 μ-loop table₀ ours n i₀ table i = n - i
 
--- src/select.rt:98:13
 slice-read-n : tie.Need-slice-read-n Inv-loop μ-loop
 slice-read-n c = let r = in-range _ (c .before .before .pre) .header in omega arith
 
--- src/select.rt:98:13
 cast-n : tie.Need-cast-n Inv-loop μ-loop
 cast-n c = omega (arith, c .slice-known2 .given 0)
 
--- src/select.rt:100:5
 loop-holds : tie.Need-loop-holds Inv-loop μ-loop
 loop-holds c =
     let t = now (c .before .before .args .table) in
     (omega arith, refl, loop-begins (selecting (c .before .before .args .ours) (ports t)) t (c .before .before .pre))
 
--- src/select.rt:101:9
 select-one-requires : tie.Need-select-one-requires Inv-loop μ-loop
 select-one-requires c κs =
     let inv = (c .before .before .loop .inv) in
     (inv .2 .ranged, in-table (selecting (c .before .before .before .before .before .args .ours) (ports (now (c .before .before .before .before .before .args .table)))) (c .before .before .loop .i) (inv .2) (omega arith))
 
--- src/select.rt:102:9
 add-i : tie.Need-add-i Inv-loop μ-loop
 add-i c = let most = in-range _ (c .before .before .before .before .before .before .before .before .pre) .most in omega arith
 
--- src/select.rt:100:5
 loop-less : tie.Need-loop-less Inv-loop μ-loop
 loop-less c = omega arith
 
--- src/select.rt:100:5
 loop-again : tie.Need-loop-again Inv-loop μ-loop
 loop-again c =
     let inv = (c .before .before .before .before .before .loop .inv) in
@@ -60,11 +51,9 @@ loop-again c =
     let h : i < countIn t = omega arith in
     (omega arith, inv .1, turn (selecting ours (ports t)) i (inv .2) h _ (c .before .before .select-one .ensures) (select-same ours i (inv .2) h))
 
--- src/select.rt:94:1
 same-length : tie.Need-same-length Inv-loop μ-loop
 same-length c = (c .before .loop .inv .2 .size)
 
--- src/select.rt:94:1
 returns : tie.Need-returns Inv-loop μ-loop
 unfolding selectedAll
 returns c =

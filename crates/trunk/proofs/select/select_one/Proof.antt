@@ -1,4 +1,5 @@
-use Prim.Native.Nat.{ℕ, _≤_, _+_}
+-- `trunk::select::select_one` meets its contract: the record is loaded, stepped and stored, and stays in range. Assumes nothing.
+use Prim.Native.Nat.{_≤_, _+_}
 use mathlib.Core.Path.{_≡_}
 use mathlib.Core.Bool.{true}
 use mathlib.Core.List.{map}
@@ -16,42 +17,28 @@ use Rattle.trunk.proofs.TableWork.{room, ranged-at, stored}
 use borrow.Author.Needs.{needs}
 use Rattle.trunk.proofs.select.select_one.Statement.{statement}
 use Rattle.trunk.proofs.select.select_one.Tie as tie
-use Rattle.trunk.proofs.select.select_one.Reads as reads
-use Rattle.trunk.proofs.select.select_one.Lts as lts
-use Rattle.table.proofs.load.Reads as load-reads
-use Rattle.table.proofs.store.Reads as store-reads
-use Rattle.trunk.proofs.select.lowest.Reads as lowest-reads
-use Rattle.trunk.proofs.select.reselect.Reads as reselect-reads
 
--- src/select.rt:87:13
 lowest-requires : tie.Need-lowest-requires
 lowest-requires c κs = search needs
 
--- src/select.rt:87:13
 add-k : tie.Need-add-k
 add-k c = let most = in-range _ (c .before .before .before .pre .0) .most in omega arith
 
--- src/select.rt:88:9
 load-requires : tie.Need-load-requires
 load-requires c κs = room _ (c .before .before .before .before .pre .0) (c .before .before .before .before .args .i) (c .before .before .before .before .pre .1)
 
--- src/select.rt:89:25
 cast-reselect : tie.Need-cast-reselect
 cast-reselect c = let most = in-range _ (c .before .before .before .before .before .pre .0) .most in omega arith
 
--- src/select.rt:89:9
 reselect-requires : tie.Need-reselect-requires
 reselect-requires c κs = search needs
 
--- src/select.rt:90:5
 store-requires : tie.Need-store-requires
 store-requires c κs = room _ (c .before .before .before .before .before .before .before .pre .0) (c .before .before .before .before .before .before .before .args .i) (c .before .before .before .before .before .before .before .pre .1)
 
--- src/select.rt:83:1
 same-length : tie.Need-same-length
 same-length c = search needs
 
--- src/select.rt:83:1
 returns : tie.Need-returns
 unfolding ruleOf
 returns c =

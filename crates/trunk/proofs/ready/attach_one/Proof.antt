@@ -1,0 +1,54 @@
+-- `trunk::ready::attach_one` meets its contract: the record is loaded, stepped and stored, and stays in range. Assumes nothing.
+use mathlib.Core.Path.{_≡_}
+use mathlib.Core.Bool.{not}
+use denote.Ref.{now}
+use Rattle.port.specs.Mux.{attachedIf}
+use Rattle.table.specs.Table.{countIn, ports, portAt}
+use Rattle.table.proofs.StoreLaws.{ports-length, ports-at}
+use Rattle.trunk.specs.Ready.{heldBack, ready}
+use Rattle.trunk.proofs.RangeKept.{attached-ranged}
+use Rattle.trunk.proofs.StepLaws.{attach-ready}
+use Rattle.trunk.proofs.TableWork.{room, ranged-at, stored}
+use borrow.Author.Needs.{needs}
+use Rattle.trunk.proofs.ready.attach_one.Statement.{statement}
+use Rattle.trunk.proofs.ready.attach_one.Tie as tie
+
+load-requires : tie.Need-load-requires
+load-requires c κs = room _ (c .before .before .pre .0) (c .before .before .args .i) (c .before .before .pre .1)
+
+is-held-back-requires : tie.Need-is-held-back-requires
+is-held-back-requires c κs = search needs
+
+attach-requires : tie.Need-attach-requires
+attach-requires c κs = search needs
+
+store-requires : tie.Need-store-requires
+store-requires c κs = room _ (c .before .before .before .before .before .before .before .pre .0) (c .before .before .before .before .before .before .before .args .i) (c .before .before .before .before .before .before .before .pre .1)
+
+same-length : tie.Need-same-length
+same-length c = search needs
+
+returns : tie.Need-returns
+returns c =
+    let a = (c .before .before .before .before .before .before .before .before .before .before .args) in
+    let t = now (a .table) in
+    let e = (c .before .before .before .before .before .before .before .before .before .before .pre .0) in
+    let h = (c .before .before .before .before .before .before .before .before .before .before .pre .1) in
+    let p = portAt t (a .i) in
+    let fit = attached-ranged (countIn t) (ready (p .aggregator) (ports t)) p (ranged-at t e (λ j. (c .before .before .before .before .before .before .before .before .before .slice-known .given) j .fits) (a .i) h) in
+    let here = ports-at t (a .i) p h in
+    let once : attachedIf (not (heldBack (p .aggregator) (ports t))) p ≡ attachedIf (ready (p .aggregator) (ports t)) p =
+    rw here at (attach-ready (ports t) (a .i) p (rw ports-length h)) in
+    rw ((c .before .before .store .ensures), (c .before .before .before .before .attach .ensures), (c .before .before .before .before .before .is-held-back .ensures), (c .before .before .before .before .before .before .before .load .ensures), once)
+    (stored t (a .i) (attachedIf (ready (p .aggregator) (ports t)) p) e h fit)
+
+pub attach-one-spec : {M : Type 1} → statement M
+attach-one-spec =
+    tie.close
+    (tie.spec
+    load-requires
+    is-held-back-requires
+    attach-requires
+    store-requires
+    same-length
+    returns)

@@ -1,0 +1,55 @@
+-- `trunk::settle::settle` meets its contract: steps 3 and 4, 5, and 6 one after the other. Assumes nothing.
+use mathlib.Core.Path.{_≡_, ap, _∙_}
+use mathlib.Core.List.{List, map}
+use denote.Ref.{now}
+use Rattle.frame.specs.declared.block.SystemId.{SystemId}
+use Rattle.port.specs.declared.record.Port.{Port}
+use Rattle.table.specs.declared.layout.Header.{Header}
+use Rattle.table.specs.Table.{ports}
+use Rattle.table.proofs.TableLaws.{in-range}
+use Rattle.trunk.specs.Settled.{selectedAll, attachedAll, climbed, settled}
+use Rattle.trunk.proofs.StepLaws.{all-selected}
+use Rattle.trunk.proofs.TableWork.{then, said}
+use borrow.Author.Needs.{needs}
+use Rattle.trunk.proofs.settle.settle.Statement.{statement}
+use Rattle.trunk.proofs.settle.settle.Tie as tie
+
+read-header-requires : tie.Need-read-header-requires
+read-header-requires c κs = in-range _ (c .before .before .pre) .header
+
+select-all-requires : tie.Need-select-all-requires
+select-all-requires c κs = search needs
+
+attach-all-requires : tie.Need-attach-all-requires
+attach-all-requires c κs =
+    let chosen = (c .before .before .before .select-all .ensures) in
+    (chosen .ranged, rw (chosen .records) (all-selected _ (ports (now (c .before .before .before .before .before .before .before .before .before .args .table)))))
+
+climb-all-requires : tie.Need-climb-all-requires
+climb-all-requires c κs = search needs
+
+same-length : tie.Need-same-length
+same-length c = search needs
+
+returns : tie.Need-returns
+unfolding settled
+returns c =
+    let first = (c .before .before .before .before .before .before .before .before .before .before .select-all .ensures) in
+    let second = (c .before .before .before .before .before .before .attach-all .ensures) in
+    let third = (c .before .before .climb-all .ensures) in
+    let ps = ports (now (c .before .before .before .before .before .before .before .before .before .before .before .before .before .before .before .before .args .table)) in
+    let ours : _ ≡ _ = ap (λ (h : Header). h .system) (c .before .before .before .before .before .before .before .before .before .before .before .before .before .read-header .ensures) in
+    said
+    (ap (λ (l : List Port). map climbed l) (second .records ∙ ap attachedAll (first .records ∙ ap (λ (s : SystemId). selectedAll s ps) ours)))
+    (then (then first second) third)
+
+pub settle-spec : {M : Type 1} → statement M
+settle-spec =
+    tie.close
+    (tie.spec
+    read-header-requires
+    select-all-requires
+    attach-all-requires
+    climb-all-requires
+    same-length
+    returns)
