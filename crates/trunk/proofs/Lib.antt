@@ -4,4 +4,8 @@ pub mod TableWork
 pub mod SelectLaws
 pub mod KeepLaws
 pub mod ReadyLaws
+pub mod GroupLaws
+pub mod SettledLaws
 pub mod StepLaws
+pub mod RestLaws
+pub mod DependLaws

@@ -1,58 +1,32 @@
--- What the loops of steps 5 and 6 need: a sweep that does not look at the index is a map, every port is SELECTED after step 4, and
--- Ready reads the same in the partly attached table. Assumes nothing.
+-- What the loops of steps 5 and 6 need: every port is SELECTED after step 4, and Ready reads the same in the partly attached table. Assumes nothing.
 use Prim.Native.Nat.{ℕ, zero, suc, _+_, _<_}
 use mathlib.Core.Path.{_≡_, refl, sym, ap, _∙_}
 use mathlib.Core.Bool.{Bool, true, false, cond, not, _&&_, _||_}
-use mathlib.Core.List.{List, [], _∷_, map}
+use mathlib.Core.List.{List}
 use native.Mathlib.Omega.{arith}
 use lib.ListN.{length, getD, drop}
 use lib.Seq.{drop-cons, drop-length}
-use lib.Dec.{eqb}
 use Rattle.frame.specs.declared.block.SystemId.{SystemId}
-use Rattle.machine.specs.declared.states.Selection.{Selection}
-use Rattle.machine.specs.declared.states.Selection.the-variants.{Unselected, Selected}
 use Rattle.machine.specs.Mux.{waits}
 use Rattle.port.specs.declared.record.Port.{Port}
-use Rattle.port.specs.Compared.{compared}
-use Rattle.port.specs.Record.{withSelected, withAggregator}
-use Rattle.port.specs.Mux.{detached, placed, attachedIf}
-use Rattle.port.proofs.MuxLaws.{placed-keeps}
+use Rattle.port.specs.Mux.{attachedIf}
 use Rattle.table.specs.Table.{countIn, ports, portAt}
 use Rattle.table.proofs.StoreLaws.{ports-length, ports-at}
-use Rattle.trunk.specs.Selection.{ruleOf}
 use Rattle.trunk.specs.Ready.{hasWaiting, holdsBack, heldBack, ready}
-use Rattle.trunk.specs.Settled.{mapFrom, isUnselected, mustMove, reselected, selectedAll, AllSelected, climbed}
+use Rattle.trunk.specs.Settled.{selectedAll, AllSelected, climbed}
 use Rattle.trunk.specs.Worked.{Worked}
-use Rattle.trunk.proofs.SweepLaws.{sweep-at, sweep-length, doneTo, done-next}
+use Rattle.trunk.proofs.SweepLaws.{doneTo}
 use Rattle.trunk.proofs.TableWork.{next-is}
+use Rattle.trunk.proofs.SettledLaws.{selected-chosen, selected-length}
 use Rattle.trunk.proofs.ReadyLaws.{attaching, attached-other, some-waits, waits-own, ready-meanwhile}
-
-pub sweep-map : (g : Port → Port) (i : ℕ) (ps : List Port) → mapFrom (λ j p. g p) i ps ≡ map g ps
-unfolding mapFrom
-sweep-map g i [] = refl
-sweep-map g i (p ∷ ps) = ap (λ (l : List Port). g p ∷ l) (sweep-map g (i + 1) ps)
 
 abbrev pub climbing : ℕ → Port → Port
 climbing i p = climbed p
 
 -- ---- every port is SELECTED after step 4
 
-reselected-is : (k : ℕ) (p : Port) (b : Bool) (s : Selection) → p .phase .selected ≡ s → isUnselected s || b ≡ mustMove k p
-    → reselected k p .phase .selected ≡ Selected
-unfolding reselected
-reselected-is k p b Unselected e m = rw (← m) (ap (λ (q : Port). q .phase .selected) (placed-keeps k (detached p)))
-reselected-is k p true Selected e m = rw (← m) (ap (λ (q : Port). q .phase .selected) (placed-keeps k (detached p)))
-reselected-is k p false Selected e m = rw (← m) e
-
-pub reselected-selected : (k : ℕ) (p : Port) → reselected k p .phase .selected ≡ Selected
-unfolding mustMove
-reselected-selected k p = reselected-is k p (not (eqb (p .aggregator) k)) (p .phase .selected) refl refl
-
 pub all-selected : (ours : SystemId) (ps : List Port) → AllSelected (selectedAll ours ps)
-unfolding selectedAll
-all-selected ours ps i d h =
-    ap (λ (q : Port). q .phase .selected) (sweep-at _ 0 ps i d (rw (sweep-length _ 0 ps) at h))
-    ∙ reselected-selected (ruleOf ours (map compared ps) (0 + i)) (getD ps i d)
+all-selected ours ps i d h = selected-chosen ours ps i d (rw (selected-length ours ps) at h)
 
 -- ---- is somebody held back: one record at a time
 

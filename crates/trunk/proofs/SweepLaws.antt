@@ -94,3 +94,9 @@ if-keeps g false p q e = refl
 
 pub done-keeps : {A : Type 0} (g : Port → A) (f : ℕ → Port → Port) → ((i : ℕ) (p : Port) → g (f i p) ≡ g p) → (i : ℕ) (ps : List Port) → map g (doneTo f i ps) ≡ map g ps
 done-keeps g f keeps i ps = sweep-keeps g (below f i) (λ j p. if-keeps g (ltb j i) p (f j p) (keeps j p)) 0 ps
+
+-- a sweep that does not look at the index is a map
+pub sweep-map : (g : Port → Port) (i : ℕ) (ps : List Port) → mapFrom (λ j p. g p) i ps ≡ map g ps
+unfolding mapFrom
+sweep-map g i [] = refl
+sweep-map g i (p ∷ ps) = ap (λ (l : List Port). g p ∷ l) (sweep-map g (i + 1) ps)

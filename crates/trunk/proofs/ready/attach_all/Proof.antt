@@ -9,9 +9,9 @@ use Rattle.table.proofs.TableLaws.{in-range}
 use Rattle.trunk.specs.Ready.{ready}
 use Rattle.trunk.specs.Settled.{attachedAll}
 use Rattle.trunk.specs.Worked.{Worked}
-use Rattle.trunk.proofs.SweepLaws.{doneTo}
+use Rattle.trunk.proofs.SweepLaws.{doneTo, sweep-map}
 use Rattle.trunk.proofs.ReadyLaws.{attaching}
-use Rattle.trunk.proofs.StepLaws.{sweep-map, attach-same}
+use Rattle.trunk.proofs.StepLaws.{attach-same}
 use Rattle.trunk.proofs.TableWork.{loop-begins, loop-ends, in-table, turn, said}
 use Rattle.trunk.proofs.ready.attach_all.Statement.{statement}
 use Rattle.trunk.proofs.ready.attach_all.Tie as tie

@@ -6,10 +6,10 @@ use denote.Ref.{now}
 use Rattle.table.specs.Table.{countIn, ports}
 use Rattle.table.proofs.TableLaws.{in-range}
 use Rattle.trunk.specs.Worked.{Worked}
-use Rattle.trunk.proofs.SweepLaws.{doneTo}
+use Rattle.trunk.proofs.SweepLaws.{doneTo, sweep-map}
 use Rattle.trunk.proofs.TableWork.{loop-begins, loop-ends, in-table, next-is, turn, said}
 use Rattle.trunk.specs.Settled.{climbed}
-use Rattle.trunk.proofs.StepLaws.{sweep-map, climbing}
+use Rattle.trunk.proofs.StepLaws.{climbing}
 use Rattle.trunk.proofs.settle.climb_all.Statement.{statement}
 use Rattle.trunk.proofs.settle.climb_all.Tie as tie
 

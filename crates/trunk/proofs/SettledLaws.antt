@@ -1,0 +1,174 @@
+-- After steps 3 to 6 every port is SELECTED and holds what the rule gives afresh, for none of them changes what the rule reads. By the
+-- elements: each step changes a record by its index alone. Assumes nothing.
+use Prim.Native.Nat.{ℕ, _+_, _<_}
+use mathlib.Core.Path.{_≡_, refl, sym, ap, _∙_}
+use mathlib.Core.Bool.{Bool, true, false, cond, not, _||_, true≢false}
+use mathlib.Core.List.{List, [], _∷_, map}
+use native.Mathlib.Omega.{arith}
+use lib.ListN.{length, getD, length-map}
+use lib.Dec.{eqb}
+use borrow.Author.Tests.{eqb-true, eq-eqb, not-false}
+use Rattle.frame.specs.declared.block.SystemId.{SystemId}
+use Rattle.machine.specs.declared.states.Selection.{Selection}
+use Rattle.machine.specs.declared.states.Selection.the-variants.{Unselected, Selected}
+use Rattle.machine.specs.Mux.{waits}
+use Rattle.port.specs.declared.record.Port.{Port}
+use Rattle.port.specs.Compared.{compared}
+use Rattle.port.specs.Mux.{detached, placed, attachedIf, muxRun}
+use Rattle.port.proofs.MuxLaws.{mux-keeps, detached-keeps, placed-keeps, attached-keeps}
+use Rattle.port.proofs.TransmitLaws.{quieted-keeps}
+use Rattle.trunk.specs.Selection.{sharesGroup, ruleOf}
+use Rattle.trunk.specs.Ready.{ready}
+use Rattle.trunk.specs.Settled.{mapFrom, isUnselected, mustMove, reselected, selectedAll, attachedAll, climbed, settled}
+use Rattle.trunk.proofs.SweepLaws.{doneTo, sweep-length, sweep-at, sweep-keeps, sweep-map}
+use Rattle.trunk.proofs.TableWork.{map-at}
+use Rattle.trunk.proofs.KeepLaws.{reselected-compared, attached-compared, climbed-compared}
+use Rattle.trunk.proofs.ReadyLaws.{attaching, ready-meanwhile}
+use Rattle.trunk.proofs.GroupLaws.{rule-shared, rule-apart}
+
+-- ---- one port
+
+-- a port that stays is SELECTED and holds what the rule gives
+stays-selected : (s : Selection) (b : Bool) → isUnselected s || not b ≡ false → (s ≡ Selected) × (b ≡ true)
+stays-selected Unselected b e = absurd (true≢false e)
+stays-selected Selected b e = (refl, not-false b e)
+
+-- after steps 3 and 4 a port is SELECTED and holds aggregator k
+pub reselected-is : (k : ℕ) (p : Port) → (reselected k p .phase .selected ≡ Selected) × (reselected k p .aggregator ≡ k)
+unfolding reselected mustMove
+reselected-is k p = by (mustMove k p) refl
+  where
+    by : (b : Bool) → mustMove k p ≡ b → (cond b (placed k (detached p)) p .phase .selected ≡ Selected) × (cond b (placed k (detached p)) p .aggregator ≡ k)
+    by true e = (
+      ap (λ (x : Port). x .phase .selected) (placed-keeps k (detached p)),
+      ap (λ (x : Port). x .aggregator) (placed-keeps k (detached p)),
+    )
+    by false e =
+        let h = stays-selected (p .phase .selected) (eqb (p .aggregator) k) e in
+        (h .0, eqb-true (p .aggregator) k (h .1))
+
+-- such a port is left alone
+pub reselected-stays : (k : ℕ) (p : Port) → p .phase .selected ≡ Selected → p .aggregator ≡ k → reselected k p ≡ p
+unfolding reselected mustMove
+reselected-stays k p s e = rw (s, eq-eqb (p .aggregator) k e)
+
+-- steps 5 and 6 keep a port's aggregator and its being SELECTED
+pub attached-holds : (r : Bool) (p : Port) → (attachedIf r p .phase .selected ≡ p .phase .selected) × (attachedIf r p .aggregator ≡ p .aggregator)
+attached-holds r p = (
+  ap (λ (x : Port). x .phase .selected) (attached-keeps r p),
+  ap (λ (x : Port). x .aggregator) (attached-keeps r p),
+)
+
+pub climbed-holds : (p : Port) → (climbed p .phase .selected ≡ p .phase .selected) × (climbed p .aggregator ≡ p .aggregator)
+unfolding climbed
+climbed-holds p = (
+  ap (λ (x : Port). x .phase .selected) (quieted-keeps (muxRun p)) ∙ ap (λ (x : Port). x .phase .selected) (mux-keeps p),
+  ap (λ (x : Port). x .aggregator) (quieted-keeps (muxRun p)) ∙ ap (λ (x : Port). x .aggregator) (mux-keeps p),
+)
+
+-- ---- all ports
+
+map-keeps : {A : Type 0} (g : Port → A) (f : Port → Port) → ((p : Port) → g (f p) ≡ g p) → (ps : List Port) → map g (map f ps) ≡ map g ps
+map-keeps g f keeps [] = refl
+map-keeps g f keeps (p ∷ ps) = λ k. keeps p k ∷ map-keeps g f keeps ps k
+
+pub attached-compares : (ps : List Port) → map compared (attachedAll ps) ≡ map compared ps
+unfolding attachedAll
+attached-compares ps =
+    map-keeps compared (λ (p : Port). attachedIf (ready (p .aggregator) ps) p) (λ p. attached-compared (ready (p .aggregator) ps) p) ps
+
+pub attached-length : (ps : List Port) → length (attachedAll ps) ≡ length ps
+unfolding attachedAll
+attached-length ps = length-map ps (λ (p : Port). attachedIf (ready (p .aggregator) ps) p)
+
+pub attached-at : (ps : List Port) (i : ℕ) (d : Port) → i < length ps
+    → getD (attachedAll ps) i d ≡ attachedIf (ready (getD ps i d .aggregator) ps) (getD ps i d)
+unfolding attachedAll
+attached-at ps i d h = map-at (λ (p : Port). attachedIf (ready (p .aggregator) ps) p) ps i d d h
+
+module _ (ours : SystemId) (ps : List Port) where
+  -- what the rule reads is kept by steps 3 and 4, and by all of them
+  pub selected-compares : map compared (selectedAll ours ps) ≡ map compared ps
+  unfolding selectedAll
+  selected-compares =
+      sweep-keeps compared (λ i p. reselected (ruleOf ours (map compared ps) i) p) (λ i p. reselected-compared (ruleOf ours (map compared ps) i) p) 0 ps
+
+  pub settled-compares : map compared (settled ours ps) ≡ map compared ps
+  unfolding settled
+  settled-compares =
+      map-keeps compared climbed climbed-compared (attachedAll (selectedAll ours ps)) ∙ attached-compares (selectedAll ours ps) ∙ selected-compares
+
+  -- and so is the number of ports
+  pub selected-length : length (selectedAll ours ps) ≡ length ps
+  unfolding selectedAll
+  selected-length = sweep-length (λ i p. reselected (ruleOf ours (map compared ps) i) p) 0 ps
+
+  pub settled-length : length (settled ours ps) ≡ length ps
+  unfolding settled
+  settled-length = length-map (attachedAll (selectedAll ours ps)) climbed ∙ attached-length (selectedAll ours ps) ∙ selected-length
+
+  module _ (i : ℕ) (d : Port) (h : i < length ps) where
+    -- one record after steps 3 and 4, and after all of them
+    pub selected-at : getD (selectedAll ours ps) i d ≡ reselected (ruleOf ours (map compared ps) i) (getD ps i d)
+    unfolding selectedAll
+    selected-at =
+        let e : 0 + i ≡ i = omega arith in
+        sweep-at (λ i p. reselected (ruleOf ours (map compared ps) i) p) 0 ps i d h
+        ∙ ap (λ (k : ℕ). reselected (ruleOf ours (map compared ps) k) (getD ps i d)) e
+
+    pub settled-from : getD (settled ours ps) i d ≡ climbed (getD (attachedAll (selectedAll ours ps)) i d)
+    unfolding settled
+    settled-from = map-at climbed (attachedAll (selectedAll ours ps)) i d d (rw (attached-length (selectedAll ours ps), selected-length) h)
+
+    pub settled-at : getD (settled ours ps) i d
+        ≡ climbed (attachedIf (ready (getD (selectedAll ours ps) i d .aggregator) (selectedAll ours ps)) (getD (selectedAll ours ps) i d))
+    settled-at = settled-from ∙ ap climbed (attached-at (selectedAll ours ps) i d (rw selected-length h))
+
+    -- after steps 3 and 4 a port is SELECTED and holds what the rule gives
+    pub selected-chosen : getD (selectedAll ours ps) i d .phase .selected ≡ Selected
+    selected-chosen = rw selected-at (reselected-is (ruleOf ours (map compared ps) i) (getD ps i d) .0)
+
+    pub selected-rule : getD (selectedAll ours ps) i d .aggregator ≡ ruleOf ours (map compared ps) i
+    selected-rule = rw selected-at (reselected-is (ruleOf ours (map compared ps) i) (getD ps i d) .1)
+
+    -- it still is after all of them
+    pub settled-chosen : getD (settled ours ps) i d .phase .selected ≡ Selected
+    settled-chosen =
+        let s = getD (selectedAll ours ps) i d in
+        let r = ready (s .aggregator) (selectedAll ours ps) in
+        ap (λ (x : Port). x .phase .selected) settled-at ∙ climbed-holds (attachedIf r s) .0 ∙ attached-holds r s .0 ∙ selected-chosen
+
+    settled-before : getD (settled ours ps) i d .aggregator ≡ ruleOf ours (map compared ps) i
+    settled-before =
+        let s = getD (selectedAll ours ps) i d in
+        let r = ready (s .aggregator) (selectedAll ours ps) in
+        ap (λ (x : Port). x .aggregator) settled-at ∙ climbed-holds (attachedIf r s) .1 ∙ attached-holds r s .1 ∙ selected-rule
+
+    -- and holds what the rule gives afresh
+    pub settled-rule : getD (settled ours ps) i d .aggregator ≡ ruleOf ours (map compared (settled ours ps)) i
+    settled-rule = rw settled-compares settled-before
+
+  -- ---- groups and aggregators, i and j two ports
+
+  module _ (i j : ℕ) (d : Port) (hi : i < length ps) (hj : j < length ps) where
+    -- ports in one group hold one aggregator
+    pub group-holds : sharesGroup ours (map compared ps) i j ≡ true → getD (settled ours ps) i d .aggregator ≡ getD (settled ours ps) j d .aggregator
+    group-holds e = settled-before i d hi ∙ rule-shared ours (map compared ps) i j e ∙ sym (settled-before j d hj)
+
+    -- and ports that hold one aggregator are in one group
+    pub holds-group : getD (settled ours ps) i d .aggregator ≡ getD (settled ours ps) j d .aggregator → sharesGroup ours (map compared ps) i j ≡ true
+    holds-group e = rule-apart ours (map compared ps) i j (sym (settled-before i d hi) ∙ e ∙ settled-before j d hj)
+
+  -- ---- step 5 port by port, in the list that steps 3 and 4 leave
+
+  -- while a port waits there, Ready of its aggregator is what it was before any port was attached
+  pub ready-selected : (i : ℕ) (d : Port) → i < length ps → waits (getD (selectedAll ours ps) i d .phase .mux) ≡ true
+      → ready (getD (selectedAll ours ps) i d .aggregator) (doneTo (attaching (selectedAll ours ps)) i (selectedAll ours ps))
+      ≡ ready (getD (selectedAll ours ps) i d .aggregator) (selectedAll ours ps)
+  ready-selected i d h w =
+      ready-meanwhile (selectedAll ours ps) d (λ j k. selected-chosen j d (rw selected-length at k)) i (rw selected-length h) w
+
+-- so step 5 is a sweep
+pub attached-sweep : (ps : List Port) → mapFrom (attaching ps) 0 ps ≡ attachedAll ps
+unfolding attachedAll
+attached-sweep ps = sweep-map (λ (p : Port). attachedIf (ready (p .aggregator) ps) p) 0 ps
