@@ -33,7 +33,9 @@ fn is_displaced(p: Port, a: Block) -> bool
     let partner = p.partner;
     let x = partner.system.address;
     let y = a.system.address;
-    is_disabled(s) & (same_address(x, y) & (partner.port.number == a.port.number))
+    let m = partner.port.number;
+    let n = a.port.number;
+    is_disabled(s) & (same_address(x, y) & (m == n))
 }
 
 // What port i does when port r heard the block `a`.

@@ -12,7 +12,7 @@ same-address-requires c κs = search needs
 
 returns : tie.Need-returns
 unfolding isDisplaced
-returns c = simp (c .before .before .same-address .ensures, c .before .before .before .is-disabled .ensures)
+returns c = simp (c .same-address .ensures, c .before .is-disabled .ensures)
 
 pub is-displaced-spec : {M : Type 1} → statement M
 is-displaced-spec = tie.close (tie.spec is-disabled-requires same-address-requires returns)
