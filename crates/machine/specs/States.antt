@@ -1,6 +1,6 @@
 -- States and timers with one of them changed.
 use Prim.Native.Nat.{ℕ}
-use mathlib.Core.Bool.{Bool, _&&_}
+use mathlib.Core.Bool.{Bool, not, _&&_, _||_}
 use Rattle.machine.specs.declared.states.Receive.{Receive}
 use Rattle.machine.specs.declared.states.Periodic.{Periodic}
 use Rattle.machine.specs.declared.states.Mux.{Mux}
@@ -40,6 +40,14 @@ paced n t = timers (t .current) (ticks n) (t .wait)
 
 abbrev pub waiting : ℕ → Timers → Timers
 waiting n t = timers (t .current) (t .periodic) (ticks n)
+
+-- LACP is not enabled, the port is not enabled, or both ends are passive
+abbrev pub quietOn : Line → Bool → Bool
+quietOn l passive = not (l .full) || (not (l .up) || passive)
+
+-- LACP is not enabled, or the port is enabled and both ends are passive
+abbrev pub silentOn : Line → Bool → Bool
+silentOn l passive = not (l .full) || (l .up && passive)
 
 abbrev pub sameLine : Line → Line → Bool
 sameLine x y = alike (x .up) (y .up) && alike (x .full) (y .full)

@@ -1,6 +1,6 @@
 -- Times in ticks of a tenth of a second (43.4.4, document 01), and when a timer has run out.
 use Prim.Native.Nat.{ℕ, _-_}
-use mathlib.Core.Bool.{Bool}
+use mathlib.Core.Bool.{Bool, cond}
 use lib.Dec.{eqb}
 use Rattle.machine.specs.declared.states.Ticks.{Ticks}
 use Rattle.machine.specs.declared.states.Timers.{Timers}
@@ -21,6 +21,10 @@ longTimeoutTime = 900
 
 abbrev pub aggregateWaitTime : ℕ
 aggregateWaitTime = 20
+
+-- the time of the current-while timer, by a Timeout bit (short or not)
+abbrev pub timeoutTime : Bool → ℕ
+timeoutTime short = cond short shortTimeoutTime longTimeoutTime
 
 -- a timer that holds 0 in a state that uses it has run out
 abbrev pub ranOut : Ticks → Bool

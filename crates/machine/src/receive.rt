@@ -1,7 +1,12 @@
 // The transitions of the Receive machine (figure 43-10) but for those with an LACPDU.
 ghost use mathlib.Core.Path.{_≡_};
 ghost use Rattle.machine.specs.Receive.{receiveNext};
+ghost use Rattle.machine.specs.Time.{timeoutTime};
 use crate::states::Receive;
+
+pub const SHORT_TIMEOUT_TIME: u16 = 30;
+
+pub const LONG_TIMEOUT_TIME: u16 = 900;
 
 pub enum ReceiveStep {
     Stay,
@@ -53,5 +58,16 @@ pub fn next(state: Receive, up: bool, full: bool, out: bool) -> ReceiveStep
             }
             ReceiveStep::Enter(Receive::PortDisabled)
         }
+    }
+}
+
+// The time of the current-while timer, by a Timeout bit.
+pub fn timeout_time(short: bool) -> u16
+    ensures { λ r. ⌜ r ≡ timeoutTime short ⌝ }
+{
+    if short {
+        SHORT_TIMEOUT_TIME
+    } else {
+        LONG_TIMEOUT_TIME
     }
 }

@@ -1,6 +1,6 @@
 // The states and timers of which a port's machines are made, without the record that holds them.
 ghost use mathlib.Core.Path.{_≡_};
-ghost use Rattle.machine.specs.States.{receiving, pacing, muxing, selecting, currently, paced, waiting, sameLine};
+ghost use Rattle.machine.specs.States.{receiving, pacing, muxing, selecting, currently, paced, waiting, quietOn, silentOn, sameLine};
 use crate::compare::alike;
 
 // The states of 43.4.12. The constant beside a refusal is the first of each enum.
@@ -152,6 +152,20 @@ impl Timers {
 }
 
 impl Line {
+    // No periodic LACPDUs: LACP off, link down, or both ends passive.
+    pub fn is_quiet(self, passive: bool) -> bool
+        ensures { λ r. ⌜ r ≡ quietOn self passive ⌝ }
+    {
+        !self.full | (!self.up | passive)
+    }
+
+    // No LACPDU at all is due: LACP off, or an up link with both ends passive.
+    pub fn is_silent(self, passive: bool) -> bool
+        ensures { λ r. ⌜ r ≡ silentOn self passive ⌝ }
+    {
+        !self.full | (self.up & passive)
+    }
+
     pub fn same(self, other: Line) -> bool
         ensures { λ r. ⌜ r ≡ sameLine self other ⌝ }
     {

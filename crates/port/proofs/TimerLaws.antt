@@ -21,7 +21,7 @@ use Rattle.port.specs.declared.record.Port.{Port}
 use Rattle.port.specs.Timing.{Timed, CurrentTimed, PaceTimed, WaitTimed}
 use Rattle.port.specs.Periodic.{periodicTaken, periodicChoice, periodicStep, periodicRun}
 use Rattle.port.specs.Mux.{muxTaken, muxChoice, muxStep, muxRun}
-use Rattle.port.specs.Receive.{recordDefault, initialized, portDisabled, expired, lacpDisabled, defaulted, current, timeoutTime}
+use Rattle.port.specs.Receive.{recordDefault, initialized, portDisabled, expired, lacpDisabled, defaulted, current}
 use Rattle.port.specs.Transmit.{ticked}
 
 -- a timer that is in use and within its time, and one that is stopped

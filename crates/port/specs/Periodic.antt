@@ -4,6 +4,7 @@ use Rattle.machine.specs.declared.states.Periodic.{Periodic}
 use Rattle.port.specs.declared.record.Port.{Port}
 use Rattle.machine.specs.declared.periodic.PeriodicStep.{PeriodicStep}
 use Rattle.machine.specs.declared.periodic.PeriodicStep.the-variants.{Stay, Enter}
+use Rattle.machine.specs.States.{quietOn}
 use Rattle.machine.specs.Periodic.{periodicNext, periodicTime, isTx}
 use Rattle.port.specs.Record.{withPeriodic, withPace, withNtt}
 use Rattle.machine.specs.Time.{ranOut}
@@ -12,9 +13,8 @@ use Rattle.machine.specs.Time.{ranOut}
 abbrev pub bothPassive : Port → Bool
 bothPassive p = not (p .actor .activity) && not (p .partner .state .activity)
 
--- LACP is not enabled, the port is not enabled, or both are passive
 abbrev pub quiet : Port → Bool
-quiet p = not (p .line .full) || (not (p .line .up) || bothPassive p)
+quiet p = quietOn (p .line) (bothPassive p)
 
 -- the actions on entry
 abbrev pub periodicEntered : Periodic → Port → Port

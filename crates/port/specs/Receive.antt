@@ -16,7 +16,7 @@ use Rattle.machine.specs.States.{sameLine}
 use Rattle.port.specs.Record.{withReceive, withSelected, withCurrent, withNtt, withActor, withPartner, withLine, actorBlock}
 use Rattle.machine.specs.Bits.{withTimeout, withAggregation, withSynchronization, withDefaulted, withExpired, alike}
 use Rattle.machine.specs.Compare.{sameParty, sameView, inSync}
-use Rattle.machine.specs.Time.{ranOut, shortTimeoutTime, longTimeoutTime}
+use Rattle.machine.specs.Time.{ranOut, shortTimeoutTime, timeoutTime}
 
 -- ---- functions
 
@@ -71,15 +71,12 @@ lacpDisabled p = withReceive (withCurrent (expiredBit (withoutAggregation (recor
 unfoldable pub defaulted : Port → Port
 defaulted p = withReceive (withCurrent (expiredBit (recordDefault (updateDefaultSelected p)) false) 0) Defaulted
 
--- our own Timeout bit sets our current-while timer
-abbrev pub timeoutTime : Port → ℕ
-timeoutTime p = cond (p .actor .timeout) shortTimeoutTime longTimeoutTime
-
 unfoldable pub heard : Block → Block → Block → Port → Port
 heard us a b p = recordPdu us a b (updateNtt us b (updateSelected a p))
 
+-- our own Timeout bit sets our current-while timer
 unfoldable pub current : Block → Block → Block → Port → Port
-current us a b p = withReceive (expiredBit (withCurrent (heard us a b p) (timeoutTime p)) false) Current
+current us a b p = withReceive (expiredBit (withCurrent (heard us a b p) (timeoutTime (p .actor .timeout))) false) Current
 
 -- ---- the machine without an LACPDU
 

@@ -8,6 +8,7 @@ use Rattle.port.specs.declared.record.Port.{Port}
 use Rattle.port.specs.declared.transmit.Due.{Due}
 use Rattle.port.specs.declared.transmit.Due.the-variants.{Nothing, Barred, Lacpdu}
 use Rattle.port.specs.Record.{withNtt, withAges, withTimers}
+use Rattle.machine.specs.States.{silentOn}
 use Rattle.machine.specs.Time.{timersFallen}
 use Rattle.machine.specs.Ages.{sentAges, barred, agesTicked}
 use Rattle.port.specs.Periodic.{bothPassive}
@@ -28,7 +29,7 @@ sent p = withNtt (withAges p (sentAges (p .ages))) false
 
 -- where NTT is cleared: LACP off, link up or down (document 01); and where the link is up and both are passive (43.4.16)
 unfoldable pub silent : Port → Bool
-silent p = not (p .line .full) || (p .line .up && bothPassive p)
+silent p = silentOn (p .line) (bothPassive p)
 
 unfoldable pub quieted : Port → Port
 quieted p = cond (silent p) (withNtt p false) p

@@ -1,24 +1,11 @@
 // The Periodic Transmission machine (43.4.13).
 ghost use mathlib.Core.Path.{_≡_};
-ghost use Rattle.port.specs.Periodic.{bothPassive, quiet, periodicEntered, periodicChoice, periodicStep, periodicRun};
+ghost use Rattle.port.specs.Periodic.{periodicEntered, periodicChoice, periodicStep, periodicRun};
 use crate::record::Port;
 use machine::periodic::PeriodicStep;
 use machine::states::Periodic;
 
 impl Port {
-    // Actor and Partner both passive.
-    pub fn both_passive(self) -> bool
-        ensures { λ r. ⌜ r ≡ bothPassive self ⌝ }
-    {
-        !self.actor.activity & !self.partner.state.activity
-    }
-
-    fn is_quiet(self) -> bool
-        ensures { λ r. ⌜ r ≡ quiet self ⌝ }
-    {
-        !self.line.full | (!self.line.up | self.both_passive())
-    }
-
     // The actions on entry to a state.
     fn enter_periodic(mut self, state: Periodic) -> Self
         ensures { λ r. ⌜ r ≡ periodicEntered state self ⌝ }
@@ -39,7 +26,14 @@ impl Port {
         let h = self.phase;
         let state = h.periodic;
         let out = self.timers.periodic.0 == 0;
-        machine::periodic::next(state, self.is_quiet(), out, self.partner.state.timeout)
+        let line = self.line;
+        let passive = !self.actor.activity & !self.partner.state.activity;
+        machine::periodic::next(
+            state,
+            line.is_quiet(passive),
+            out,
+            self.partner.state.timeout,
+        )
     }
 
     fn periodic_step(self) -> Self

@@ -4,7 +4,7 @@ ghost use mathlib.Core.Path.{_≡_};
 ghost use lib.ListN.{length};
 ghost use Rattle.frame.specs.Block.{blockOf, blockOctets};
 ghost use Rattle.frame.specs.Wire.{applying};
-ghost use Rattle.port.specs.Receive.{recordDefault, recordPdu, updateSelected, updateNtt, initialized, portDisabled, expired, lacpDisabled, defaulted, timeoutTime};
+ghost use Rattle.port.specs.Receive.{recordDefault, recordPdu, updateSelected, updateNtt, initialized, portDisabled, expired, lacpDisabled, defaulted};
 ghost use Rattle.port.specs.Receive.{current, receiveEntered, receiveChoice, receiveStep, receiveRun, moved, received, lined};
 ghost use Rattle.port.specs.Receive.{heard as Receive·heard, current as Receive·current};
 use crate::record::Port;
@@ -15,13 +15,11 @@ use machine::compare::in_sync;
 use machine::compare::same_party;
 use machine::compare::same_view;
 use machine::receive::ReceiveStep;
+use machine::receive::SHORT_TIMEOUT_TIME;
+use machine::receive::timeout_time;
 use machine::states::Line;
 use machine::states::Receive;
 use machine::states::Selection;
-
-pub const SHORT_TIMEOUT_TIME: u16 = 30;
-
-pub const LONG_TIMEOUT_TIME: u16 = 900;
 
 // The block that gets recorded: the frame's or the default one, by the one step that is lent both.
 fn recorded_block(source: Source, pdu: &[u8], default: Block) -> Block
@@ -126,18 +124,7 @@ impl Port {
         p.in_state(Receive::Defaulted, 0)
     }
 
-    // Our own Timeout bit, not the partner's.
-    fn timeout_time(self) -> u16
-        ensures { λ r. ⌜ r ≡ timeoutTime self ⌝ }
-    {
-        if self.actor.timeout {
-            SHORT_TIMEOUT_TIME
-        } else {
-            LONG_TIMEOUT_TIME
-        }
-    }
-
-    // CURRENT: compares before it records, so that a changed partner is seen.
+    // CURRENT: compares before it records, so that a changed partner is seen. Our own Timeout bit sets the timer, not the partner's.
     fn current(self, us: Block, actor: &[u8], b: Block) -> Self
         requires { ⌜ length (now actor) ≡ 15 ⌝ }
         ensures { λ r. ⌜ r ≡ Receive·current us (blockOf (now (actor .entry))) b self ⌝ }
@@ -147,7 +134,7 @@ impl Port {
             .update_ntt(us, b)
             .record_pdu(us, actor, b);
         p.actor.expired = false;
-        p.in_state(Receive::Current, self.timeout_time())
+        p.in_state(Receive::Current, timeout_time(self.actor.timeout))
     }
 
     fn enter_receive(self, state: Receive) -> Self

@@ -1,6 +1,6 @@
 // What a fetch needs of one port (43.4.16), the ages of its sends, and a tick of one port.
 ghost use mathlib.Core.Path.{_≡_};
-ghost use Rattle.port.specs.Transmit.{due, sent, silent, quieted, ticked, dueNumber};
+ghost use Rattle.port.specs.Transmit.{due, sent, quieted, ticked, dueNumber};
 use crate::record::Port;
 
 // What a fetch finds; `dueNumber` gives document 01's number for each.
@@ -49,17 +49,13 @@ impl Port {
         self
     }
 
-    fn is_silent(self) -> bool
-        ensures { λ r. ⌜ r ≡ silent self ⌝ }
-    {
-        !self.line.full | (self.line.up & self.both_passive())
-    }
-
     // The end of step 6: NTT is cleared where nothing may be sent for it.
     pub fn quiet(mut self) -> Self
         ensures { λ r. ⌜ r ≡ quieted self ⌝ }
     {
-        if self.is_silent() {
+        let line = self.line;
+        let passive = !self.actor.activity & !self.partner.state.activity;
+        if line.is_silent(passive) {
             self.ntt = false;
             return self;
         }

@@ -9,9 +9,9 @@ use machine::ages::FORGOTTEN_AGE;
 use machine::ages::NO_SEND;
 use machine::entry::AGGREGATE_WAIT_TIME;
 use machine::periodic::SLOW_PERIODIC_TIME;
+use machine::receive::LONG_TIMEOUT_TIME;
 use machine::states::Ages;
 use machine::states::Timers;
-use port::receive::LONG_TIMEOUT_TIME;
 
 // Whether n is neither below `low` nor above `high`.
 pub fn within(low: u8, n: u8, high: u8) -> bool
