@@ -5,7 +5,13 @@ use mathlib.Core.Path.{_≡_, refl, sym, ap, _∙_}
 use mathlib.Core.Bool.{Bool, true, false, cond, true≢false}
 use native.Mathlib.Omega.{arith}
 use Rattle.frame.specs.declared.block.Block.{Block}
+use Rattle.frame.specs.declared.block.SystemId.{SystemId}
 use Rattle.machine.specs.declared.states.Receive.{Receive}
+use Rattle.machine.specs.declared.states.Receive.the-variants.{Initialize, PortDisabled, Expired, LacpDisabled, Defaulted, Current}
+use Rattle.machine.specs.declared.states.Line.{Line}
+use Rattle.machine.specs.declared.receive.ReceiveStep.{ReceiveStep}
+use Rattle.machine.specs.declared.receive.ReceiveStep.the-variants as receive
+use Rattle.machine.specs.States.{sameLine}
 use Rattle.machine.specs.declared.states.Periodic.{Periodic}
 use Rattle.machine.specs.declared.states.Periodic.the-variants.{NoPeriodic, FastPeriodic, SlowPeriodic, PeriodicTx}
 use Rattle.machine.specs.declared.states.Mux.{Mux}
@@ -22,6 +28,8 @@ use Rattle.port.specs.Timing.{Timed, CurrentTimed, PaceTimed, WaitTimed}
 use Rattle.port.specs.Periodic.{periodicTaken, periodicChoice, periodicStep, periodicRun}
 use Rattle.port.specs.Mux.{muxTaken, muxChoice, muxStep, muxRun}
 use Rattle.port.specs.Receive.{recordDefault, initialized, portDisabled, expired, lacpDisabled, defaulted, current}
+use Rattle.port.specs.Receive.{receiveTaken, receiveChoice, receiveStep, receiveRun, received, moved, down, lined}
+use Rattle.port.specs.Record.{withLine, actorBlock}
 use Rattle.port.specs.Transmit.{ticked}
 
 -- a timer that is in use and within its time, and one that is stopped
@@ -95,6 +103,42 @@ time-le false = omega arith
 pub current-timed : (us a b : Block) (p : Port) → CurrentTimed (current us a b p)
 unfolding current
 current-timed us a b p = running _ _ (time-le (p .actor .timeout))
+
+-- so a step of the machine keeps it, and so do an LACPDU, a moved partner and a link or duplex change
+receive-taken : (k : ReceiveStep) (p : Port) → CurrentTimed p → CurrentTimed (receiveTaken k p)
+receive-taken receive.Stay p h = h
+receive-taken (receive.Enter Initialize) p h = initialized-timed p
+receive-taken (receive.Enter PortDisabled) p h = disabled-timed p
+receive-taken (receive.Enter Expired) p h = expired-timed p
+receive-taken (receive.Enter LacpDisabled) p h = off-timed p
+receive-taken (receive.Enter Defaulted) p h = defaulted-timed p
+receive-taken (receive.Enter Current) p h = h
+
+pub receive-step-timed : (p : Port) → CurrentTimed p → CurrentTimed (receiveStep p)
+unfolding receiveStep
+receive-step-timed p h = receive-taken (receiveChoice p) p h
+
+pub receive-run-timed : (p : Port) → CurrentTimed p → CurrentTimed (receiveRun p)
+unfolding receiveRun
+receive-run-timed p h = receive-step-timed (receiveStep p) (receive-step-timed p h)
+
+pub received-timed : (system : SystemId) (number : ℕ) (a b : Block) (p : Port) → CurrentTimed (received system number a b p)
+unfolding received
+received-timed system number a b p = current-timed (actorBlock system number p) a b p
+
+pub moved-timed : (p : Port) → CurrentTimed (moved p)
+unfolding moved
+moved-timed p = disabled-timed (initialized p)
+
+if-timed : (b : Bool) (p q : Port) → CurrentTimed p → CurrentTimed q → CurrentTimed (cond b p q)
+if-timed true p q h k = h
+if-timed false p q h k = k
+
+pub lined-timed : (l : Line) (p : Port) → CurrentTimed p → CurrentTimed (lined l p)
+unfolding lined
+lined-timed l p h =
+    let q = receiveRun (withLine p (down (p .line))) in
+    if-timed (sameLine l (p .line)) p (receiveRun (withLine q l)) h (receive-run-timed (withLine q l) (receive-run-timed (withLine p (down (p .line))) h))
 
 -- ---- a tick
 
