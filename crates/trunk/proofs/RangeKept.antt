@@ -108,7 +108,7 @@ module _ (count : ℕ) where
       let h = step-ranged false (muxStep false p) (step-ranged false p e) in
       if-ranged (silent q) (withNtt q false) q (ntt-ranged false q h) h
 
-  default-fits : (o : Own) → ownFits o ≡ true → blockFits (o .default) ≡ true
+  pub default-fits : (o : Own) → ownFits o ≡ true → blockFits (o .default) ≡ true
   unfolding ownFits
   default-fits o e = both (fits (o .priority)) _ (both (fits (o .key)) _ (both (addressFits (o .address)) _ e .1) .1) .1
 
