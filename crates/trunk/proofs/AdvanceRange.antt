@@ -76,7 +76,12 @@ module _ (count : ℕ) where
   ticked-ranged p e =
       let r = ranged count p e in
       ranged-is count (ticked p) (record {
-          aggregator = r .aggregator; timers = fallen-ranged (p .timers) (r .timers); ages = ages-ranged (p .ages); own = r .own; partner = r .partner })
+        aggregator = r .aggregator;
+        timers = fallen-ranged (p .timers) (r .timers);
+        ages = ages-ranged (p .ages);
+        own = r .own;
+        partner = r .partner;
+      })
 
   -- ---- the periodic machine
 
@@ -85,8 +90,12 @@ module _ (count : ℕ) where
   pace-taken (pace.Enter s) p e =
       let r = ranged count p e in
       ranged-is count (periodicEntered s p) (record {
-          aggregator = r .aggregator; timers = paced-ranged (periodicTime s) (p .timers) (pace-le s) (r .timers); ages = r .ages; own = r .own;
-          partner = r .partner })
+        aggregator = r .aggregator;
+        timers = paced-ranged (periodicTime s) (p .timers) (pace-le s) (r .timers);
+        ages = r .ages;
+        own = r .own;
+        partner = r .partner;
+      })
 
   pub periodic-ranged : (p : Port) → portInRange count p ≡ true → portInRange count (periodicRun p) ≡ true
   unfolding periodicRun periodicStep
@@ -101,37 +110,60 @@ module _ (count : ℕ) where
   disabled-ranged p e =
       let r = ranged count p e in
       ranged-is count (portDisabled p) (record {
-          aggregator = r .aggregator; timers = currently-ranged 0 (p .timers) refl (r .timers); ages = r .ages; own = r .own; partner = r .partner })
+        aggregator = r .aggregator;
+        timers = currently-ranged 0 (p .timers) refl (r .timers);
+        ages = r .ages;
+        own = r .own;
+        partner = r .partner;
+      })
 
   expired-ranged : (p : Port) → portInRange count p ≡ true → portInRange count (expired p) ≡ true
   unfolding expired blockFits
   expired-ranged p e =
       let r = ranged count p e in
       ranged-is count (expired p) (record {
-          aggregator = r .aggregator; timers = currently-ranged 30 (p .timers) refl (r .timers); ages = r .ages; own = r .own; partner = r .partner })
+        aggregator = r .aggregator;
+        timers = currently-ranged 30 (p .timers) refl (r .timers);
+        ages = r .ages;
+        own = r .own;
+        partner = r .partner;
+      })
 
   initialized-ranged : (p : Port) → portInRange count p ≡ true → portInRange count (initialized p) ≡ true
   unfolding initialized recordDefault
   initialized-ranged p e =
       let r = ranged count p e in
       ranged-is count (initialized p) (record {
-          aggregator = r .aggregator; timers = currently-ranged 0 (p .timers) refl (r .timers); ages = r .ages; own = r .own;
-          partner = default-fits count (p .own) (r .own) })
+        aggregator = r .aggregator;
+        timers = currently-ranged 0 (p .timers) refl (r .timers);
+        ages = r .ages;
+        own = r .own;
+        partner = default-fits count (p .own) (r .own);
+      })
 
   off-ranged : (p : Port) → portInRange count p ≡ true → portInRange count (lacpDisabled p) ≡ true
   unfolding lacpDisabled recordDefault blockFits
   off-ranged p e =
       let r = ranged count p e in
       ranged-is count (lacpDisabled p) (record {
-          aggregator = r .aggregator; timers = currently-ranged 0 (p .timers) refl (r .timers); ages = r .ages; own = r .own;
-          partner = default-fits count (p .own) (r .own) })
+        aggregator = r .aggregator;
+        timers = currently-ranged 0 (p .timers) refl (r .timers);
+        ages = r .ages;
+        own = r .own;
+        partner = default-fits count (p .own) (r .own);
+      })
 
   recorded-ranged : (p : Port) → portInRange count p ≡ true → portInRange count (recordDefault p) ≡ true
   unfolding recordDefault
   recorded-ranged p e =
       let r = ranged count p e in
       ranged-is count (recordDefault p) (record {
-          aggregator = r .aggregator; timers = r .timers; ages = r .ages; own = r .own; partner = default-fits count (p .own) (r .own) })
+        aggregator = r .aggregator;
+        timers = r .timers;
+        ages = r .ages;
+        own = r .own;
+        partner = default-fits count (p .own) (r .own);
+      })
 
   if-unselected : (b : Bool) (p : Port) → portInRange count p ≡ true → portInRange count (cond b p (unselected p)) ≡ true
   unfolding portInRange
@@ -144,7 +176,12 @@ module _ (count : ℕ) where
       let q = recordDefault (cond (sameParty (p .own .default) (p .partner)) p (unselected p)) in
       let r = ranged count q (recorded-ranged _ (if-unselected (sameParty (p .own .default) (p .partner)) p e)) in
       ranged-is count (defaulted p) (record {
-          aggregator = r .aggregator; timers = currently-ranged 0 (q .timers) refl (r .timers); ages = r .ages; own = r .own; partner = r .partner })
+        aggregator = r .aggregator;
+        timers = currently-ranged 0 (q .timers) refl (r .timers);
+        ages = r .ages;
+        own = r .own;
+        partner = r .partner;
+      })
 
   receive-taken : (k : ReceiveStep) (p : Port) → portInRange count p ≡ true → portInRange count (receiveTaken k p) ≡ true
   receive-taken receive.Stay p e = e

@@ -13,15 +13,12 @@ use Rattle.port.specs.Mux.{attachedIf}
 use Rattle.table.specs.Table.{countIn, ports, portAt}
 use Rattle.table.proofs.StoreLaws.{ports-length, ports-at}
 use Rattle.trunk.specs.Ready.{hasWaiting, holdsBack, heldBack, ready}
-use Rattle.trunk.specs.Settled.{selectedAll, AllSelected, climbed}
+use Rattle.trunk.specs.Settled.{selectedAll, AllSelected}
 use Rattle.trunk.specs.Worked.{Worked}
 use Rattle.trunk.proofs.SweepLaws.{doneTo}
 use Rattle.trunk.proofs.TableWork.{next-is}
 use Rattle.trunk.proofs.SettledLaws.{selected-chosen, selected-length}
 use Rattle.trunk.proofs.ReadyLaws.{attaching, attached-other, some-waits, waits-own, ready-meanwhile}
-
-abbrev pub climbing : ℕ → Port → Port
-climbing i p = climbed p
 
 -- ---- every port is SELECTED after step 4
 

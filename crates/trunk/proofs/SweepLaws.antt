@@ -96,6 +96,9 @@ pub done-keeps : {A : Type 0} (g : Port → A) (f : ℕ → Port → Port) → (
 done-keeps g f keeps i ps = sweep-keeps g (below f i) (λ j p. if-keeps g (ltb j i) p (f j p) (keeps j p)) 0 ps
 
 -- a sweep that does not look at the index is a map
+abbrev pub each : (Port → Port) → ℕ → Port → Port
+each g i p = g p
+
 pub sweep-map : (g : Port → Port) (i : ℕ) (ps : List Port) → mapFrom (λ j p. g p) i ps ≡ map g ps
 unfolding mapFrom
 sweep-map g i [] = refl
