@@ -125,7 +125,7 @@ impl Settings {
     }
 
     // All settings as the port has them.
-    fn is_held(self, p: Port) -> bool
+    pub fn is_held(self, p: Port) -> bool
         ensures { λ r. ⌜ r ≡ sameSettings self p ⌝ }
     {
         let a = self.address;

@@ -1,4 +1,3 @@
--- Draft: not a crate yet. Missing: the code of the nine calls, their contracts and proofs.
 -- The calls with their arguments. A run folds `answer` and `after` over a list of them.
 use Prim.Native.Nat.{ℕ}
 use mathlib.Core.Bool.{Bool}

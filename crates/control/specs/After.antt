@@ -1,0 +1,91 @@
+-- What each call answers, and what it leaves in the table and in the outgoing buffer.
+use Prim.Native.Nat.{ℕ, _-_}
+use mathlib.Core.Bool.{cond}
+use mathlib.Core.List.{List, []}
+use Rattle.frame.specs.Class.{classOf}
+use Rattle.port.specs.declared.record.Port.{Port}
+use Rattle.port.specs.Transmit.{due}
+use Rattle.table.specs.Table.{tableInRange, portAt}
+use Rattle.work.specs.Work.{afterStart, afterHeard, afterTick, afterLine, afterSettings, afterSend, lacpduOf, responseOf, over}
+use Rattle.control.specs.declared.answer.Answer.{Answer}
+use Rattle.control.specs.declared.answer.Answer.the-variants.{Done, Lacpdu, Marker, Refused}
+use Rattle.control.specs.declared.answer.Reason.the-variants as reason
+use Rattle.control.specs.Answer.{onPort, withRoom, withDefault, frameAnswer, dueAnswer, startAnswer}
+use Rattle.control.specs.Call.{Call, start, receive, tick, link, duplex, configure, fetch, report, aggregator}
+
+-- the tests in their order: 1, 2, 3, 4; then for frames 6, 7, 8, and last 5, 9 or 12; for fetch 10, 11
+unfoldable pub answer : Call → List ℕ → Answer
+answer (start count system delay s) t = startAnswer t count s
+answer (receive n frame out) t = onPort t n (withRoom out (frameAnswer (classOf frame) (portAt t (n - 1))))
+answer tick t = cond (tableInRange t) Done (Refused reason.Table)
+answer (link n up) t = onPort t n Done
+answer (duplex n full) t = onPort t n Done
+answer (configure n s) t = onPort t n (withDefault s Done)
+answer (fetch n out) t = onPort t n (withRoom out (dueAnswer (due (portAt t (n - 1)))))
+answer (report n) t = onPort t n Done
+answer (aggregator k) t = onPort t k Done
+
+-- a received frame: an accepted LACPDU changes records, and nothing else does
+abbrev pub afterFrame : Answer → List ℕ → ℕ → List ℕ → List ℕ
+afterFrame Done t i frame = t
+afterFrame Lacpdu t i frame = afterHeard t i frame
+afterFrame Marker t i frame = t
+afterFrame (Refused r) t i frame = t
+
+-- the table after a call that is accepted
+unfoldable pub changedBy : Call → List ℕ → List ℕ
+changedBy (start count system delay s) t = afterStart (record { count = count; system = system; delay = delay }) s
+changedBy (receive n frame out) t = afterFrame (answer (receive n frame out) t) t (n - 1) frame
+changedBy tick t = afterTick t
+changedBy (link n up) t = afterLine t (n - 1) (record { up = up; full = portAt t (n - 1) .line .full })
+changedBy (duplex n full) t = afterLine t (n - 1) (record { up = portAt t (n - 1) .line .up; full = full })
+changedBy (configure n s) t = afterSettings t (n - 1) s
+changedBy (fetch n out) t = afterSend t (n - 1)
+changedBy (report n) t = t
+changedBy (aggregator k) t = t
+
+-- a refusal changes nothing
+abbrev pub unless : {A : Type 0} → Answer → A → A → A
+unless Done before then = then
+unless Lacpdu before then = then
+unless Marker before then = then
+unless (Refused r) before then = before
+
+unfoldable pub after : Call → List ℕ → List ℕ
+after c t = unless (answer c t) t (changedBy c t)
+
+-- ---- the outgoing buffer
+
+-- as it came; calls that are lent none have none
+abbrev pub bufferOf : Call → List ℕ
+bufferOf (start count system delay s) = []
+bufferOf (receive n frame out) = out
+bufferOf tick = []
+bufferOf (link n up) = []
+bufferOf (duplex n full) = []
+bufferOf (configure n s) = []
+bufferOf (fetch n out) = out
+bufferOf (report n) = []
+bufferOf (aggregator k) = []
+
+-- a received frame: an accepted Marker is answered, and nothing else writes
+abbrev pub sentFor : Answer → List ℕ → ℕ → List ℕ → List ℕ → List ℕ
+sentFor Done t i frame out = out
+sentFor Lacpdu t i frame out = out
+sentFor Marker t i frame out = over (responseOf t i frame) out
+sentFor (Refused r) t i frame out = out
+
+unfoldable pub writtenBy : Call → List ℕ → List ℕ
+writtenBy (start count system delay s) t = []
+writtenBy (receive n frame out) t = sentFor (answer (receive n frame out) t) t (n - 1) frame out
+writtenBy tick t = []
+writtenBy (link n up) t = []
+writtenBy (duplex n full) t = []
+writtenBy (configure n s) t = []
+writtenBy (fetch n out) t = over (lacpduOf t (n - 1)) out
+writtenBy (report n) t = []
+writtenBy (aggregator k) t = []
+
+-- a refusal leaves it as it came
+unfoldable pub outgoing : Call → List ℕ → List ℕ
+outgoing c t = unless (answer c t) (bufferOf c) (writtenBy c t)

@@ -1,0 +1,84 @@
+-- Document 01's answers: their numbers, and the tests in their order.
+use Prim.Native.Nat.{ℕ}
+use mathlib.Core.Bool.{Bool, cond, not, _&&_, _||_}
+use mathlib.Core.List.{List}
+use lib.ListN.{length}
+use lib.Dec.{ltb, eqb}
+use Rattle.frame.specs.declared.class.Class.{Class}
+use Rattle.frame.specs.declared.class.Class.the-variants as class
+use Rattle.frame.specs.Class.{refusalNumber}
+use Rattle.machine.specs.Mux.{collects, distributes}
+use Rattle.port.specs.declared.record.Port.{Port}
+use Rattle.port.specs.declared.transmit.Due.{Due}
+use Rattle.port.specs.declared.transmit.Due.the-variants as due
+use Rattle.settings.specs.declared.Settings.{Settings}
+use Rattle.settings.specs.Settings.{lawful}
+use Rattle.table.specs.Layout.{within, tableSize, mostPorts}
+use Rattle.table.specs.Table.{tableInRange, countIn}
+use Rattle.control.specs.declared.answer.Answer.{Answer}
+use Rattle.control.specs.declared.answer.Answer.the-variants.{Done, Lacpdu, Marker, Refused}
+use Rattle.control.specs.declared.answer.Reason.{Reason}
+use Rattle.control.specs.declared.answer.Reason.the-variants as reason
+
+-- ---- what each answer is on paper
+
+-- document 01's number
+abbrev pub reasonNumber : Reason → ℕ
+reasonNumber reason.Table = 1
+reasonNumber reason.Number = 2
+reasonNumber reason.Buffer = 3
+reasonNumber reason.Default = 4
+reasonNumber reason.Disabled = 5
+reasonNumber (reason.Frame r) = refusalNumber r
+reasonNumber reason.NotCollecting = 9
+reasonNumber reason.NothingToSend = 10
+reasonNumber reason.Barred = 11
+reasonNumber reason.Response = 12
+
+abbrev pub answerNumber : Answer → ℕ
+answerNumber Done = 0
+answerNumber Lacpdu = 0
+answerNumber Marker = 0
+answerNumber (Refused r) = reasonNumber r
+
+-- the length that answer 0 to a received frame carries: 124 for a Marker and otherwise 0
+abbrev pub lengthSent : Answer → ℕ
+lengthSent Done = 0
+lengthSent Lacpdu = 0
+lengthSent Marker = 124
+lengthSent (Refused r) = 0
+
+-- ---- the tests
+
+-- 2: port or aggregator number is 0 or above the count
+abbrev pub isNumber : List ℕ → ℕ → Bool
+isNumber t n = within 1 n (countIn t)
+
+-- 1, then 2: what every call on a port tests first; `rest` is the answer where both pass
+abbrev pub onPort : List ℕ → ℕ → Answer → Answer
+onPort t n rest = cond (tableInRange t) (cond (isNumber t n) rest (Refused reason.Number)) (Refused reason.Table)
+
+-- 3: outgoing buffer under 124 octets
+abbrev pub withRoom : List ℕ → Answer → Answer
+withRoom out rest = cond (ltb (length out) 124) (Refused reason.Buffer) rest
+
+-- 4: default partner block has Collecting different from Synchronization
+abbrev pub withDefault : Settings → Answer → Answer
+withDefault s rest = cond (lawful s) rest (Refused reason.Default)
+
+-- 6, 7, 8 of the frame itself; last 5 for an LACPDU where the link is down or LACP is off; 9 for a Marker where the port neither collects nor distributes; 12 for a Response
+abbrev pub frameAnswer : Class → Port → Answer
+frameAnswer class.Lacpdu p = cond (p .line .up && p .line .full) Lacpdu (Refused reason.Disabled)
+frameAnswer class.Marker p = cond (collects (p .phase .mux) || distributes (p .phase .mux)) Marker (Refused reason.NotCollecting)
+frameAnswer class.Response p = Refused reason.Response
+frameAnswer (class.Refused r) p = Refused (reason.Frame r)
+
+-- 10, then 11
+abbrev pub dueAnswer : Due → Answer
+dueAnswer due.Nothing = Refused reason.NothingToSend
+dueAnswer due.Barred = Refused reason.Barred
+dueAnswer due.Lacpdu = Done
+
+-- start: 1 for memory size or port count only
+abbrev pub startAnswer : List ℕ → ℕ → Settings → Answer
+startAnswer t count s = cond (within 1 count mostPorts && eqb (length t) (tableSize count)) (withDefault s Done) (Refused reason.Table)

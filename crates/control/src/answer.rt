@@ -1,0 +1,36 @@
+// What a call answers.
+use frame::class::Refusal;
+
+// Why a call was refused; `reasonNumber` gives document 01's number for each.
+pub enum Reason {
+    // The memory is no table.
+    Table,
+    // The port or aggregator number is 0 or above the count.
+    Number,
+    // The outgoing buffer is under 124 octets.
+    Buffer,
+    // The default partner block has Collecting different from Synchronization.
+    Default,
+    // A well-formed LACPDU, and the link is down or LACP off.
+    Disabled,
+    // What the frame tests say.
+    Frame(Refusal),
+    // A Marker, and the port is neither collecting nor distributing.
+    NotCollecting,
+    // NTT clear, link down or LACP off.
+    NothingToSend,
+    // NTT set, but three sends bar a fourth.
+    Barred,
+    // A Marker Response: nobody here awaits one.
+    Response,
+}
+
+// What a call answers; `answerNumber` gives document 01's number for each, `lengthSent` the length that was sent for a frame.
+pub enum Answer {
+    Done,
+    // A received LACPDU was done.
+    Lacpdu,
+    // A received Marker was done.
+    Marker,
+    Refused(Reason),
+}

@@ -1,0 +1,2 @@
+// The nine calls.
+pub mod answer;

@@ -1,0 +1,37 @@
+-- The aggregator report (document 01): the ports that hold an aggregator, are attached to it and distribute, as sets of ports.
+use Prim.Native.Nat.{ℕ, _+_, _*_}
+use mathlib.Core.Bool.{Bool, cond, _&&_}
+use mathlib.Core.List.{List, [], _∷_}
+use lib.Dec.{eqb}
+use lib.Count.{ones, trailingZeros}
+use Rattle.frame.specs.State.{weighed}
+use Rattle.machine.specs.Mux.{isAttached, distributes}
+use Rattle.port.specs.declared.record.Port.{Port}
+use Rattle.report.specs.declared.Standing.{Standing}
+use Rattle.report.specs.declared.Standing.the-variants.{Holds, Attached, Distributes}
+use Rattle.report.specs.declared.Sets.{Sets}
+
+-- how a port stands to aggregator k
+unfoldable pub stands : Standing → ℕ → Port → Bool
+stands Holds k p = eqb (p .aggregator) k
+stands Attached k p = eqb (p .aggregator) k && isAttached (p .phase .mux)
+stands Distributes k p = eqb (p .aggregator) k && distributes (p .phase .mux)
+
+-- the ports that pass a test, bit 0 the first
+unfoldable pub setOf : (Port → Bool) → List Port → ℕ
+setOf f [] = 0
+setOf f (p ∷ ps) = setOf f ps * 2 + weighed (f p) 1
+
+-- the lowest port of a set of at most 32, from 1; 0 for none
+abbrev pub lowestOf : ℕ → ℕ
+lowestOf x = cond (eqb x 0) 0 (trailingZeros 32 x + 1)
+
+-- how many are distributing, and which is lowest
+unfoldable pub setsOf : ℕ → List Port → Sets
+setsOf k ps = record {
+  holding = setOf (stands Holds k) ps;
+  attached = setOf (stands Attached k) ps;
+  distributing = setOf (stands Distributes k) ps;
+  count = ones (setOf (stands Distributes k) ps);
+  lowest = lowestOf (setOf (stands Distributes k) ps);
+}

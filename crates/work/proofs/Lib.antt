@@ -1,0 +1,2 @@
+pub mod RangeWork
+pub mod WorkLaws

@@ -1,0 +1,43 @@
+-- What a piece of work leaves is the octets of the header as it was and of the records that it names. Assumes nothing.
+use Prim.Native.Nat.{ℕ, _<_, _≤_}
+use mathlib.Core.Path.{_≡_, refl, sym, ap, _∙_}
+use mathlib.Core.Bool.{true}
+use mathlib.Core.List.{List, map}
+use denote.Shadow.{shadow}
+use denote.Struct.Struct.{within}
+use denote.Struct.Declared.{shape}
+use denote.RattleType.{Valss}
+use mir.Val.{Val}
+use borrow.Author.Tests.{lt-ltb}
+use Rattle.frame.proofs.BlockLaws.{Octets}
+use Rattle.port.specs.declared.record.Port.{Port}
+use Rattle.port.specs.declared.record.Own.{Own}
+use Rattle.port.proofs.record.Own.{the-type}
+use Rattle.table.specs.Range.{fits, ownFits, blockFits}
+use Rattle.table.proofs.RangeLaws.{joined}
+use Rattle.table.specs.Layout.{headerOf}
+use Rattle.table.specs.Table.{tableInRange, ports, tableOctets}
+use Rattle.table.proofs.TableLaws.{in-range, table-back}
+use Rattle.trunk.specs.Worked.{Worked}
+
+-- the octets that a piece of work leaves
+pub made-of : {t u : List ℕ} {qs : List Port} → Worked t u qs → Octets u → u ≡ tableOctets (headerOf t) qs
+made-of {t} {u} w o = sym (table-back u (in-range u (w .ranged)) o) ∙ (λ i. tableOctets (w .header i) (w .records i))
+
+-- the numbers of settings that stand in a record of the program fit their two octets, since their types say so
+fit : (n : ℕ) → n < 65536 → fits n ≡ true
+fit n h = lt-ltb n 65536 h
+
+pub own-typed : (o : Own) (vs : List Val) (vss : Valss (shape the-type .fields)) → shadow (within (shape the-type) (the-type .to o) vs vss) → ownFits o ≡ true
+unfolding ownFits blockFits
+own-typed o vs vss k =
+    let a = k .1 .0 in
+    let b = k .1 .1 .1 .1 .0 in
+    let s = b .1 .1 .0 in
+    let n = b .1 .1 .1 .1 .0 in
+    let x = s .1 .1 .1 .0 in
+    joined (joined (fit _ (a .1 .1 .0 .1)) (joined (fit _ (a .1 .1 .1 .0 .1)) (fit _ (a .1 .1 .1 .1 .0 .1))))
+    (joined (fit _ (k .1 .1 .0 .1)) (joined (fit _ (k .1 .1 .1 .0 .1))
+    (joined (fit _ (s .1 .1 .0 .1))
+    (joined (joined (fit _ (x .1 .1 .0 .1)) (joined (fit _ (x .1 .1 .1 .0 .1)) (fit _ (x .1 .1 .1 .1 .0 .1))))
+    (joined (fit _ (b .1 .1 .1 .0 .1)) (joined (fit _ (n .1 .1 .0 .1)) (fit _ (n .1 .1 .1 .0 .1))))))))
