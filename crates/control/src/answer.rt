@@ -1,5 +1,7 @@
 // What a call answers.
 use frame::class::Refusal;
+use port::record::Port;
+use report::Sets;
 
 // Why a call was refused; `reasonNumber` gives document 01's number for each.
 pub enum Reason {
@@ -33,4 +35,16 @@ pub enum Answer {
     // A received Marker was done.
     Marker,
     Refused(Reason),
+}
+
+// A port's record; beside a refusal, the constants of document 01.
+pub struct PortReport {
+    pub answer: Answer,
+    pub port: Port,
+}
+
+// The ports of an aggregator; beside a refusal, zeros.
+pub struct AggregatorReport {
+    pub answer: Answer,
+    pub sets: Sets,
 }

@@ -1,4 +1,10 @@
 // The aggregator report: the ports of a table that hold an aggregator, are attached to it and distribute, as 32-bit sets.
+ghost use mathlib.Core.Path.{_≡_};
+ghost use mathlib.Core.Bool.{true};
+ghost use Rattle.frame.specs.State.{weighed};
+ghost use Rattle.table.specs.Table.{tableInRange, ports};
+ghost use Rattle.report.specs.Sets.{stands, setOf, lowestOf, setsOf};
+use port::record::Port;
 
 // How a port stands to an aggregator.
 pub enum Standing {
@@ -7,10 +13,73 @@ pub enum Standing {
     Distributes,
 }
 
+// The ports of an aggregator as sets, bit 0 the first port, with how many distribute and the lowest that does (from 1; 0 for none).
 pub struct Sets {
     pub holding: u32,
     pub attached: u32,
     pub distributing: u32,
     pub count: u32,
     pub lowest: u32,
+}
+
+// Whether a port stands so to aggregator k.
+fn stands_to(p: Port, standing: Standing, k: u8) -> bool
+    ensures { λ r. ⌜ r ≡ stands standing k p ⌝ }
+{
+    let h = p.phase;
+    let m = h.mux;
+    match standing {
+        Standing::Holds => p.aggregator == k,
+        Standing::Attached => (p.aggregator == k) & m.is_attached(),
+        Standing::Distributes => (p.aggregator == k) & m.distributes(),
+    }
+}
+
+// What a port adds to a set in bit 0.
+fn weigh(is_in: bool) -> u32
+    ensures { λ r. ⌜ r ≡ weighed is_in 1 ⌝ }
+{
+    if is_in { 1 } else { 0 }
+}
+
+// The ports that stand so to aggregator k, bit 0 the first port.
+fn set_of(table: &[u8], standing: Standing, k: u8) -> u32
+    requires { ⌜ tableInRange (now table) ≡ true ⌝ }
+    ensures { λ r. ⌜ r ≡ setOf (stands standing k) (ports (now (table .entry))) ⌝ }
+{
+    let mut set: u32 = 0;
+    let mut i = table[0] as usize;
+    while 0 < i {
+        i -= 1;
+        let p = table::load(table, i);
+        set = set * 2 + weigh(stands_to(p, standing, k));
+    }
+    set
+}
+
+// The lowest port of a set, from 1; 0 for an empty set.
+fn lowest_of(set: u32) -> u32
+    ensures { λ r. ⌜ r ≡ lowestOf set ⌝ }
+{
+    if set == 0 {
+        return 0;
+    }
+    u32::trailing_zeros(set) + 1
+}
+
+// What the report says of aggregator k.
+pub fn aggregator_of(table: &[u8], k: u8) -> Sets
+    requires { ⌜ tableInRange (now table) ≡ true ⌝ }
+    ensures { λ r. ⌜ r ≡ setsOf k (ports (now (table .entry))) ⌝ }
+{
+    let holding = set_of(table, Standing::Holds, k);
+    let attached = set_of(table, Standing::Attached, k);
+    let distributing = set_of(table, Standing::Distributes, k);
+    Sets {
+        holding: holding,
+        attached: attached,
+        distributing: distributing,
+        count: u32::count_ones(distributing),
+        lowest: lowest_of(distributing),
+    }
 }

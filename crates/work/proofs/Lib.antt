@@ -1,2 +1,3 @@
 pub mod RangeWork
 pub mod WorkLaws
+pub mod FillLaws

@@ -147,3 +147,8 @@ module _ (count : ℕ) where
         own = h;
         partner = default-fits count (ownOf s) h;
       }))
+
+  -- the same from what the record then holds
+  pub started-typed : (s : Settings) → 1 ≤ count → ownFits (started s .own) ≡ true → portInRange count (started s) ≡ true
+  unfolding started blank moved portDisabled initialized recordDefault
+  started-typed s some h = started-ranged s some h

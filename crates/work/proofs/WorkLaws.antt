@@ -2,7 +2,8 @@
 use Prim.Native.Nat.{ℕ, _<_, _≤_}
 use mathlib.Core.Path.{_≡_, refl, sym, ap, _∙_}
 use mathlib.Core.Bool.{true}
-use mathlib.Core.List.{List, map}
+use mathlib.Core.List.{List}
+use native.Mathlib.Omega.{arith}
 use denote.Shadow.{shadow}
 use denote.Struct.Struct.{within}
 use denote.Struct.Declared.{shape}
@@ -15,14 +16,18 @@ use Rattle.port.specs.declared.record.Own.{Own}
 use Rattle.port.proofs.record.Own.{the-type}
 use Rattle.table.specs.Range.{fits, ownFits, blockFits}
 use Rattle.table.proofs.RangeLaws.{joined}
-use Rattle.table.specs.Layout.{headerOf}
-use Rattle.table.specs.Table.{tableInRange, ports, tableOctets}
+use Rattle.table.specs.Layout.{headerOf, mostPorts}
+use Rattle.table.specs.Table.{tableInRange, countIn, ports, tableOctets}
 use Rattle.table.proofs.TableLaws.{in-range, table-back}
 use Rattle.trunk.specs.Worked.{Worked}
 
 -- the octets that a piece of work leaves
 pub made-of : {t u : List ℕ} {qs : List Port} → Worked t u qs → Octets u → u ≡ tableOctets (headerOf t) qs
 made-of {t} {u} w o = sym (table-back u (in-range u (w .ranged)) o) ∙ (λ i. tableOctets (w .header i) (w .records i))
+
+-- a port of a table in range is one of the most that there are
+pub below-most : (t : List ℕ) → tableInRange t ≡ true → (i : ℕ) → i < countIn t → i < mostPorts
+below-most t e i h = let most : countIn t ≤ mostPorts = in-range t e .most in omega arith
 
 -- the numbers of settings that stand in a record of the program fit their two octets, since their types say so
 fit : (n : ℕ) → n < 65536 → fits n ≡ true

@@ -43,12 +43,13 @@ afterOne t i q = again t (worked (ours t) (set (ports t) i q))
 unfoldable pub afterStart : Header → Settings → List ℕ
 afterStart h s = tableOctets h (settled (h .system) (replicate (h .count) (started s)))
 
+-- what port i becomes by an accepted LACPDU: CURRENT
+unfoldable pub heardAt : List ℕ → ℕ → List ℕ → Port
+heardAt t i frame = received (ours t) (i + 1) (blockOf (actorPart frame)) (blockOf (partnerPart frame)) (portAt t i)
+
 -- an accepted LACPDU on port i, and the ports whose partner it shows to have moved
 unfoldable pub afterHeard : List ℕ → ℕ → List ℕ → List ℕ
-afterHeard t i frame =
-    let a = blockOf (actorPart frame) in
-    let b = blockOf (partnerPart frame) in
-    again t (worked (ours t) (displaced i a (set (ports t) i (received (ours t) (i + 1) a b (portAt t i)))))
+afterHeard t i frame = again t (worked (ours t) (displaced i (blockOf (actorPart frame)) (set (ports t) i (heardAt t i frame))))
 
 unfoldable pub afterTick : List ℕ → List ℕ
 afterTick t = again t (worked (ours t) (map advanced (ports t)))

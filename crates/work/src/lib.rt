@@ -3,13 +3,14 @@
 ghost use mathlib.Core.Path.{_≡_};
 ghost use mathlib.Core.Bool.{true};
 ghost use mathlib.Core.List.{map};
-ghost use Prim.Native.Nat.{_<_, _≤_};
-ghost use lib.ListN.{length, set};
+ghost use Prim.Native.Nat.{_+_, _<_, _≤_};
+ghost use lib.ListN.{length, set, replicate};
 ghost use Rattle.table.specs.Layout.{headerOf, tableSize, mostPorts};
 ghost use Rattle.table.specs.Range.{portInRange};
 ghost use Rattle.table.specs.Table.{tableInRange, countIn, ports, portAt};
+ghost use Rattle.settings.specs.Settings.{started};
 ghost use Rattle.trunk.specs.Worked.{Worked};
-ghost use Rattle.work.specs.Work.{ours, worked, afterOne, afterStart, afterHeard, afterTick, afterLine, afterSettings, afterSend, lacpduOf, responseOf, over};
+ghost use Rattle.work.specs.Work.{ours, worked, afterOne, afterStart, heardAt, afterHeard, afterTick, afterLine, afterSettings, afterSend, lacpduOf, responseOf, over};
 use frame::block::Block;
 use machine::states::Line;
 use port::record::Port;
@@ -66,4 +67,98 @@ pub fn configure(table: &mut [u8], i: usize, settings: Settings)
         return;
     }
     change(table, i, settings.configure(p));
+}
+
+// An accepted LACPDU on port i, and the ports whose partner it shows to have moved.
+pub fn hear(table: &mut [u8], i: usize, frame: &[u8])
+    requires { ⌜ (tableInRange (now table) ≡ true) × (i < countIn (now table)) × (124 ≤ length (now frame)) ⌝ }
+    ensures { λ _. ⌜ now (table .exit) ≡ afterHeard (now (table .entry)) i (now (frame .entry)) ⌝ }
+{
+    hear_at(table, i, frame);
+    trunk::displace::displace_all(table, i, Block::read(frame::wire::actor(frame)));
+    finish(table);
+}
+
+// The number of port i, which is counted from 0.
+fn number_of(i: usize) -> u16
+    requires { ⌜ i < mostPorts ⌝ }
+    ensures { λ r. ⌜ r ≡ i + 1 ⌝ }
+{
+    (i + 1) as u16
+}
+
+// Port i records what an LACPDU says (CURRENT, 43.4.12).
+fn hear_at(table: &mut [u8], i: usize, frame: &[u8])
+    requires { ⌜ (tableInRange (now table) ≡ true) × (i < countIn (now table)) × (124 ≤ length (now frame)) ⌝ }
+    ensures { λ _. ⌜ Worked (now (table .entry)) (now (table .exit)) (set (ports (now (table .entry))) i (heardAt (now (table .entry)) i (now (frame .entry)))) ⌝ }
+{
+    let h = table::layout::read_header(table);
+    let ours = h.system;
+    let p = table::load(table, i);
+    let q = p.receive_lacpdu(
+        ours,
+        number_of(i),
+        frame::wire::actor(frame),
+        frame::wire::partner(frame),
+    );
+    table::store(table, i, q);
+}
+
+// Writes the LACPDU of port i over the first 124 octets of out, and remembers the send.
+pub fn send(table: &mut [u8], i: usize, out: &mut [u8])
+    requires { ⌜ (tableInRange (now table) ≡ true) × (i < countIn (now table)) × (124 ≤ length (now out)) ⌝ }
+    ensures { λ _. ⌜ (now (table .exit) ≡ afterSend (now (table .entry)) i) × (now (out .exit) ≡ over (lacpduOf (now (table .entry)) i) (now (out .entry))) ⌝ }
+{
+    write_due(table, i, out);
+    let p = table::load(table, i);
+    table::store(table, i, p.sent());
+}
+
+// Writes the LACPDU of port i over the first 124 octets of out.
+fn write_due(table: &[u8], i: usize, out: &mut [u8])
+    requires { ⌜ (tableInRange (now table) ≡ true) × (i < countIn (now table)) × (124 ≤ length (now out)) ⌝ }
+    ensures { λ _. ⌜ now (out .exit) ≡ over (lacpduOf (now (table .entry)) i) (now (out .entry)) ⌝ }
+{
+    let h = table::layout::read_header(table);
+    let ours = h.system;
+    let delay = h.delay;
+    let p = table::load(table, i);
+    let address = p.own.address;
+    let partner = p.partner;
+    let actor = p.actor_block(ours, number_of(i));
+    frame::wire::write_lacpdu(out, address, actor, partner, delay);
+}
+
+// Writes port i's Response to a Marker over the first 124 octets of out.
+pub fn respond(table: &[u8], i: usize, frame: &[u8], out: &mut [u8])
+    requires { ⌜ (tableInRange (now table) ≡ true) × (i < countIn (now table)) × (124 ≤ length (now frame)) × (124 ≤ length (now out)) ⌝ }
+    ensures { λ _. ⌜ now (out .exit) ≡ over (responseOf (now (table .entry)) i (now (frame .entry))) (now (out .entry)) ⌝ }
+{
+    let p = table::load(table, i);
+    let address = p.own.address;
+    frame::wire::write_response(out, address, frame);
+}
+
+// A table of memory with any content: every port begins alike, and steps 3 to 6.
+pub fn begin(table: &mut [u8], header: Header, settings: Settings)
+    requires { ⌜ (1 ≤ header .count) × (header .count ≤ mostPorts) × (length (now table) ≡ tableSize (header .count)) ⌝ }
+    ensures { λ _. ⌜ now (table .exit) ≡ afterStart header settings ⌝ }
+{
+    lay(table, header, settings);
+    trunk::settle::settle(table);
+}
+
+// Writes the header, and for every port the record with which it begins.
+fn lay(table: &mut [u8], header: Header, settings: Settings)
+    requires { ⌜ (1 ≤ header .count) × (header .count ≤ mostPorts) × (length (now table) ≡ tableSize (header .count)) ⌝ }
+    ensures { λ _. ⌜ (headerOf (now (table .exit)) ≡ header) × (tableInRange (now (table .exit)) ≡ true) × (ports (now (table .exit)) ≡ replicate (header .count) (started settings)) ⌝ }
+{
+    let n = header.count as usize;
+    let p = settings.start();
+    table::layout::write_header(table, header);
+    let mut i: usize = 0;
+    while i < n {
+        table::store(table, i, p);
+        i += 1;
+    }
 }

@@ -1,0 +1,45 @@
+-- `report::stands_to` meets its contract: one line of the definition for each variant, with what the callees ensure put in. Assumes nothing.
+use borrow.Author.Needs.{needs}
+use Rattle.report.specs.Sets.{stands}
+use Rattle.report.proofs.stands_to.Statement.{statement}
+use Rattle.report.proofs.stands_to.Tie as tie
+
+enum-told : tie.Need-enum-told
+enum-told c = search needs
+
+enum-told-2 : tie.Need-enum-told-2
+enum-told-2 c = search needs
+
+is-attached-requires : tie.Need-is-attached-requires
+is-attached-requires c κs = search needs
+
+enum-told-3 : tie.Need-enum-told-3
+enum-told-3 c = search needs
+
+distributes-requires : tie.Need-distributes-requires
+distributes-requires c κs = search needs
+
+returns : tie.Need-returns
+unfolding stands
+returns c = rw (c .before .enum-told .given .1)
+
+returns-2 : tie.Need-returns-2
+unfolding stands
+returns-2 c = rw (c .is-attached .ensures, c .before .before .enum-told2 .given .1)
+
+returns-3 : tie.Need-returns-3
+unfolding stands
+returns-3 c = rw (c .distributes .ensures, c .before .before .enum-told3 .given .1)
+
+pub stands-to-spec : {M : Type 1} → statement M
+stands-to-spec =
+    tie.close
+    (tie.spec
+    enum-told
+    enum-told-2
+    is-attached-requires
+    enum-told-3
+    distributes-requires
+    returns
+    returns-2
+    returns-3)
