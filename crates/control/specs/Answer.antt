@@ -1,6 +1,6 @@
 -- Document 01's answers: their numbers, and the tests in their order.
-use Prim.Native.Nat.{ℕ}
-use mathlib.Core.Bool.{Bool, cond, not, _&&_, _||_}
+use Prim.Native.Nat.{ℕ, _-_}
+use mathlib.Core.Bool.{Bool, cond, _&&_, _||_}
 use mathlib.Core.List.{List}
 use lib.ListN.{length}
 use lib.Dec.{ltb, eqb}
@@ -19,6 +19,8 @@ use Rattle.control.specs.declared.answer.Answer.{Answer}
 use Rattle.control.specs.declared.answer.Answer.the-variants.{Done, Lacpdu, Marker, Refused}
 use Rattle.control.specs.declared.answer.Reason.{Reason}
 use Rattle.control.specs.declared.answer.Reason.the-variants as reason
+use Rattle.control.specs.declared.tests.Found.{Found}
+use Rattle.control.specs.declared.tests.Found.the-variants as place
 
 -- ---- what each answer is on paper
 
@@ -58,6 +60,10 @@ isNumber t n = within 1 n (countIn t)
 abbrev pub onPort : List ℕ → ℕ → Answer → Answer
 onPort t n rest = cond (tableInRange t) (cond (isNumber t n) rest (Refused reason.Number)) (Refused reason.Table)
 
+-- what the code finds by these two tests: a refusal, or the port's place in the table, from 0
+unfoldable pub found : List ℕ → ℕ → Found
+found t n = cond (tableInRange t) (cond (isNumber t n) (place.Port (n - 1)) (place.Refused reason.Number)) (place.Refused reason.Table)
+
 -- 3: outgoing buffer under 124 octets
 abbrev pub withRoom : List ℕ → Answer → Answer
 withRoom out rest = cond (ltb (length out) 124) (Refused reason.Buffer) rest
@@ -80,5 +86,8 @@ dueAnswer due.Barred = Refused reason.Barred
 dueAnswer due.Lacpdu = Done
 
 -- start: 1 for memory size or port count only
+abbrev pub isRoom : List ℕ → ℕ → Bool
+isRoom t count = within 1 count mostPorts && eqb (length t) (tableSize count)
+
 abbrev pub startAnswer : List ℕ → ℕ → Settings → Answer
-startAnswer t count s = cond (within 1 count mostPorts && eqb (length t) (tableSize count)) (withDefault s Done) (Refused reason.Table)
+startAnswer t count s = cond (isRoom t count) (withDefault s Done) (Refused reason.Table)

@@ -9,9 +9,11 @@ use Rattle.machine.specs.declared.states.Receive.the-variants.{Initialize}
 use Rattle.machine.specs.declared.states.Periodic.the-variants.{NoPeriodic}
 use Rattle.machine.specs.declared.states.Mux.the-variants.{Detached}
 use Rattle.machine.specs.declared.states.Selection.the-variants.{Unselected}
+use Rattle.frame.specs.declared.state.PortState.{PortState}
 use Rattle.machine.specs.Bits.{state}
 use Rattle.machine.specs.States.{phase, ticks, timers}
 use Rattle.machine.specs.Ages.{ages}
+use Rattle.port.specs.declared.record.Own.{Own}
 use Rattle.port.specs.declared.record.Port.{Port}
 use Rattle.port.specs.Record.{port}
 use Rattle.report.specs.declared.Sets.{Sets}
@@ -25,21 +27,24 @@ use Rattle.control.specs.After.{answer, unless}
 abbrev pub noAddress : Address
 noAddress = record { high = 0; middle = 0; low = 0 }
 
+abbrev pub noState : PortState
+noState = state false false false false false false false false
+
 abbrev pub noBlock : Block
 noBlock = record {
   system = record { priority = 0; address = noAddress };
   key = 0;
   port = record { priority = 0; number = 0 };
-  state = state false false false false false false false false;
+  state = noState;
 }
+
+abbrev pub noOwn : Own
+noOwn = record { address = noAddress; key = 0; priority = 0; default = noBlock }
 
 abbrev pub noPort : Port
 noPort =
-    port (phase Initialize NoPeriodic Detached Unselected) 0 false (record { up = false; full = false })
-    (state false false false false false false false false)
-    (timers (ticks 0) (ticks 0) (ticks 0)) (ages 0 0 0)
-    (record { address = noAddress; key = 0; priority = 0; default = noBlock })
-    noBlock
+    port (phase Initialize NoPeriodic Detached Unselected) 0 false (record { up = false; full = false }) noState
+    (timers (ticks 0) (ticks 0) (ticks 0)) (ages 0 0 0) noOwn noBlock
 
 abbrev pub noSets : Sets
 noSets = record { holding = 0; attached = 0; distributing = 0; count = 0; lowest = 0 }

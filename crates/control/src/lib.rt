@@ -1,2 +1,204 @@
-// The nine calls.
+// The nine calls. Each takes every input: memory of any length and content, any port number, frame, buffer and setting. It tests in
+// document 01's order, and a refusal leaves table and outgoing buffer as they came; what an accepted call does stands in `work`.
+ghost use mathlib.Core.Path.{_≡_};
+ghost use mathlib.Core.Bool.{true};
+ghost use Prim.Native.Nat.{_<_};
+ghost use Rattle.port.specs.Transmit.{due};
+ghost use Rattle.frame.specs.Class.{classOf};
+ghost use Rattle.table.specs.Table.{tableInRange, countIn, portAt};
+ghost use Rattle.work.specs.Work.{afterSettings, afterSend, lacpduOf, over};
+ghost use Rattle.control.specs.Answer.{withRoom, withDefault, dueAnswer, frameAnswer};
+ghost use Rattle.control.specs.Call.{start as Call·start, receive as Call·receive, tick as Call·tick, link as Call·link, duplex as Call·duplex, configure as Call·configure, fetch as Call·fetch};
+ghost use Rattle.control.specs.After.{unless, afterFrame, sentFor, answer as After·answer, after, outgoing};
+ghost use Rattle.control.specs.Report.{portReport, aggregatorReport};
+use crate::answer::AggregatorReport;
+use crate::answer::Answer;
+use crate::answer::PortReport;
+use crate::answer::Reason;
+use crate::constants::no_port;
+use crate::constants::no_sets;
+use crate::tests::Found;
+use frame::block::SystemId;
+use frame::wire::TensOfMicroseconds;
+use machine::states::Line;
+use port::transmit::Due;
+use settings::Settings;
+use table::layout::Header;
+
 pub mod answer;
+mod constants;
+pub mod tests;
+
+// Starts a table of `count` ports in memory of any content; every port begins with these settings.
+pub fn start(
+    table: &mut [u8],
+    count: u32,
+    system: SystemId,
+    delay: TensOfMicroseconds,
+    settings: Settings,
+) -> Answer
+    ensures { λ r. ⌜ (r ≡ After·answer (Call·start count system delay settings) (now (table .entry))) × (now (table .exit) ≡ after (Call·start count system delay settings) (now (table .entry))) ⌝ }
+{
+    if !tests::is_room(table, count) {
+        return Answer::Refused(Reason::Table);
+    }
+    if !settings.is_lawful() {
+        return Answer::Refused(Reason::Default);
+    }
+    let header = Header {
+        count: count as u8,
+        system,
+        delay,
+    };
+    work::begin(table, header, settings);
+    Answer::Done
+}
+
+// A frame was received on port n. The Response to a Marker is written into `out`, and sent by the caller.
+pub fn receive(table: &mut [u8], n: u32, frame: &[u8], out: &mut [u8]) -> Answer
+    ensures { λ r. ⌜ (r ≡ After·answer (Call·receive n (now (frame .entry)) (now (out .entry))) (now (table .entry))) × (now (table .exit) ≡ after (Call·receive n (now (frame .entry)) (now (out .entry))) (now (table .entry))) × (now (out .exit) ≡ outgoing (Call·receive n (now (frame .entry)) (now (out .entry))) (now (table .entry))) ⌝ }
+{
+    match tests::find(table, n) {
+        Found::Refused(why) => Answer::Refused(why),
+        Found::Port(i) => receive_at(table, i, frame, out),
+    }
+}
+
+fn receive_at(table: &mut [u8], i: usize, frame: &[u8], out: &mut [u8]) -> Answer
+    requires { ⌜ (tableInRange (now table) ≡ true) × (i < countIn (now table)) ⌝ }
+    ensures { λ r. ⌜ (r ≡ withRoom (now (out .entry)) (frameAnswer (classOf (now (frame .entry))) (portAt (now (table .entry)) i))) × (now (table .exit) ≡ afterFrame r (now (table .entry)) i (now (frame .entry))) × (now (out .exit) ≡ sentFor r (now (table .entry)) i (now (frame .entry)) (now (out .entry))) ⌝ }
+{
+    if out.len() < 124 {
+        return Answer::Refused(Reason::Buffer);
+    }
+    let p = table::load(table, i);
+    match tests::judge(frame::class::classify(frame), p) {
+        Answer::Done => Answer::Done,
+        Answer::Lacpdu => {
+            work::hear(table, i, frame);
+            Answer::Lacpdu
+        }
+        Answer::Marker => {
+            work::respond(table, i, frame, out);
+            Answer::Marker
+        }
+        Answer::Refused(why) => Answer::Refused(why),
+    }
+}
+
+// A tenth of a second has passed.
+pub fn tick(table: &mut [u8]) -> Answer
+    ensures { λ r. ⌜ (r ≡ After·answer Call·tick (now (table .entry))) × (now (table .exit) ≡ after Call·tick (now (table .entry))) ⌝ }
+{
+    if !table::is_table(table) {
+        return Answer::Refused(Reason::Table);
+    }
+    work::advance(table);
+    Answer::Done
+}
+
+// The link of port n is up or down now.
+pub fn link(table: &mut [u8], n: u32, up: bool) -> Answer
+    ensures { λ r. ⌜ (r ≡ After·answer (Call·link n up) (now (table .entry))) × (now (table .exit) ≡ after (Call·link n up) (now (table .entry))) ⌝ }
+{
+    match tests::find(table, n) {
+        Found::Refused(why) => Answer::Refused(why),
+        Found::Port(i) => {
+            let p = table::load(table, i);
+            let full = p.line.full;
+            work::set_line(table, i, Line { up, full });
+            Answer::Done
+        }
+    }
+}
+
+// The duplex of port n is full or half now.
+pub fn duplex(table: &mut [u8], n: u32, full: bool) -> Answer
+    ensures { λ r. ⌜ (r ≡ After·answer (Call·duplex n full) (now (table .entry))) × (now (table .exit) ≡ after (Call·duplex n full) (now (table .entry))) ⌝ }
+{
+    match tests::find(table, n) {
+        Found::Refused(why) => Answer::Refused(why),
+        Found::Port(i) => {
+            let p = table::load(table, i);
+            let up = p.line.up;
+            work::set_line(table, i, Line { up, full });
+            Answer::Done
+        }
+    }
+}
+
+// Port n has these settings from now on.
+pub fn configure(table: &mut [u8], n: u32, settings: Settings) -> Answer
+    ensures { λ r. ⌜ (r ≡ After·answer (Call·configure n settings) (now (table .entry))) × (now (table .exit) ≡ after (Call·configure n settings) (now (table .entry))) ⌝ }
+{
+    match tests::find(table, n) {
+        Found::Refused(why) => Answer::Refused(why),
+        Found::Port(i) => {
+            if !settings.is_lawful() {
+                return Answer::Refused(Reason::Default);
+            }
+            work::configure(table, i, settings);
+            Answer::Done
+        }
+    }
+}
+
+// The next LACPDU of port n is written into `out`, and sent by the caller.
+pub fn fetch(table: &mut [u8], n: u32, out: &mut [u8]) -> Answer
+    ensures { λ r. ⌜ (r ≡ After·answer (Call·fetch n (now (out .entry))) (now (table .entry))) × (now (table .exit) ≡ after (Call·fetch n (now (out .entry))) (now (table .entry))) × (now (out .exit) ≡ outgoing (Call·fetch n (now (out .entry))) (now (table .entry))) ⌝ }
+{
+    match tests::find(table, n) {
+        Found::Refused(why) => Answer::Refused(why),
+        Found::Port(i) => fetch_at(table, i, out),
+    }
+}
+
+fn fetch_at(table: &mut [u8], i: usize, out: &mut [u8]) -> Answer
+    requires { ⌜ (tableInRange (now table) ≡ true) × (i < countIn (now table)) ⌝ }
+    ensures { λ r. ⌜ (r ≡ withRoom (now (out .entry)) (dueAnswer (due (portAt (now (table .entry)) i)))) × (now (table .exit) ≡ unless r (now (table .entry)) (afterSend (now (table .entry)) i)) × (now (out .exit) ≡ unless r (now (out .entry)) (over (lacpduOf (now (table .entry)) i) (now (out .entry)))) ⌝ }
+{
+    if out.len() < 124 {
+        return Answer::Refused(Reason::Buffer);
+    }
+    let p = table::load(table, i);
+    match p.due() {
+        Due::Nothing => Answer::Refused(Reason::NothingToSend),
+        Due::Barred => Answer::Refused(Reason::Barred),
+        Due::Lacpdu => {
+            work::send(table, i, out);
+            Answer::Done
+        }
+    }
+}
+
+// The record of port n.
+pub fn report_port(table: &[u8], n: u32) -> PortReport
+    ensures { λ r. ⌜ r ≡ portReport n (now (table .entry)) ⌝ }
+{
+    match tests::find(table, n) {
+        Found::Refused(why) => PortReport {
+            answer: Answer::Refused(why),
+            port: no_port(),
+        },
+        Found::Port(i) => PortReport {
+            answer: Answer::Done,
+            port: table::load(table, i),
+        },
+    }
+}
+
+// The ports that hold aggregator n, are attached to it and distribute.
+pub fn report_aggregator(table: &[u8], n: u32) -> AggregatorReport
+    ensures { λ r. ⌜ r ≡ aggregatorReport n (now (table .entry)) ⌝ }
+{
+    match tests::find(table, n) {
+        Found::Refused(why) => AggregatorReport {
+            answer: Answer::Refused(why),
+            sets: no_sets(),
+        },
+        Found::Port(_) => AggregatorReport {
+            answer: Answer::Done,
+            sets: report::aggregator_of(table, n as u8),
+        },
+    }
+}

@@ -1,0 +1,69 @@
+-- `control::link` meets its contract: answers 1 and 2, or the work of the port's new link and duplex. Assumes nothing.
+use mathlib.Core.Path.{_≡_, sym, ap, _∙_}
+use denote.Ref.{now}
+use Rattle.machine.specs.declared.states.Line.{Line}
+use Rattle.port.specs.declared.record.Port.{Port}
+use Rattle.table.specs.Table.{portAt}
+use Rattle.trunk.proofs.TableWork.{room}
+use Rattle.work.specs.Work.{afterLine}
+use Rattle.control.specs.declared.answer.Answer.the-variants.{Done, Refused}
+use Rattle.control.specs.Call as call
+use Rattle.control.specs.After.{answer, changedBy}
+use Rattle.control.proofs.CallLaws.{found-refused, found-answers, found-table, found-inside, found-index, refused-table, done-table}
+use borrow.Author.Needs.{needs}
+use Rattle.control.proofs.link.Statement.{statement}
+use Rattle.control.proofs.link.Tie as tie
+
+find-requires : tie.Need-find-requires
+find-requires c κs = search needs
+
+enum-known-why : tie.Need-enum-known-why
+enum-known-why c = search needs
+
+enum-known-i : tie.Need-enum-known-i
+enum-known-i c = search needs
+
+load-requires : tie.Need-load-requires
+load-requires c κs =
+    let t = now (c .before .before .before .before .before .before .before .args .table) in
+    let here = sym (c .before .before .before .before .find .ensures) ∙ (c .before .before .i .given .1) in
+    room t (found-table t _ here) _ (found-inside t _ here)
+
+set-line-requires : tie.Need-set-line-requires
+set-line-requires c κs =
+    let t = now (c .before .before .before .before .before .before .before .before .before .args .table) in
+    let here = sym (c .before .before .before .before .before .before .find .ensures) ∙ (c .before .before .before .before .i .given .1) in
+    (found-table t _ here, found-inside t _ here)
+
+same-length : tie.Need-same-length
+same-length c = search needs
+
+returns : tie.Need-returns
+unfolding answer
+returns c =
+    let a = (c .before .before .before .before .before .before .args) in
+    let t = now (a .table) in
+    let refused = found-refused t (a .n) (sym (c .before .before .before .find .ensures) ∙ (c .before .why .given .1)) Done in
+    (sym refused, sym (refused-table (call.link (a .n) (a .up)) t refused))
+
+same-length-2 : tie.Need-same-length-2
+same-length-2 c = search needs
+
+returns-2 : tie.Need-returns-2
+unfolding answer changedBy
+returns-2 c =
+    let a = (c .before .before .before .before .before .before .before .before .before .before .before .before .args) in
+    let t = now (a .table) in
+    let here = sym (c .before .before .before .before .before .before .before .before .before .find .ensures) ∙ (c .before .before .before .before .before .before .before .i .given .1) in
+    let done = found-answers t (a .n) here Done in
+    let i = found-index t (a .n) here in
+    (sym done,
+    c .before .before .set-line .ensures
+    ∙ ap (λ (p : Port). afterLine t (c .before .before .before .before .before .before .before .i .given .0 .0) (record { up = a .up; full = p .line .full })) (c .before .before .before .before .load .ensures)
+    ∙ (λ j. afterLine t (i j) (let p = portAt t (i j) in record { up = a .up; full = p .line .full }))
+    ∙ sym (done-table (call.link (a .n) (a .up)) t done))
+
+pub link-spec : {M : Type 1} → statement M
+link-spec =
+    tie.close
+    (tie.spec find-requires enum-known-why enum-known-i load-requires set-line-requires same-length returns same-length-2 returns-2)

@@ -1,0 +1,78 @@
+-- `control::receive` meets its contract: answers 1 and 2, or what the port's part of it gives. Assumes nothing.
+use Prim.Native.Nat.{ℕ}
+use mathlib.Core.Path.{_≡_, sym, ap, _∙_}
+use denote.Ref.{now}
+use Rattle.frame.specs.Class.{classOf}
+use Rattle.table.specs.Table.{portAt}
+use Rattle.control.specs.Answer.{withRoom, frameAnswer}
+use Rattle.control.specs.Call as call
+use Rattle.control.specs.After.{answer, afterFrame, sentFor, changedBy, after, writtenBy, outgoing}
+use Rattle.control.proofs.CallLaws.{found-refused, found-answers, found-table, found-inside, found-index, refused-table, refused-buffer}
+use Rattle.control.proofs.CallLaws.{frame-after, frame-sent}
+use borrow.Author.Needs.{needs}
+use Rattle.control.proofs.receive.Statement.{statement}
+use Rattle.control.proofs.receive.Tie as tie
+
+find-requires : tie.Need-find-requires
+find-requires c κs = search needs
+
+enum-known-why : tie.Need-enum-known-why
+enum-known-why c = search needs
+
+enum-known-i : tie.Need-enum-known-i
+enum-known-i c = search needs
+
+receive-at-requires : tie.Need-receive-at-requires
+receive-at-requires c κs =
+    let t = now (c .before .before .before .before .before .before .before .before .before .before .args .table) in
+    let here = sym (c .before .before .before .before .before .find .ensures) ∙ (c .before .before .before .i .given .1) in
+    (found-table t _ here, found-inside t _ here)
+
+same-length : tie.Need-same-length
+same-length c = search needs
+
+returns : tie.Need-returns
+unfolding answer
+returns c =
+    let a = (c .before .before .before .before .before .before .before .before .args) in
+    let t = now (a .table) in
+    let this = call.receive (a .n) (now (a .frame)) (now (a .out)) in
+    let refused = found-refused t (a .n) (sym (c .before .before .before .find .ensures) ∙ (c .before .why .given .1)) _ in
+    (sym refused, sym (refused-table this t refused), sym (refused-buffer this t refused))
+
+same-length-2 : tie.Need-same-length-2
+same-length-2 c = search needs
+
+same-length-3 : tie.Need-same-length-3
+same-length-3 c = search needs
+
+returns-2 : tie.Need-returns-2
+unfolding answer changedBy after writtenBy outgoing
+returns-2 c =
+    let a = (c .before .before .before .before .before .before .before .before .before .before .before .before .before .before .before .args) in
+    let t = now (a .table) in
+    let frame = now (a .frame) in
+    let out = now (a .out) in
+    let this = call.receive (a .n) frame out in
+    let here = sym (c .before .before .before .before .before .before .before .before .before .before .find .ensures) ∙ (c .before .before .before .before .before .before .before .before .i .given .1) in
+    let i = found-index t (a .n) here in
+    let did = (c .before .before .before .before .receive-at .ensures) in
+    let is : c .before .before .before .before .receive-at .result ≡ answer this t =
+    did .0 ∙ ap (λ (k : ℕ). withRoom out (frameAnswer (classOf frame) (portAt t k))) i ∙ sym (found-answers t (a .n) here _) in
+    (is,
+    did .1 ∙ (λ j. afterFrame (is j) t (i j) frame) ∙ frame-after (answer this t) t _ frame,
+    did .2 ∙ (λ j. sentFor (is j) t (i j) frame out) ∙ frame-sent (answer this t) t _ frame out)
+
+pub receive-spec : {M : Type 1} → statement M
+receive-spec =
+    tie.close
+    (tie.spec
+    find-requires
+    enum-known-why
+    enum-known-i
+    receive-at-requires
+    same-length
+    returns
+    same-length-2
+    same-length-3
+    returns-2)

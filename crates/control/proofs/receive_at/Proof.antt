@@ -1,0 +1,115 @@
+-- `control::receive_at` meets its contract: answer 3, then what the frame and the port say; an LACPDU is heard, a Marker answered.
+-- Assumes nothing.
+use mathlib.Core.Path.{_≡_, refl, sym, ap, _∙_}
+use native.Mathlib.Omega.{arith}
+use denote.Ref.{now}
+use lib.ListN.{length}
+use borrow.Author.Tests.{lt-ltb, le-ltb}
+use Rattle.frame.specs.Class.{classOf}
+use Rattle.table.specs.Table.{portAt}
+use Rattle.trunk.proofs.TableWork.{room}
+use Rattle.control.specs.declared.answer.Answer.{Answer}
+use Rattle.control.specs.Answer.{frameAnswer}
+use Rattle.control.proofs.CallLaws.{lacpdu-whole, marker-whole}
+use borrow.Author.Needs.{needs}
+use Rattle.control.proofs.receive_at.Statement.{statement}
+use Rattle.control.proofs.receive_at.Tie as tie
+
+returns : tie.Need-returns
+returns c = let short = lt-ltb (length (now (c .before .before .before .before .args .out))) 124 (c .if1 .taken) in (rw short, refl, refl)
+
+load-requires : tie.Need-load-requires
+load-requires c κs = room _ (c .before .before .before .before .before .pre .0) (c .before .before .before .before .before .args .i) (c .before .before .before .before .before .pre .1)
+
+classify-requires : tie.Need-classify-requires
+classify-requires c κs = search needs
+
+judge-requires : tie.Need-judge-requires
+judge-requires c κs = search needs
+
+enum-told : tie.Need-enum-told
+enum-told c = search needs
+
+enum-told-2 : tie.Need-enum-told-2
+enum-told-2 c = search needs
+
+hear-requires : tie.Need-hear-requires
+hear-requires c κs =
+    let a = (c .before .before .before .before .before .before .before .before .before .before .before .args) in
+    let is = (λ j. frameAnswer (sym (c .before .before .before .before .classify .ensures) j) (sym (c .before .before .before .before .before .load .ensures) j)) ∙ sym (c .before .before .before .judge .ensures) ∙ (c .before .enum-told2 .given .1) in
+    (c .before .before .before .before .before .before .before .before .before .before .before .pre .0, c .before .before .before .before .before .before .before .before .before .before .before .pre .1, lacpdu-whole (now (a .frame)) (portAt (now (a .table)) (a .i)) is)
+
+enum-told-3 : tie.Need-enum-told-3
+enum-told-3 c = search needs
+
+respond-requires : tie.Need-respond-requires
+respond-requires c κs =
+    let a = (c .before .before .before .before .before .before .before .before .before .before .before .before .args) in
+    let is = (λ j. frameAnswer (sym (c .before .before .before .before .before .classify .ensures) j) (sym (c .before .before .before .before .before .before .load .ensures) j)) ∙ sym (c .before .before .before .before .judge .ensures) ∙ (c .before .before .enum-told3 .given .1) in
+    (c .before .before .before .before .before .before .before .before .before .before .before .before .pre .0, c .before .before .before .before .before .before .before .before .before .before .before .before .pre .1, marker-whole (now (a .frame)) (portAt (now (a .table)) (a .i)) is, omega (arith, c .before .before .before .before .before .before .before .before .if1 .left))
+
+enum-known-why : tie.Need-enum-known-why
+enum-known-why c = search needs
+
+same-length : tie.Need-same-length
+same-length c = search needs
+
+returns-2 : tie.Need-returns-2
+returns-2 c =
+    let long = le-ltb (length (now (c .before .before .before .before .before .before .before .before .before .before .args .out))) 124 (c .before .before .before .before .before .before .if1 .left) in
+    let is = (λ j. frameAnswer (sym (c .before .before .before .classify .ensures) j) (sym (c .before .before .before .before .load .ensures) j)) ∙ sym (c .before .before .judge .ensures) ∙ (c .enum-told .given .1) in
+    (rw (long, is), refl, refl)
+
+same-length-2 : tie.Need-same-length-2
+same-length-2 c = search needs
+
+returns-3 : tie.Need-returns-3
+returns-3 c =
+    let long = le-ltb (length (now (c .before .before .before .before .before .before .before .before .before .before .before .before .before .before .args .out))) 124 (c .before .before .before .before .before .before .before .before .before .before .if1 .left) in
+    let is = (λ j. frameAnswer (sym (c .before .before .before .before .before .before .before .classify .ensures) j) (sym (c .before .before .before .before .before .before .before .before .load .ensures) j)) ∙ sym (c .before .before .before .before .before .before .judge .ensures) ∙ (c .before .before .before .before .enum-told2 .given .1) in
+    (rw (long, is), c .before .before .hear .ensures, refl)
+
+same-length-3 : tie.Need-same-length-3
+same-length-3 c = search needs
+
+same-length-4 : tie.Need-same-length-4
+same-length-4 c = search needs
+
+returns-4 : tie.Need-returns-4
+returns-4 c =
+    let long = le-ltb (length (now (c .before .before .before .before .before .before .before .before .before .before .before .before .before .before .before .args .out))) 124 (c .before .before .before .before .before .before .before .before .before .before .before .if1 .left) in
+    let is = (λ j. frameAnswer (sym (c .before .before .before .before .before .before .before .before .classify .ensures) j) (sym (c .before .before .before .before .before .before .before .before .before .load .ensures) j)) ∙ sym (c .before .before .before .before .before .before .before .judge .ensures) ∙ (c .before .before .before .before .before .enum-told3 .given .1) in
+    (rw (long, is), refl, c .before .before .respond .ensures)
+
+same-length-5 : tie.Need-same-length-5
+same-length-5 c = search needs
+
+returns-5 : tie.Need-returns-5
+returns-5 c =
+    let long = le-ltb (length (now (c .before .before .before .before .before .before .before .before .before .before .before .args .out))) 124 (c .before .before .before .before .before .before .before .if1 .left) in
+    let is = (λ j. frameAnswer (sym (c .before .before .before .before .classify .ensures) j) (sym (c .before .before .before .before .before .load .ensures) j)) ∙ sym (c .before .before .before .judge .ensures) ∙ (c .before .why .given .1) in
+    (rw (long, is), refl, refl)
+
+pub receive-at-spec : {M : Type 1} → statement M
+receive-at-spec =
+    tie.close
+    (tie.spec
+    returns
+    load-requires
+    classify-requires
+    judge-requires
+    enum-told
+    enum-told-2
+    hear-requires
+    enum-told-3
+    respond-requires
+    enum-known-why
+    same-length
+    returns-2
+    same-length-2
+    returns-3
+    same-length-3
+    same-length-4
+    returns-4
+    same-length-5
+    returns-5)

@@ -1,0 +1,25 @@
+-- `control::tests::is_room` meets its contract: the count first, and then the size for it. Assumes nothing.
+use Rattle.table.specs.Layout.{mostPorts}
+use borrow.Author.Tests.{lt-leb, le-leb}
+use borrow.Author.Needs.{needs}
+use Rattle.control.proofs.tests.is_room.Statement.{statement}
+use Rattle.control.proofs.tests.is_room.Tie as tie
+
+returns : tie.Need-returns
+returns c = rw (lt-leb 1 _ (c .if1 .taken))
+
+cast-if2 : tie.Need-cast-if2
+cast-if2 c = search needs
+
+returns-2 : tie.Need-returns-2
+returns-2 c = rw (le-leb 1 _ (c .before .if1 .left), lt-leb _ mostPorts (c .if2 .taken))
+
+
+place-of-requires : tie.Need-place-of-requires
+place-of-requires c κs = search needs
+
+returns-3 : tie.Need-returns-3
+returns-3 c = rw (le-leb 1 _ (c .before .before .if1 .left), le-leb _ mostPorts (c .before .if2 .left), c .place-of .ensures)
+
+pub is-room-spec : {M : Type 1} → statement M
+is-room-spec = tie.close (tie.spec returns cast-if2 returns-2 place-of-requires returns-3)

@@ -1,0 +1,77 @@
+// The tests that come before any work, in document 01's order.
+ghost use mathlib.Core.Path.{_≡_};
+ghost use mathlib.Core.Bool.{true};
+ghost use Rattle.table.specs.Table.{tableInRange};
+ghost use Rattle.control.specs.Answer.{isNumber, isRoom, found, frameAnswer};
+use crate::answer::Answer;
+use crate::answer::Reason;
+use frame::class::Class;
+use port::record::Port;
+use table::layout::MOST_PORTS;
+use table::layout::place_of;
+
+// What the first two tests find: a refusal, or the place of the port, from 0.
+pub enum Found {
+    Refused(Reason),
+    Port(usize),
+}
+
+// Whether n is the number of a port of the table, and so of an aggregator.
+fn is_number(table: &[u8], n: u32) -> bool
+    requires { ⌜ tableInRange (now table) ≡ true ⌝ }
+    ensures { λ r. ⌜ r ≡ isNumber (now (table .entry)) n ⌝ }
+{
+    let count = table[0] as u32;
+    (1 <= n) & (n <= count)
+}
+
+// Answers 1 and 2.
+pub fn find(table: &[u8], n: u32) -> Found
+    ensures { λ r. ⌜ r ≡ found (now (table .entry)) n ⌝ }
+{
+    if !table::is_table(table) {
+        return Found::Refused(Reason::Table);
+    }
+    if !is_number(table, n) {
+        return Found::Refused(Reason::Number);
+    }
+    let i = n - 1;
+    Found::Port(i as usize)
+}
+
+// Answer 1 of a start: a port count of 1 to 32, and memory of its size.
+pub fn is_room(table: &[u8], count: u32) -> bool
+    ensures { λ r. ⌜ r ≡ isRoom (now (table .entry)) count ⌝ }
+{
+    if count < 1 {
+        return false;
+    }
+    if (MOST_PORTS as u32) < count {
+        return false;
+    }
+    table.len() == place_of(count as usize)
+}
+
+// Answers 6, 7, 8, and last 5, 9 or 12.
+pub fn judge(class: Class, p: Port) -> Answer
+    ensures { λ r. ⌜ r ≡ frameAnswer class p ⌝ }
+{
+    match class {
+        Class::Lacpdu => {
+            if p.line.up & p.line.full {
+                return Answer::Lacpdu;
+            }
+            Answer::Refused(Reason::Disabled)
+        }
+        Class::Marker => {
+            let h = p.phase;
+            let m = h.mux;
+            if m.collects() | m.distributes() {
+                return Answer::Marker;
+            }
+            Answer::Refused(Reason::NotCollecting)
+        }
+        Class::Response => Answer::Refused(Reason::Response),
+        Class::Refused(why) => Answer::Refused(Reason::Frame(why)),
+    }
+}
