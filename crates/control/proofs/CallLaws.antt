@@ -10,7 +10,8 @@ use Rattle.frame.specs.declared.class.Class.{Class}
 use Rattle.frame.specs.declared.class.Class.the-variants as class
 use Rattle.frame.specs.Class.{classOf}
 use Rattle.frame.proofs.ClassLaws.{heard, heard-whole}
-use Rattle.port.specs.declared.record.Port.{Port}
+use Rattle.machine.specs.declared.states.Line.{Line}
+use Rattle.machine.specs.declared.states.Mux.{Mux}
 use Rattle.table.specs.Table.{tableInRange, countIn}
 use Rattle.table.proofs.RangeLaws.{within-true}
 use Rattle.control.specs.declared.answer.Answer.{Answer}
@@ -118,17 +119,17 @@ isDone Lacpdu = true
 isDone Marker = true
 isDone (Refused r) = false
 
-done-heard : (k : Class) (p : Port) → isDone (frameAnswer k p) ≡ true → heard k ≡ true
-done-heard class.Lacpdu p h = refl
-done-heard class.Marker p h = refl
-done-heard class.Response p h = refl
-done-heard (class.Refused r) p h = h
+done-heard : (k : Class) (line : Line) (m : Mux) → isDone (frameAnswer k line m) ≡ true → heard k ≡ true
+done-heard class.Lacpdu line m h = refl
+done-heard class.Marker line m h = refl
+done-heard class.Response line m h = refl
+done-heard (class.Refused r) line m h = h
 
-pub lacpdu-whole : (l : List ℕ) (p : Port) → frameAnswer (classOf l) p ≡ Lacpdu → 124 ≤ length l
-lacpdu-whole l p e = heard-whole l (done-heard (classOf l) p (ap isDone e))
+pub lacpdu-whole : (l : List ℕ) (line : Line) (m : Mux) → frameAnswer (classOf l) line m ≡ Lacpdu → 124 ≤ length l
+lacpdu-whole l line m e = heard-whole l (done-heard (classOf l) line m (ap isDone e))
 
-pub marker-whole : (l : List ℕ) (p : Port) → frameAnswer (classOf l) p ≡ Marker → 124 ≤ length l
-marker-whole l p e = heard-whole l (done-heard (classOf l) p (ap isDone e))
+pub marker-whole : (l : List ℕ) (line : Line) (m : Mux) → frameAnswer (classOf l) line m ≡ Marker → 124 ≤ length l
+marker-whole l line m e = heard-whole l (done-heard (classOf l) line m (ap isDone e))
 
 -- ---- a received frame leaves what its answer says, refused or not
 

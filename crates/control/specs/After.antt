@@ -16,7 +16,7 @@ use Rattle.control.specs.Call.{Call, start, receive, tick, link, duplex,
 -- the tests in their order: 1, 2, 3, 4; then for frames 6, 7, 8, and last 5, 9 or 12; for fetch 10, 11
 unfoldable pub answer : Call → List ℕ → Answer
 answer (start count system delay s) t = startAnswer t count s
-answer (receive n frame out) t = onPort t n (withRoom out (frameAnswer (classOf frame) (portAt t (n - 1))))
+answer (receive n frame out) t = onPort t n (withRoom out (frameAnswer (classOf frame) (portAt t (n - 1) .line) (portAt t (n - 1) .phase .mux)))
 answer tick t = cond (tableInRange t) Done (Refused reason.Table)
 answer (link n up) t = onPort t n Done
 answer (duplex n full) t = onPort t n Done

@@ -7,8 +7,9 @@ use lib.Dec.{ltb, eqb}
 use Rattle.frame.specs.declared.class.Class.{Class}
 use Rattle.frame.specs.declared.class.Class.the-variants as class
 use Rattle.frame.specs.Class.{refusalNumber}
+use Rattle.machine.specs.declared.states.Line.{Line}
+use Rattle.machine.specs.declared.states.Mux.{Mux}
 use Rattle.machine.specs.Mux.{collects, distributes}
-use Rattle.port.specs.declared.record.Port.{Port}
 use Rattle.port.specs.declared.transmit.Due.{Due}
 use Rattle.port.specs.declared.transmit.Due.the-variants as due
 use Rattle.settings.specs.declared.Settings.{Settings}
@@ -72,12 +73,13 @@ withRoom out rest = cond (ltb (length out) 124) (Refused reason.Buffer) rest
 abbrev pub withDefault : Settings → Answer → Answer
 withDefault s rest = cond (lawful s) rest (Refused reason.Default)
 
--- 6, 7, 8 of the frame itself; last 5 for an LACPDU where the link is down or LACP is off; 9 for a Marker where the port neither collects nor distributes; 12 for a Response
-abbrev pub frameAnswer : Class → Port → Answer
-frameAnswer class.Lacpdu p = cond (p .line .up && p .line .full) Lacpdu (Refused reason.Disabled)
-frameAnswer class.Marker p = cond (collects (p .phase .mux) || distributes (p .phase .mux)) Marker (Refused reason.NotCollecting)
-frameAnswer class.Response p = Refused reason.Response
-frameAnswer (class.Refused r) p = Refused (reason.Frame r)
+-- 6, 7, 8 of the frame itself; last 5 for an LACPDU where the link is down or LACP is off, 9 for a Marker where the port neither collects
+-- nor distributes, 12 for a Response
+abbrev pub frameAnswer : Class → Line → Mux → Answer
+frameAnswer class.Lacpdu l m = cond (l .up && l .full) Lacpdu (Refused reason.Disabled)
+frameAnswer class.Marker l m = cond (collects m || distributes m) Marker (Refused reason.NotCollecting)
+frameAnswer class.Response l m = Refused reason.Response
+frameAnswer (class.Refused r) l m = Refused (reason.Frame r)
 
 -- 10, then 11
 abbrev pub dueAnswer : Due → Answer

@@ -66,13 +66,14 @@ pub fn receive(table: &mut [u8], n: u32, frame: &[u8], out: &mut [u8]) -> Answer
 
 fn receive_at(table: &mut [u8], i: usize, frame: &[u8], out: &mut [u8]) -> Answer
     requires { ⌜ (tableInRange (now table) ≡ true) × (i < countIn (now table)) ⌝ }
-    ensures { λ r. ⌜ (r ≡ withRoom (now (out .entry)) (frameAnswer (classOf (now (frame .entry))) (portAt (now (table .entry)) i))) × (now (table .exit) ≡ afterFrame r (now (table .entry)) i (now (frame .entry))) × (now (out .exit) ≡ sentFor r (now (table .entry)) i (now (frame .entry)) (now (out .entry))) ⌝ }
+    ensures { λ r. ⌜ (r ≡ withRoom (now (out .entry)) (frameAnswer (classOf (now (frame .entry))) (portAt (now (table .entry)) i .line) (portAt (now (table .entry)) i .phase .mux))) × (now (table .exit) ≡ afterFrame r (now (table .entry)) i (now (frame .entry))) × (now (out .exit) ≡ sentFor r (now (table .entry)) i (now (frame .entry)) (now (out .entry))) ⌝ }
 {
     if out.len() < 124 {
         return Answer::Refused(Reason::Buffer);
     }
-    let p = table::load(table, i);
-    match tests::judge(frame::class::classify(frame), p) {
+    let line = tests::line_at(table, i);
+    let mux = tests::mux_at(table, i);
+    match tests::judge(frame::class::classify(frame), line, mux) {
         Answer::Done => Answer::Done,
         Answer::Lacpdu => {
             work::hear(table, i, frame);
@@ -104,8 +105,8 @@ pub fn link(table: &mut [u8], n: u32, up: bool) -> Answer
     match tests::find(table, n) {
         Found::Refused(why) => Answer::Refused(why),
         Found::Port(i) => {
-            let p = table::load(table, i);
-            let full = p.line.full;
+            let old = tests::line_at(table, i);
+            let full = old.full;
             work::set_line(table, i, Line { up, full });
             Answer::Done
         }
@@ -119,8 +120,8 @@ pub fn duplex(table: &mut [u8], n: u32, full: bool) -> Answer
     match tests::find(table, n) {
         Found::Refused(why) => Answer::Refused(why),
         Found::Port(i) => {
-            let p = table::load(table, i);
-            let up = p.line.up;
+            let old = tests::line_at(table, i);
+            let up = old.up;
             work::set_line(table, i, Line { up, full });
             Answer::Done
         }
@@ -160,8 +161,7 @@ fn fetch_at(table: &mut [u8], i: usize, out: &mut [u8]) -> Answer
     if out.len() < 124 {
         return Answer::Refused(Reason::Buffer);
     }
-    let p = table::load(table, i);
-    match p.due() {
+    match tests::due_at(table, i) {
         Due::Nothing => Answer::Refused(Reason::NothingToSend),
         Due::Barred => Answer::Refused(Reason::Barred),
         Due::Lacpdu => {

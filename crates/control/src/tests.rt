@@ -1,12 +1,16 @@
 // The tests that come before any work, in document 01's order.
 ghost use mathlib.Core.Path.{_≡_};
 ghost use mathlib.Core.Bool.{true};
-ghost use Rattle.table.specs.Table.{tableInRange};
+ghost use Prim.Native.Nat.{_<_};
+ghost use Rattle.port.specs.Transmit.{due};
+ghost use Rattle.table.specs.Table.{tableInRange, countIn, portAt};
 ghost use Rattle.control.specs.Answer.{isNumber, isRoom, found, frameAnswer};
 use crate::answer::Answer;
 use crate::answer::Reason;
 use frame::class::Class;
-use port::record::Port;
+use machine::states::Line;
+use machine::states::Mux;
+use port::transmit::Due;
 use table::layout::MOST_PORTS;
 use table::layout::place_of;
 
@@ -52,21 +56,47 @@ pub fn is_room(table: &[u8], count: u32) -> bool
     table.len() == place_of(count as usize)
 }
 
+// Link and duplex of port i, from 0.
+pub fn line_at(table: &[u8], i: usize) -> Line
+    requires { ⌜ (tableInRange (now table) ≡ true) × (i < countIn (now table)) ⌝ }
+    ensures { λ r. ⌜ r ≡ portAt (now (table .entry)) i .line ⌝ }
+{
+    let p = table::load(table, i);
+    p.line
+}
+
+// The mux state of port i, from 0.
+pub fn mux_at(table: &[u8], i: usize) -> Mux
+    requires { ⌜ (tableInRange (now table) ≡ true) × (i < countIn (now table)) ⌝ }
+    ensures { λ r. ⌜ r ≡ portAt (now (table .entry)) i .phase .mux ⌝ }
+{
+    let p = table::load(table, i);
+    let h = p.phase;
+    h.mux
+}
+
+// What is due on port i, from 0.
+pub fn due_at(table: &[u8], i: usize) -> Due
+    requires { ⌜ (tableInRange (now table) ≡ true) × (i < countIn (now table)) ⌝ }
+    ensures { λ r. ⌜ r ≡ due (portAt (now (table .entry)) i) ⌝ }
+{
+    let p = table::load(table, i);
+    p.due()
+}
+
 // Answers 6, 7, 8, and last 5, 9 or 12.
-pub fn judge(class: Class, p: Port) -> Answer
-    ensures { λ r. ⌜ r ≡ frameAnswer class p ⌝ }
+pub fn judge(class: Class, line: Line, mux: Mux) -> Answer
+    ensures { λ r. ⌜ r ≡ frameAnswer class line mux ⌝ }
 {
     match class {
         Class::Lacpdu => {
-            if p.line.up & p.line.full {
+            if line.up & line.full {
                 return Answer::Lacpdu;
             }
             Answer::Refused(Reason::Disabled)
         }
         Class::Marker => {
-            let h = p.phase;
-            let m = h.mux;
-            if m.collects() | m.distributes() {
+            if mux.collects() | mux.distributes() {
                 return Answer::Marker;
             }
             Answer::Refused(Reason::NotCollecting)

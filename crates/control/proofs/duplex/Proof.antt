@@ -2,9 +2,7 @@
 use mathlib.Core.Path.{_≡_, sym, ap, _∙_}
 use denote.Ref.{now}
 use Rattle.machine.specs.declared.states.Line.{Line}
-use Rattle.port.specs.declared.record.Port.{Port}
 use Rattle.table.specs.Table.{portAt}
-use Rattle.trunk.proofs.TableWork.{room}
 use Rattle.work.specs.Work.{afterLine}
 use Rattle.control.specs.declared.answer.Answer.the-variants.{Done, Refused}
 use Rattle.control.specs.Call as call
@@ -23,11 +21,11 @@ enum-known-why c = search needs
 enum-known-i : tie.Need-enum-known-i
 enum-known-i c = search needs
 
-load-requires : tie.Need-load-requires
-load-requires c κs =
+line-at-requires : tie.Need-line-at-requires
+line-at-requires c κs =
     let t = now (c .before .before .before .before .before .before .before .args .table) in
     let here = sym (c .before .before .before .before .find .ensures) ∙ (c .before .before .i .given .1) in
-    room t (found-table t _ here) _ (found-inside t _ here)
+    (found-table t _ here, found-inside t _ here)
 
 set-line-requires : tie.Need-set-line-requires
 set-line-requires c κs =
@@ -59,11 +57,11 @@ returns-2 c =
     let i = found-index t (a .n) here in
     (sym done,
     c .before .before .set-line .ensures
-    ∙ ap (λ (p : Port). afterLine t (c .before .before .before .before .before .before .before .i .given .0 .0) (record { up = p .line .up; full = a .full })) (c .before .before .before .before .load .ensures)
-    ∙ (λ j. afterLine t (i j) (let p = portAt t (i j) in record { up = p .line .up; full = a .full }))
+    ∙ ap (λ (l : Line). afterLine t (c .before .before .before .before .before .before .before .i .given .0 .0) (record { up = l .up; full = a .full })) (c .before .before .before .before .line-at .ensures)
+    ∙ (λ j. afterLine t (i j) (let l = portAt t (i j) .line in record { up = l .up; full = a .full }))
     ∙ sym (done-table (call.duplex (a .n) (a .full)) t done))
 
 pub duplex-spec : {M : Type 1} → statement M
 duplex-spec =
     tie.close
-    (tie.spec find-requires enum-known-why enum-known-i load-requires set-line-requires same-length returns same-length-2 returns-2)
+    (tie.spec find-requires enum-known-why enum-known-i line-at-requires set-line-requires same-length returns same-length-2 returns-2)

@@ -1,13 +1,8 @@
 -- `control::fetch_at` meets its contract: answer 3, then 10 and 11 by what is due, or the send. Assumes nothing.
-use mathlib.Core.Path.{_≡_, refl, sym, ap, _∙_}
+use mathlib.Core.Path.{refl, sym, _∙_}
 use denote.Ref.{now}
 use lib.ListN.{length}
 use borrow.Author.Tests.{lt-ltb, le-ltb}
-use Rattle.port.specs.declared.record.Port.{Port}
-use Rattle.port.specs.declared.transmit.Due.{Due}
-use Rattle.port.specs.Transmit.{due}
-use Rattle.table.specs.Table.{portAt}
-use Rattle.trunk.proofs.TableWork.{room}
 use borrow.Author.Needs.{needs}
 use Rattle.control.proofs.fetch_at.Statement.{statement}
 use Rattle.control.proofs.fetch_at.Tie as tie
@@ -15,11 +10,8 @@ use Rattle.control.proofs.fetch_at.Tie as tie
 returns : tie.Need-returns
 returns c = let short = lt-ltb (length (now (c .before .before .before .args .out))) 124 (c .if1 .taken) in (rw short, refl, refl)
 
-load-requires : tie.Need-load-requires
-load-requires c κs = room _ (c .before .before .before .before .pre .0) (c .before .before .before .before .args .i) (c .before .before .before .before .pre .1)
-
-due-requires : tie.Need-due-requires
-due-requires c κs = search needs
+due-at-requires : tie.Need-due-at-requires
+due-at-requires c κs = search needs
 
 enum-told : tie.Need-enum-told
 enum-told c = search needs
@@ -38,20 +30,16 @@ same-length c = search needs
 
 returns-2 : tie.Need-returns-2
 returns-2 c =
-    let a = (c .before .before .before .before .before .before .before .before .args) in
-    let long = le-ltb (length (now (a .out))) 124 (c .before .before .before .before .before .if1 .left) in
-    let is = ap due (sym (c .before .before .before .load .ensures)) ∙ sym (c .before .before .due .ensures) ∙ (c .enum-told .given .1) in
-    (rw (long, is), refl, refl)
+    let long = le-ltb (length (now (c .before .before .before .before .before .before .before .args .out))) 124 (c .before .before .before .before .if1 .left) in
+    (rw (long, sym (c .before .before .due-at .ensures) ∙ (c .enum-told .given .1)), refl, refl)
 
 same-length-2 : tie.Need-same-length-2
 same-length-2 c = search needs
 
 returns-3 : tie.Need-returns-3
 returns-3 c =
-    let a = (c .before .before .before .before .before .before .before .before .args) in
-    let long = le-ltb (length (now (a .out))) 124 (c .before .before .before .before .before .if1 .left) in
-    let is = ap due (sym (c .before .before .before .load .ensures)) ∙ sym (c .before .before .due .ensures) ∙ (c .enum-told2 .given .1) in
-    (rw (long, is), refl, refl)
+    let long = le-ltb (length (now (c .before .before .before .before .before .before .before .args .out))) 124 (c .before .before .before .before .if1 .left) in
+    (rw (long, sym (c .before .before .due-at .ensures) ∙ (c .enum-told2 .given .1)), refl, refl)
 
 same-length-3 : tie.Need-same-length-3
 same-length-3 c = search needs
@@ -61,18 +49,15 @@ same-length-4 c = search needs
 
 returns-4 : tie.Need-returns-4
 returns-4 c =
-    let a = (c .before .before .before .before .before .before .before .before .before .before .before .before .before .before .before .args) in
-    let long = le-ltb (length (now (a .out))) 124 (c .before .before .before .before .before .before .before .before .before .before .before .before .if1 .left) in
-    let is = ap due (sym (c .before .before .before .before .before .before .before .before .before .before .load .ensures)) ∙ sym (c .before .before .before .before .before .before .before .before .before .due .ensures) ∙ (c .before .before .before .before .before .before .before .enum-told3 .given .1) in
-    (rw (long, is), c .before .before .before .before .send .ensures .0, c .before .before .before .before .send .ensures .1)
+    let long = le-ltb (length (now (c .before .before .before .before .before .before .before .before .before .before .before .before .before .before .args .out))) 124 (c .before .before .before .before .before .before .before .before .before .before .before .if1 .left) in
+    (rw (long, sym (c .before .before .before .before .before .before .before .before .before .due-at .ensures) ∙ (c .before .before .before .before .before .before .before .enum-told3 .given .1)), c .before .before .before .before .send .ensures .0, c .before .before .before .before .send .ensures .1)
 
 pub fetch-at-spec : {M : Type 1} → statement M
 fetch-at-spec =
     tie.close
     (tie.spec
     returns
-    load-requires
-    due-requires
+    due-at-requires
     enum-told
     enum-told-2
     enum-told-3

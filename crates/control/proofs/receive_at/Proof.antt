@@ -7,7 +7,6 @@ use lib.ListN.{length}
 use borrow.Author.Tests.{lt-ltb, le-ltb}
 use Rattle.frame.specs.Class.{classOf}
 use Rattle.table.specs.Table.{portAt}
-use Rattle.trunk.proofs.TableWork.{room}
 use Rattle.control.specs.declared.answer.Answer.{Answer}
 use Rattle.control.specs.Answer.{frameAnswer}
 use Rattle.control.proofs.CallLaws.{lacpdu-whole, marker-whole}
@@ -18,8 +17,11 @@ use Rattle.control.proofs.receive_at.Tie as tie
 returns : tie.Need-returns
 returns c = let short = lt-ltb (length (now (c .before .before .before .before .args .out))) 124 (c .if1 .taken) in (rw short, refl, refl)
 
-load-requires : tie.Need-load-requires
-load-requires c κs = room _ (c .before .before .before .before .before .pre .0) (c .before .before .before .before .before .args .i) (c .before .before .before .before .before .pre .1)
+line-at-requires : tie.Need-line-at-requires
+line-at-requires c κs = search needs
+
+mux-at-requires : tie.Need-mux-at-requires
+mux-at-requires c κs = search needs
 
 classify-requires : tie.Need-classify-requires
 classify-requires c κs = search needs
@@ -35,18 +37,20 @@ enum-told-2 c = search needs
 
 hear-requires : tie.Need-hear-requires
 hear-requires c κs =
-    let a = (c .before .before .before .before .before .before .before .before .before .before .before .args) in
-    let is = (λ j. frameAnswer (sym (c .before .before .before .before .classify .ensures) j) (sym (c .before .before .before .before .before .load .ensures) j)) ∙ sym (c .before .before .before .judge .ensures) ∙ (c .before .enum-told2 .given .1) in
-    (c .before .before .before .before .before .before .before .before .before .before .before .pre .0, c .before .before .before .before .before .before .before .before .before .before .before .pre .1, lacpdu-whole (now (a .frame)) (portAt (now (a .table)) (a .i)) is)
+    let a = (c .before .before .before .before .before .before .before .before .before .before .before .before .before .args) in
+    let p = portAt (now (a .table)) (a .i) in
+    let is = (λ j. frameAnswer (sym (c .before .before .before .before .classify .ensures) j) (sym (c .before .before .before .before .before .before .before .line-at .ensures) j) (sym (c .before .before .before .before .before .mux-at .ensures) j)) ∙ sym (c .before .before .before .judge .ensures) ∙ (c .before .enum-told2 .given .1) in
+    (c .before .before .before .before .before .before .before .before .before .before .before .before .before .pre .0, c .before .before .before .before .before .before .before .before .before .before .before .before .before .pre .1, lacpdu-whole (now (a .frame)) (p .line) (p .phase .mux) is)
 
 enum-told-3 : tie.Need-enum-told-3
 enum-told-3 c = search needs
 
 respond-requires : tie.Need-respond-requires
 respond-requires c κs =
-    let a = (c .before .before .before .before .before .before .before .before .before .before .before .before .args) in
-    let is = (λ j. frameAnswer (sym (c .before .before .before .before .before .classify .ensures) j) (sym (c .before .before .before .before .before .before .load .ensures) j)) ∙ sym (c .before .before .before .before .judge .ensures) ∙ (c .before .before .enum-told3 .given .1) in
-    (c .before .before .before .before .before .before .before .before .before .before .before .before .pre .0, c .before .before .before .before .before .before .before .before .before .before .before .before .pre .1, marker-whole (now (a .frame)) (portAt (now (a .table)) (a .i)) is, omega (arith, c .before .before .before .before .before .before .before .before .if1 .left))
+    let a = (c .before .before .before .before .before .before .before .before .before .before .before .before .before .before .args) in
+    let p = portAt (now (a .table)) (a .i) in
+    let is = (λ j. frameAnswer (sym (c .before .before .before .before .before .classify .ensures) j) (sym (c .before .before .before .before .before .before .before .before .line-at .ensures) j) (sym (c .before .before .before .before .before .before .mux-at .ensures) j)) ∙ sym (c .before .before .before .before .judge .ensures) ∙ (c .before .before .enum-told3 .given .1) in
+    (c .before .before .before .before .before .before .before .before .before .before .before .before .before .before .pre .0, c .before .before .before .before .before .before .before .before .before .before .before .before .before .before .pre .1, marker-whole (now (a .frame)) (p .line) (p .phase .mux) is, omega (arith, c .before .before .before .before .before .before .before .before .before .before .if1 .left))
 
 enum-known-why : tie.Need-enum-known-why
 enum-known-why c = search needs
@@ -56,8 +60,8 @@ same-length c = search needs
 
 returns-2 : tie.Need-returns-2
 returns-2 c =
-    let long = le-ltb (length (now (c .before .before .before .before .before .before .before .before .before .before .args .out))) 124 (c .before .before .before .before .before .before .if1 .left) in
-    let is = (λ j. frameAnswer (sym (c .before .before .before .classify .ensures) j) (sym (c .before .before .before .before .load .ensures) j)) ∙ sym (c .before .before .judge .ensures) ∙ (c .enum-told .given .1) in
+    let long = le-ltb (length (now (c .before .before .before .before .before .before .before .before .before .before .before .before .args .out))) 124 (c .before .before .before .before .before .before .before .before .if1 .left) in
+    let is = (λ j. frameAnswer (sym (c .before .before .before .classify .ensures) j) (sym (c .before .before .before .before .before .before .line-at .ensures) j) (sym (c .before .before .before .before .mux-at .ensures) j)) ∙ sym (c .before .before .judge .ensures) ∙ (c .enum-told .given .1) in
     (rw (long, is), refl, refl)
 
 same-length-2 : tie.Need-same-length-2
@@ -65,8 +69,8 @@ same-length-2 c = search needs
 
 returns-3 : tie.Need-returns-3
 returns-3 c =
-    let long = le-ltb (length (now (c .before .before .before .before .before .before .before .before .before .before .before .before .before .before .args .out))) 124 (c .before .before .before .before .before .before .before .before .before .before .if1 .left) in
-    let is = (λ j. frameAnswer (sym (c .before .before .before .before .before .before .before .classify .ensures) j) (sym (c .before .before .before .before .before .before .before .before .load .ensures) j)) ∙ sym (c .before .before .before .before .before .before .judge .ensures) ∙ (c .before .before .before .before .enum-told2 .given .1) in
+    let long = le-ltb (length (now (c .before .before .before .before .before .before .before .before .before .before .before .before .before .before .before .before .args .out))) 124 (c .before .before .before .before .before .before .before .before .before .before .before .before .if1 .left) in
+    let is = (λ j. frameAnswer (sym (c .before .before .before .before .before .before .before .classify .ensures) j) (sym (c .before .before .before .before .before .before .before .before .before .before .line-at .ensures) j) (sym (c .before .before .before .before .before .before .before .before .mux-at .ensures) j)) ∙ sym (c .before .before .before .before .before .before .judge .ensures) ∙ (c .before .before .before .before .enum-told2 .given .1) in
     (rw (long, is), c .before .before .hear .ensures, refl)
 
 same-length-3 : tie.Need-same-length-3
@@ -77,8 +81,8 @@ same-length-4 c = search needs
 
 returns-4 : tie.Need-returns-4
 returns-4 c =
-    let long = le-ltb (length (now (c .before .before .before .before .before .before .before .before .before .before .before .before .before .before .before .args .out))) 124 (c .before .before .before .before .before .before .before .before .before .before .before .if1 .left) in
-    let is = (λ j. frameAnswer (sym (c .before .before .before .before .before .before .before .before .classify .ensures) j) (sym (c .before .before .before .before .before .before .before .before .before .load .ensures) j)) ∙ sym (c .before .before .before .before .before .before .before .judge .ensures) ∙ (c .before .before .before .before .before .enum-told3 .given .1) in
+    let long = le-ltb (length (now (c .before .before .before .before .before .before .before .before .before .before .before .before .before .before .before .before .before .args .out))) 124 (c .before .before .before .before .before .before .before .before .before .before .before .before .before .if1 .left) in
+    let is = (λ j. frameAnswer (sym (c .before .before .before .before .before .before .before .before .classify .ensures) j) (sym (c .before .before .before .before .before .before .before .before .before .before .before .line-at .ensures) j) (sym (c .before .before .before .before .before .before .before .before .before .mux-at .ensures) j)) ∙ sym (c .before .before .before .before .before .before .before .judge .ensures) ∙ (c .before .before .before .before .before .enum-told3 .given .1) in
     (rw (long, is), refl, c .before .before .respond .ensures)
 
 same-length-5 : tie.Need-same-length-5
@@ -86,8 +90,8 @@ same-length-5 c = search needs
 
 returns-5 : tie.Need-returns-5
 returns-5 c =
-    let long = le-ltb (length (now (c .before .before .before .before .before .before .before .before .before .before .before .args .out))) 124 (c .before .before .before .before .before .before .before .if1 .left) in
-    let is = (λ j. frameAnswer (sym (c .before .before .before .before .classify .ensures) j) (sym (c .before .before .before .before .before .load .ensures) j)) ∙ sym (c .before .before .before .judge .ensures) ∙ (c .before .why .given .1) in
+    let long = le-ltb (length (now (c .before .before .before .before .before .before .before .before .before .before .before .before .before .args .out))) 124 (c .before .before .before .before .before .before .before .before .before .if1 .left) in
+    let is = (λ j. frameAnswer (sym (c .before .before .before .before .classify .ensures) j) (sym (c .before .before .before .before .before .before .before .line-at .ensures) j) (sym (c .before .before .before .before .before .mux-at .ensures) j)) ∙ sym (c .before .before .before .judge .ensures) ∙ (c .before .why .given .1) in
     (rw (long, is), refl, refl)
 
 pub receive-at-spec : {M : Type 1} → statement M
@@ -95,7 +99,8 @@ receive-at-spec =
     tie.close
     (tie.spec
     returns
-    load-requires
+    line-at-requires
+    mux-at-requires
     classify-requires
     judge-requires
     enum-told

@@ -1,19 +1,18 @@
--- `control::constants::no_port` meets its contract: each part is the constant. Assumes nothing.
+-- `control::constants::no_port` meets its contract: 57 zeros are read as the constants. By computation. Assumes nothing.
+use Rattle.table.specs.Record.{decoded}
 use borrow.Author.Needs.{needs}
 use Rattle.control.proofs.constants.no_port.Statement.{statement}
 use Rattle.control.proofs.constants.no_port.Tie as tie
 
-no-state-requires : tie.Need-no-state-requires
-no-state-requires c κs = search needs
+slice-aggregate-read-record : tie.Need-slice-aggregate-read-record
+slice-aggregate-read-record c = search needs
 
-no-own-requires : tie.Need-no-own-requires
-no-own-requires c κs = search needs
-
-no-block-requires : tie.Need-no-block-requires
-no-block-requires c κs = search needs
+read-record-requires : tie.Need-read-record-requires
+read-record-requires c κs = search needs
 
 returns : tie.Need-returns
-returns c = simp (c .no-block .ensures, c .before .no-own .ensures, c .before .before .no-state .ensures)
+unfolding decoded
+returns c = rw (c .read-record .ensures)
 
 pub no-port-spec : {M : Type 1} → statement M
-no-port-spec = tie.close (tie.spec no-state-requires no-own-requires no-block-requires returns)
+no-port-spec = tie.close (tie.spec slice-aggregate-read-record read-record-requires returns)

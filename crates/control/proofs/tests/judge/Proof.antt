@@ -22,7 +22,7 @@ distributes-requires c κs = search needs
 
 returns-2 : tie.Need-returns-2
 returns-2 c =
-    rw (c .before .before .before .before .enum-told2 .given .1, (λ i. sym (c .before .before .collects .ensures) i || sym (c .before .distributes .ensures) i) ∙ (c .if2 .taken))
+    rw (c .before .before .before .enum-told2 .given .1, (λ i. sym (c .before .before .collects .ensures) i || sym (c .before .distributes .ensures) i) ∙ (c .if2 .taken))
 
 enum-told-3 : tie.Need-enum-told-3
 enum-told-3 c = search needs
@@ -35,7 +35,7 @@ returns-3 c = simp (c .if1 .left, c .before .before .enum-told .given .1)
 
 returns-4 : tie.Need-returns-4
 returns-4 c =
-    rw (c .before .before .before .before .enum-told2 .given .1, (λ i. sym (c .before .before .collects .ensures) i || sym (c .before .distributes .ensures) i) ∙ (c .if2 .left))
+    rw (c .before .before .before .enum-told2 .given .1, (λ i. sym (c .before .before .collects .ensures) i || sym (c .before .distributes .ensures) i) ∙ (c .if2 .left))
 
 returns-5 : tie.Need-returns-5
 returns-5 c = rw (c .enum-told3 .given .1)
