@@ -13,6 +13,13 @@ use Rattle.control.specs.declared.answer.Reason.the-variants as reason
 use Rattle.control.specs.Answer.{onPort, withRoom, withDefault, frameAnswer, dueAnswer, startAnswer}
 use Rattle.control.specs.Call.{Call, start, receive, tick, link, duplex, configure, fetch, report, aggregator}
 
+-- what came before where the call is refused, and otherwise what comes then
+abbrev pub unless : {A : Type 0} → Answer → A → A → A
+unless Done before then = then
+unless Lacpdu before then = then
+unless Marker before then = then
+unless (Refused r) before then = before
+
 -- the tests in their order: 1, 2, 3, 4; then for frames 6, 7, 8, and last 5, 9 or 12; for fetch 10, 11
 unfoldable pub answer : Call → List ℕ → Answer
 answer (start count system delay s) t = startAnswer t count s
@@ -45,12 +52,6 @@ changedBy (report n) t = t
 changedBy (aggregator k) t = t
 
 -- a refusal changes nothing
-abbrev pub unless : {A : Type 0} → Answer → A → A → A
-unless Done before then = then
-unless Lacpdu before then = then
-unless Marker before then = then
-unless (Refused r) before then = before
-
 unfoldable pub after : Call → List ℕ → List ℕ
 after c t = unless (answer c t) t (changedBy c t)
 
