@@ -1,4 +1,6 @@
 // What a call answers.
+ghost use mathlib.Core.Path.{_≡_};
+ghost use Rattle.control.specs.Answer.{reasonNumber, answerNumber, lengthSent};
 use frame::class::Refusal;
 use port::record::Port;
 use report::Sets;
@@ -35,6 +37,52 @@ pub enum Answer {
     // A received Marker was done.
     Marker,
     Refused(Reason),
+}
+
+impl Reason {
+    // The answer number of document 01.
+    pub fn number(self) -> u8
+        ensures { λ r. ⌜ r ≡ reasonNumber self ⌝ }
+    {
+        match self {
+            Reason::Table => 1,
+            Reason::Number => 2,
+            Reason::Buffer => 3,
+            Reason::Default => 4,
+            Reason::Disabled => 5,
+            Reason::Frame(refusal) => refusal.number(),
+            Reason::NotCollecting => 9,
+            Reason::NothingToSend => 10,
+            Reason::Barred => 11,
+            Reason::Response => 12,
+        }
+    }
+}
+
+impl Answer {
+    // The answer number of document 01.
+    pub fn number(self) -> u8
+        ensures { λ r. ⌜ r ≡ answerNumber self ⌝ }
+    {
+        match self {
+            Answer::Done => 0,
+            Answer::Lacpdu => 0,
+            Answer::Marker => 0,
+            Answer::Refused(why) => why.number(),
+        }
+    }
+
+    // The length that was sent for a received frame.
+    pub fn length_sent(self) -> u8
+        ensures { λ r. ⌜ r ≡ lengthSent self ⌝ }
+    {
+        match self {
+            Answer::Done => 0,
+            Answer::Lacpdu => 0,
+            Answer::Marker => 124,
+            Answer::Refused(_) => 0,
+        }
+    }
 }
 
 // A port's record; beside a refusal, the constants of document 01.

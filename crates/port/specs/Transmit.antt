@@ -17,12 +17,6 @@ use Rattle.port.specs.Periodic.{bothPassive}
 unfoldable pub due : Port → Due
 due p = cond (not (p .ntt) || (not (p .line .up) || not (p .line .full))) Nothing (cond (barred (p .ages)) Barred Lacpdu)
 
--- document 01's answer number of a fetch
-abbrev pub dueNumber : Due → ℕ
-dueNumber Nothing = 10
-dueNumber Barred = 11
-dueNumber Lacpdu = 0
-
 -- sending clears NTT and remembers the send
 unfoldable pub sent : Port → Port
 sent p = withNtt (withAges p (sentAges (p .ages))) false

@@ -1,26 +1,13 @@
 // What a fetch needs of one port (43.4.16), the ages of its sends, and a tick of one port.
 ghost use mathlib.Core.Path.{_≡_};
-ghost use Rattle.port.specs.Transmit.{due, sent, quieted, ticked, dueNumber};
+ghost use Rattle.port.specs.Transmit.{due, sent, quieted, ticked};
 use crate::record::Port;
 
-// What a fetch finds; `dueNumber` gives document 01's number for each.
+// What a fetch finds.
 pub enum Due {
     Nothing,
     Barred,
     Lacpdu,
-}
-
-impl Due {
-    // The answer number of document 01.
-    pub fn number(self) -> u8
-        ensures { λ r. ⌜ r ≡ dueNumber self ⌝ }
-    {
-        match self {
-            Due::Nothing => 10,
-            Due::Barred => 11,
-            Due::Lacpdu => 0,
-        }
-    }
 }
 
 impl Port {
