@@ -14,13 +14,16 @@ crates/cases/stdout: for frame number N, from 1, what document 01 says of it:
         N response
     Numbers are in hexadecimal; STATE has a letter of ATGSCDFE for each set bit, from bit 0.
     HEX is 124 octets with OWN_ADDRESS and, in an LACPDU, COLLECTOR_MAX_DELAY.
-    After the frames comes the story of one port, as tools/story.txt has it.
+    After the frames comes the story of one port, as tools/story.txt has it, and that of six ports, as
+    tools/story-of-six.py works it out.
 
 To make both again:
     apt-get install python3-scapy
     /usr/bin/python3 tools/make-frames.py
 """
 
+import subprocess
+import sys
 from dataclasses import dataclass
 from pathlib import Path
 
@@ -28,8 +31,10 @@ from scapy.contrib.lacp import LACP, MarkerProtocol, SlowProtocol
 from scapy.layers.l2 import Ether
 
 CASES = Path(__file__).resolve().parent.parent / "crates" / "cases"
-# What the program prints after the frames, worked out by hand from the figures of Clause 43.
-STORY = Path(__file__).resolve().parent / "story.txt"
+# What the program prints after the frames: worked out by hand from the figures of Clause 43, and by a model of document 01.
+TOOLS = Path(__file__).resolve().parent
+STORY = TOOLS / "story.txt"
+STORY_OF_SIX = TOOLS / "story-of-six.py"
 
 SLOW_ADDRESS = "01:80:c2:00:00:02"
 SLOW_TYPE = 0x8809
@@ -323,7 +328,8 @@ def main():
         text += text_of(number, frame)
     (CASES / "data").mkdir(parents=True, exist_ok=True)
     (CASES / "data" / "frames").write_bytes(frames)
-    (CASES / "stdout").write_text(text + STORY.read_text(encoding="ascii"), encoding="ascii")
+    six = subprocess.run([sys.executable, STORY_OF_SIX], capture_output=True, check=True, text=True).stdout
+    (CASES / "stdout").write_text(text + STORY.read_text(encoding="ascii") + six, encoding="ascii")
     print(f"{len(cases)} frames, {len(frames)} octets")
 
 

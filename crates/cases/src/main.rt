@@ -1,5 +1,6 @@
 // Reads the frames of the file `frames`, which an independent program wrote (tools/make-frames.py), and prints what the
 // frame tests say of each: of an LACPDU also its two blocks and the LACPDU that is written from them, of a Marker the Response.
+mod six;
 mod story;
 
 ghost use Prim.Native.Nat.{_≤_};
@@ -154,4 +155,5 @@ fn main() {
     print_all(fd);
     libc::close(fd);
     story::print_story();
+    six::print_story();
 }

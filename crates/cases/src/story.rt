@@ -58,9 +58,8 @@ fn print_ticks(n: u16) {
     print(b"  ");
 }
 
-// One line: what happened, the three machines with their timers, NTT, the actor's and the partner's state.
-fn tell(event: &[u8], p: Port) {
-    print(event);
+// The three machines with their timers, NTT, the actor's and the partner's state.
+pub(crate) fn print_machines(p: Port) {
     let h = p.phase;
     let receive = h.receive;
     print_receive(receive);
@@ -83,6 +82,12 @@ fn tell(event: &[u8], p: Port) {
     let state = partner.state;
     print_state(state);
     print(b"\n");
+}
+
+// One line: what happened, and the port after it.
+fn tell(event: &[u8], p: Port) {
+    print(event);
+    print_machines(p);
 }
 
 // Periodic machine and steps 3 to 6 for a port that shares its aggregator with no other.
@@ -114,11 +119,11 @@ fn line(p: Port, up: bool, full: bool) -> Port {
     settle(p.set_line(Line { up, full }))
 }
 
-fn state(o: u8) -> PortState {
+pub(crate) fn state(o: u8) -> PortState {
     PortState::of_octet(o)
 }
 
-fn system(n: u16) -> SystemId {
+pub(crate) fn system(n: u16) -> SystemId {
     SystemId {
         priority: 1,
         address: Address {
@@ -142,9 +147,9 @@ fn block(n: u16, o: u8) -> Block {
     }
 }
 
-// Active, long timeout, aggregatable; the default partner block is all zeros.
-fn settings() -> Settings {
-    let none = Block {
+// A default partner block of zeros, but for the state.
+pub(crate) fn nobody(o: u8) -> Block {
+    Block {
         system: SystemId {
             priority: 0,
             address: Address {
@@ -158,8 +163,12 @@ fn settings() -> Settings {
             priority: 0,
             number: 0,
         },
-        state: state(0),
-    };
+        state: state(o),
+    }
+}
+
+// Active, long timeout, aggregatable; the default partner block is all zeros.
+fn settings() -> Settings {
     Settings {
         address: Address {
             high: 0x0200,
@@ -171,7 +180,7 @@ fn settings() -> Settings {
         activity: true,
         timeout: false,
         aggregation: true,
-        default: none,
+        default: nobody(0),
     }
 }
 
