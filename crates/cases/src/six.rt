@@ -456,10 +456,7 @@ fn tell_more_fetches(table: &mut [u8]) {
 
 fn tell_no_change(table: &mut [u8]) {
     let mut out = [0xffu8; 123];
-    tell_answer(
-        b"settings as they are on port 1",
-        configure(table, 1, 1, 0),
-    );
+    tell_answer(b"settings as they are on port 1", configure(table, 1, 1, 0));
     tell_answer(b"link of port 1 up again", control::link(table, 1, true));
     tell_answer(
         b"fetch with a buffer of 123 octets",

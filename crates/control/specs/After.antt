@@ -3,7 +3,6 @@ use Prim.Native.Nat.{ℕ, _-_}
 use mathlib.Core.Bool.{cond}
 use mathlib.Core.List.{List, []}
 use Rattle.frame.specs.Class.{classOf}
-use Rattle.port.specs.declared.record.Port.{Port}
 use Rattle.port.specs.Transmit.{due}
 use Rattle.table.specs.Table.{tableInRange, portAt}
 use Rattle.work.specs.Work.{afterStart, afterHeard, afterTick, afterLine, afterSettings, afterSend, lacpduOf, responseOf, over}

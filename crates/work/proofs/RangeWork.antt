@@ -1,14 +1,12 @@
 -- What an accepted call does to one record keeps it in range: recording a frame's block, a link or duplex change, new settings, a send;
 -- and the record with which a port begins is in range. Assumes nothing.
-use Prim.Native.Nat.{ℕ, _-_, _≤_, _<_}
-use mathlib.Core.Path.{_≡_, refl, sym, ap, _∙_}
-use mathlib.Core.Bool.{Bool, true, false, cond, _&&_}
+use Prim.Native.Nat.{ℕ, _-_, _≤_}
+use mathlib.Core.Path.{_≡_, refl}
+use mathlib.Core.Bool.{Bool, true, false, cond}
 use mathlib.Core.List.{List}
 use native.Mathlib.Omega.{arith}
 use lib.Dec.{leb, eqb}
 use lib.ListN.{drop}
-use borrow.Author.Tests.{lt-ltb}
-use Rattle.frame.specs.declared.block.Address.{Address}
 use Rattle.frame.specs.declared.block.Block.{Block}
 use Rattle.frame.specs.declared.block.SystemId.{SystemId}
 use Rattle.frame.specs.Block.{blockOf}
@@ -17,10 +15,9 @@ use Rattle.frame.proofs.BlockLaws.{Octets}
 use Rattle.machine.specs.declared.states.Line.{Line}
 use Rattle.machine.specs.declared.states.Ages.{Ages}
 use Rattle.machine.specs.Ages.{noSend, ages, sentAges}
-use Rattle.machine.specs.Compare.{sameParty, sameView, inSync}
+use Rattle.machine.specs.Compare.{sameParty, sameView}
 use Rattle.machine.specs.States.{sameLine}
 use Rattle.machine.specs.Time.{longTimeoutTime, timeoutTime}
-use Rattle.port.specs.declared.record.Own.{Own}
 use Rattle.port.specs.declared.record.Port.{Port}
 use Rattle.port.specs.Record.{withLine, withNtt, actorBlock}
 use Rattle.port.specs.Receive.{down, recordPdu, updateSelected, updateNtt, unselected, heard, current, received, receiveRun, lined, moved}
@@ -28,8 +25,7 @@ use Rattle.port.specs.Receive.{recordDefault, initialized, portDisabled}
 use Rattle.port.specs.Transmit.{sent}
 use Rattle.settings.specs.declared.Settings.{Settings}
 use Rattle.settings.specs.Settings.{ownOf, sameGrouping, sameSettings, regrouped, changed, configured, blank, started}
-use Rattle.table.specs.Layout.{within}
-use Rattle.table.specs.Range.{timersInRange, ageInRange, agesInRange, fits, addressFits, blockFits, ownFits, portInRange}
+use Rattle.table.specs.Range.{timersInRange, ageInRange, agesInRange, blockFits, ownFits, portInRange}
 use Rattle.table.proofs.OctetLaws.{take-octets, drop-octets}
 use Rattle.table.proofs.RangeLaws.{both, joined, ranged, ranged-is, within-is, block-fits}
 use Rattle.trunk.proofs.RangeKept.{default-fits, moved-ranged}

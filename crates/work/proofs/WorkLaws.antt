@@ -1,6 +1,6 @@
 -- What a piece of work leaves is the octets of the header as it was and of the records that it names. Assumes nothing.
 use Prim.Native.Nat.{ℕ, _<_, _≤_}
-use mathlib.Core.Path.{_≡_, refl, sym, ap, _∙_}
+use mathlib.Core.Path.{_≡_, sym, _∙_}
 use mathlib.Core.Bool.{true}
 use mathlib.Core.List.{List}
 use native.Mathlib.Omega.{arith}
@@ -17,7 +17,7 @@ use Rattle.port.proofs.record.Own.{the-type}
 use Rattle.table.specs.Range.{fits, ownFits, blockFits}
 use Rattle.table.proofs.RangeLaws.{joined}
 use Rattle.table.specs.Layout.{headerOf, mostPorts}
-use Rattle.table.specs.Table.{tableInRange, countIn, ports, tableOctets}
+use Rattle.table.specs.Table.{tableInRange, countIn, tableOctets}
 use Rattle.table.proofs.TableLaws.{in-range, table-back}
 use Rattle.trunk.specs.Worked.{Worked}
 

@@ -66,11 +66,12 @@ returns-3 c =
     let t = now (a .table) in
     let here = sym (c .before .before .before .before .before .before .before .before .before .find .ensures) ∙ (c .before .before .before .before .before .before .before .i .given .1) in
     let lawful : withDefault (a .settings) Done ≡ Done = rw (sym (c .before .before .before .before .before .is-lawful .ensures) ∙ not-false _ (c .before .before .before .before .if1 .left)) in
-    let done = found-answers t (a .n) here (withDefault (a .settings) Done) ∙ lawful in
-    (sym done,
-    c .before .before .configure .ensures
-    ∙ ap (λ (i : ℕ). afterSettings t i (a .settings)) (found-index t (a .n) here)
-    ∙ sym (done-table (call.configure (a .n) (a .settings)) t done))
+    let done = found-answers t (a .n) here (withDefault (a .settings) Done) ∙ lawful in (
+      sym done,
+      c .before .before .configure .ensures
+          ∙ ap (λ (i : ℕ). afterSettings t i (a .settings)) (found-index t (a .n) here)
+          ∙ sym (done-table (call.configure (a .n) (a .settings)) t done),
+    )
 
 pub configure-spec : {M : Type 1} → statement M
 configure-spec =

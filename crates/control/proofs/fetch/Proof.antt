@@ -5,7 +5,6 @@ use denote.Ref.{now}
 use Rattle.port.specs.Transmit.{due}
 use Rattle.table.specs.Table.{portAt}
 use Rattle.work.specs.Work.{afterSend, lacpduOf, over}
-use Rattle.control.specs.declared.answer.Answer.{Answer}
 use Rattle.control.specs.Answer.{withRoom, dueAnswer}
 use Rattle.control.specs.Call as call
 use Rattle.control.specs.After.{answer, unless, changedBy, after, writtenBy, outgoing}
@@ -58,10 +57,11 @@ returns-2 c =
     let i = found-index t (a .n) here in
     let did = (c .before .before .before .before .fetch-at .ensures) in
     let is : c .before .before .before .before .fetch-at .result ≡ answer this t =
-    did .0 ∙ ap (λ (k : ℕ). withRoom out (dueAnswer (due (portAt t k)))) i ∙ sym (found-answers t (a .n) here _) in
-    (is,
-    did .1 ∙ (λ j. unless (is j) t (afterSend t (i j))),
-    did .2 ∙ (λ j. unless (is j) out (over (lacpduOf t (i j)) out)))
+    did .0 ∙ ap (λ (k : ℕ). withRoom out (dueAnswer (due (portAt t k)))) i ∙ sym (found-answers t (a .n) here _) in (
+      is,
+      did .1 ∙ (λ j. unless (is j) t (afterSend t (i j))),
+      did .2 ∙ (λ j. unless (is j) out (over (lacpduOf t (i j)) out)),
+    )
 
 pub fetch-spec : {M : Type 1} → statement M
 fetch-spec =

@@ -1,10 +1,10 @@
 -- `control::link` meets its contract: answers 1 and 2, or the work of the port's new link and duplex. Assumes nothing.
-use mathlib.Core.Path.{_≡_, sym, ap, _∙_}
+use mathlib.Core.Path.{sym, ap, _∙_}
 use denote.Ref.{now}
 use Rattle.machine.specs.declared.states.Line.{Line}
 use Rattle.table.specs.Table.{portAt}
 use Rattle.work.specs.Work.{afterLine}
-use Rattle.control.specs.declared.answer.Answer.the-variants.{Done, Refused}
+use Rattle.control.specs.declared.answer.Answer.the-variants.{Done}
 use Rattle.control.specs.Call as call
 use Rattle.control.specs.After.{answer, changedBy}
 use Rattle.control.proofs.CallLaws.{found-refused, found-answers, found-table, found-inside, found-index, refused-table, done-table}
@@ -54,12 +54,13 @@ returns-2 c =
     let t = now (a .table) in
     let here = sym (c .before .before .before .before .before .before .before .before .before .find .ensures) ∙ (c .before .before .before .before .before .before .before .i .given .1) in
     let done = found-answers t (a .n) here Done in
-    let i = found-index t (a .n) here in
-    (sym done,
-    c .before .before .set-line .ensures
-    ∙ ap (λ (l : Line). afterLine t (c .before .before .before .before .before .before .before .i .given .0 .0) (record { up = a .up; full = l .full })) (c .before .before .before .before .line-at .ensures)
-    ∙ (λ j. afterLine t (i j) (let l = portAt t (i j) .line in record { up = a .up; full = l .full }))
-    ∙ sym (done-table (call.link (a .n) (a .up)) t done))
+    let i = found-index t (a .n) here in (
+      sym done,
+      c .before .before .set-line .ensures
+          ∙ ap (λ (l : Line). afterLine t (c .before .before .before .before .before .before .before .i .given .0 .0) (record { up = a .up; full = l .full })) (c .before .before .before .before .line-at .ensures)
+          ∙ (λ j. afterLine t (i j) (let l = portAt t (i j) .line in record { up = a .up; full = l .full }))
+          ∙ sym (done-table (call.link (a .n) (a .up)) t done),
+    )
 
 pub link-spec : {M : Type 1} → statement M
 link-spec =

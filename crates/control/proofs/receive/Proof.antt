@@ -58,10 +58,11 @@ returns-2 c =
     let i = found-index t (a .n) here in
     let did = (c .before .before .before .before .receive-at .ensures) in
     let is : c .before .before .before .before .receive-at .result ≡ answer this t =
-    did .0 ∙ ap (λ (k : ℕ). withRoom out (frameAnswer (classOf frame) (portAt t k .line) (portAt t k .phase .mux))) i ∙ sym (found-answers t (a .n) here _) in
-    (is,
-    did .1 ∙ (λ j. afterFrame (is j) t (i j) frame) ∙ frame-after (answer this t) t _ frame,
-    did .2 ∙ (λ j. sentFor (is j) t (i j) frame out) ∙ frame-sent (answer this t) t _ frame out)
+    did .0 ∙ ap (λ (k : ℕ). withRoom out (frameAnswer (classOf frame) (portAt t k .line) (portAt t k .phase .mux))) i ∙ sym (found-answers t (a .n) here _) in (
+      is,
+      did .1 ∙ (λ j. afterFrame (is j) t (i j) frame) ∙ frame-after (answer this t) t _ frame,
+      did .2 ∙ (λ j. sentFor (is j) t (i j) frame out) ∙ frame-sent (answer this t) t _ frame out,
+    )
 
 pub receive-spec : {M : Type 1} → statement M
 receive-spec =

@@ -1,13 +1,11 @@
 -- `control::receive_at` meets its contract: answer 3, then what the frame and the port say; an LACPDU is heard, a Marker answered.
 -- Assumes nothing.
-use mathlib.Core.Path.{_≡_, refl, sym, ap, _∙_}
+use mathlib.Core.Path.{refl, sym, _∙_}
 use native.Mathlib.Omega.{arith}
 use denote.Ref.{now}
 use lib.ListN.{length}
 use borrow.Author.Tests.{lt-ltb, le-ltb}
-use Rattle.frame.specs.Class.{classOf}
 use Rattle.table.specs.Table.{portAt}
-use Rattle.control.specs.declared.answer.Answer.{Answer}
 use Rattle.control.specs.Answer.{frameAnswer}
 use Rattle.control.proofs.CallLaws.{lacpdu-whole, marker-whole}
 use borrow.Author.Needs.{needs}

@@ -1,6 +1,6 @@
 -- `control::report_aggregator` meets its contract: the sets, or zeros beside a refusal. Assumes nothing.
 use Prim.Native.Nat.{_≤_}
-use mathlib.Core.Path.{_≡_, sym, ap, _∙_}
+use mathlib.Core.Path.{sym, _∙_}
 use native.Mathlib.Omega.{arith}
 use denote.Ref.{now}
 use Rattle.table.specs.Layout.{mostPorts}

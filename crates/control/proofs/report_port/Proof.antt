@@ -1,10 +1,7 @@
 -- `control::report_port` meets its contract: the record, or the constants beside a refusal. Assumes nothing.
-use Prim.Native.Nat.{ℕ}
-use mathlib.Core.Path.{_≡_, sym, ap, _∙_}
+use mathlib.Core.Path.{sym, _∙_}
 use denote.Ref.{now}
-use Rattle.table.specs.Table.{portAt}
 use Rattle.trunk.proofs.TableWork.{room}
-use Rattle.control.specs.declared.answer.Answer.{Answer}
 use Rattle.control.specs.declared.answer.Answer.the-variants.{Done}
 use Rattle.control.specs.After.{answer}
 use Rattle.control.specs.Report.{portReport}

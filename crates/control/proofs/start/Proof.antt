@@ -1,5 +1,5 @@
 -- `control::start` meets its contract: answers 1 and 4, or a new table; no content of the memory is read. Assumes nothing.
-use mathlib.Core.Path.{_≡_, sym, ap, _∙_}
+use mathlib.Core.Path.{_≡_, sym, _∙_}
 use native.Mathlib.Omega.{arith}
 use denote.Ref.{now}
 use lib.Dec.{eqb}

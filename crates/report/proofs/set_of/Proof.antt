@@ -87,7 +87,7 @@ loop-again c =
     let inv = loop .inv in (
       omega arith,
       rw (c .weigh .ensures, c .before .stands-to .ensures, c .before .before .load .ensures)
-      (turn (stands (a .standing) (a .k)) (now (a .table)) (loop .i) (omega arith) (inv .0) (inv .1)),
+          (turn (stands (a .standing) (a .k)) (now (a .table)) (loop .i) (omega arith) (inv .0) (inv .1)),
     )
 
 returns : tie.Need-returns Inv-loop μ-loop

@@ -1,6 +1,4 @@
 -- `work::advance` meets its contract: a tick of all ports, then the rest of the work. Assumes nothing.
-use mathlib.Core.Path.{_≡_, ap, _∙_}
-use denote.Ref.{now}
 use Rattle.trunk.proofs.TableWork.{then, said}
 use Rattle.work.specs.Work.{worked, afterTick}
 use Rattle.work.proofs.WorkLaws.{made-of}

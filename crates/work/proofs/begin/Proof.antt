@@ -1,5 +1,5 @@
 -- `work::begin` meets its contract: header and records are laid, and steps 3 to 6 done. Assumes nothing.
-use mathlib.Core.Path.{_≡_, ap, _∙_}
+use mathlib.Core.Path.{_∙_}
 use Rattle.table.specs.Table.{tableOctets}
 use Rattle.trunk.specs.Settled.{settled}
 use Rattle.work.specs.Work.{afterStart}

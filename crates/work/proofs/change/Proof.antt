@@ -1,6 +1,4 @@
 -- `work::change` meets its contract: the record is stored, and the rest of the work done. Assumes nothing.
-use mathlib.Core.Path.{_≡_, ap, _∙_}
-use mathlib.Core.Bool.{true}
 use denote.Ref.{now}
 use lib.ListN.{set}
 use Rattle.table.specs.Table.{ports}

@@ -40,10 +40,13 @@ change-requires c κs =
     let t = now (a .table) in
     let p = portAt t (a .i) in
     let is : c .configure .result ≡ configured (a .settings) p = c .configure .ensures ∙ ap (configured (a .settings)) (c .before .before .before .before .load .ensures) in
-    let own = own-typed (c .configure .result .own) _ _ (c .configure .ok .1 .1 .1 .1 .1 .1 .1 .1 .1 .0 .1) in
-    (c .before .before .before .before .before .before .before .pre .0, c .before .before .before .before .before .before .before .pre .1, rw is
-    (configured-typed (countIn t) (a .settings) p (ap (λ (q : Port). ownFits (q .own)) (sym is) ∙ own)
-    (ranged-at t (c .before .before .before .before .before .before .before .pre .0) (λ j. (c .before .before .before .before .before .before .slice-known .given) j .fits) (a .i) (c .before .before .before .before .before .before .before .pre .1))))
+    let own = own-typed (c .configure .result .own) _ _ (c .configure .ok .1 .1 .1 .1 .1 .1 .1 .1 .1 .0 .1) in (
+      c .before .before .before .before .before .before .before .pre .0,
+      c .before .before .before .before .before .before .before .pre .1,
+      rw is
+          (configured-typed (countIn t) (a .settings) p (ap (λ (q : Port). ownFits (q .own)) (sym is) ∙ own)
+          (ranged-at t (c .before .before .before .before .before .before .before .pre .0) (λ j. (c .before .before .before .before .before .before .slice-known .given) j .fits) (a .i) (c .before .before .before .before .before .before .before .pre .1))),
+    )
 
 same-length-2 : tie.Need-same-length-2
 same-length-2 c = search needs

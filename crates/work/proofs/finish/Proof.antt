@@ -1,11 +1,4 @@
 -- `work::finish` meets its contract: the periodic machines of all ports, then steps 3 to 6. Assumes nothing.
-use mathlib.Core.Path.{_≡_, ap, _∙_}
-use mathlib.Core.List.{List}
-use denote.Ref.{now}
-use Rattle.frame.specs.declared.block.SystemId.{SystemId}
-use Rattle.port.specs.declared.record.Port.{Port}
-use Rattle.table.specs.declared.layout.Header.{Header}
-use Rattle.table.specs.Table.{ports}
 use Rattle.trunk.specs.Settled.{settled}
 use Rattle.trunk.proofs.TableWork.{then, said}
 use Rattle.work.specs.Work.{worked}

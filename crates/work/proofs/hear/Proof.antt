@@ -1,11 +1,8 @@
 -- `work::hear` meets its contract: the port hears, ports whose partner moved are displaced, and the rest of the work is done.
 -- Assumes nothing.
 use mathlib.Core.Path.{_≡_, ap, _∙_}
-use mathlib.Core.List.{List}
-use denote.Ref.{now}
 use Rattle.frame.specs.declared.block.Block.{Block}
 use Rattle.frame.specs.Block.{blockOf}
-use Rattle.port.specs.declared.record.Port.{Port}
 use Rattle.trunk.specs.Displaced.{displaced}
 use Rattle.trunk.proofs.TableWork.{then, said}
 use Rattle.work.specs.Work.{worked, afterHeard}

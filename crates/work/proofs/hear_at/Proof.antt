@@ -1,5 +1,4 @@
 -- `work::hear_at` meets its contract: the record is loaded, CURRENT, and stored, and stays in range. Assumes nothing.
-use mathlib.Core.Path.{_≡_, ap, _∙_}
 use Prim.Native.Nat.{_+_}
 use denote.Ref.{now}
 use Rattle.frame.specs.Block.{blockOf}

@@ -1,7 +1,7 @@
 -- `work::lay` meets its contract: after the header, the loop has filled the first i records (`filled`), and a turn fills the next.
 -- Assumes nothing.
-use Prim.Native.Nat.{_≤_, _<_, _-_}
-use mathlib.Core.Path.{_≡_, refl, sym, ap, _∙_}
+use Prim.Native.Nat.{_≤_, _-_}
+use mathlib.Core.Path.{_≡_, sym, ap, _∙_}
 use native.Mathlib.Omega.{arith}
 use denote.Ref.{now}
 use lib.ListN.{length}
@@ -9,7 +9,7 @@ use Rattle.octets.proofs.Laws.{length-put}
 use Rattle.port.specs.declared.record.Port.{Port}
 use Rattle.settings.specs.Settings.{started}
 use Rattle.table.specs.Layout.{headerOctets, place, mostPorts}
-use Rattle.table.specs.Range.{ownFits, portInRange}
+use Rattle.table.specs.Range.{ownFits}
 use Rattle.table.proofs.StoreLaws.{stored-length}
 use Rattle.work.proofs.FillLaws.{filled, filled-none, filled-more, filled-header, filled-ranged, filled-ports}
 use Rattle.work.proofs.RangeWork.{started-typed}
@@ -35,10 +35,12 @@ write-header-requires c κs = omega (arith, c .before .before .before .before .p
 
 loop-holds : tie.Need-loop-holds Inv-loop μ-loop
 loop-holds c =
-    let a = (c .before .before .before .before .before .before .before .args) in
-    (omega arith, c .before .before .before .before .before .before .before .pre .1,
-    ap length (c .before .before .write-header .ensures) ∙ (length-put 0 (headerOctets (a .header)) (now (a .table)) (omega (arith, c .before .before .before .before .before .before .before .pre .2)) ∙ c .before .before .before .before .before .before .before .pre .2),
-    filled-none _ _)
+    let a = (c .before .before .before .before .before .before .before .args) in (
+      omega arith,
+      c .before .before .before .before .before .before .before .pre .1,
+      ap length (c .before .before .write-header .ensures) ∙ (length-put 0 (headerOctets (a .header)) (now (a .table)) (omega (arith, c .before .before .before .before .before .before .before .pre .2)) ∙ c .before .before .before .before .before .before .before .pre .2),
+      filled-none _ _,
+    )
 
 store-requires : tie.Need-store-requires Inv-loop μ-loop
 store-requires c κs =
@@ -56,10 +58,12 @@ loop-again c =
     let inv = (c .before .before .before .before .before .loop .inv) in
     let i = (c .before .before .before .before .before .loop .i) in
     let p = (c .before .before .before .before .before .before .before .before .before .before .start .result) in
-    let u = (c .before .before .before .before .before .loop .table) in
-    (omega arith, inv .1,
-    ap length (c .before .before .store .ensures) ∙ (stored-length i p u (omega (arith, inv .2, c .before .before .before .before .loop-test .taken)) ∙ inv .2),
-    filled-more i p _ u _ (inv .3) (c .before .before .store .ensures))
+    let u = (c .before .before .before .before .before .loop .table) in (
+      omega arith,
+      inv .1,
+      ap length (c .before .before .store .ensures) ∙ (stored-length i p u (omega (arith, inv .2, c .before .before .before .before .loop-test .taken)) ∙ inv .2),
+      filled-more i p _ u _ (inv .3) (c .before .before .store .ensures),
+    )
 
 same-length : tie.Need-same-length Inv-loop μ-loop
 same-length c = (c .before .loop .inv .2) ∙ sym (c .before .before .before .before .before .before .before .before .before .pre .2)

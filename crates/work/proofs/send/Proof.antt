@@ -1,5 +1,4 @@
 -- `work::send` meets its contract: the LACPDU is written from the table as it is, and then the send remembered. Assumes nothing.
-use mathlib.Core.Path.{_≡_}
 use denote.Ref.{now}
 use lib.ListN.{set}
 use Rattle.port.specs.Transmit.{sent}

@@ -35,9 +35,12 @@ set-line-requires c κs = search needs
 change-requires : tie.Need-change-requires
 change-requires c κs =
     let a = (c .before .before .before .before .before .before .before .before .args) in
-    let t = now (a .table) in
-    (c .before .before .before .before .before .before .before .before .pre .0, c .before .before .before .before .before .before .before .before .pre .1, rw (c .set-line .ensures, c .before .before .before .before .before .load .ensures)
-    (lined-ranged (countIn t) (a .line) (portAt t (a .i)) (ranged-at t (c .before .before .before .before .before .before .before .before .pre .0) (λ j. (c .before .before .before .before .before .before .before .slice-known .given) j .fits) (a .i) (c .before .before .before .before .before .before .before .before .pre .1))))
+    let t = now (a .table) in (
+      c .before .before .before .before .before .before .before .before .pre .0,
+      c .before .before .before .before .before .before .before .before .pre .1,
+      rw (c .set-line .ensures, c .before .before .before .before .before .load .ensures)
+          (lined-ranged (countIn t) (a .line) (portAt t (a .i)) (ranged-at t (c .before .before .before .before .before .before .before .before .pre .0) (λ j. (c .before .before .before .before .before .before .before .slice-known .given) j .fits) (a .i) (c .before .before .before .before .before .before .before .before .pre .1))),
+    )
 
 same-length-2 : tie.Need-same-length-2
 same-length-2 c = search needs

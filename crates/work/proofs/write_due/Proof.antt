@@ -1,5 +1,4 @@
 -- `work::write_due` meets its contract: header and record are read, and the LACPDU is written from them. Assumes nothing.
-use denote.Ref.{now}
 use Rattle.table.proofs.TableLaws.{in-range}
 use Rattle.trunk.proofs.TableWork.{room}
 use Rattle.work.specs.Work.{lacpduOf}

@@ -14,7 +14,6 @@ cast-if2 c = search needs
 returns-2 : tie.Need-returns-2
 returns-2 c = rw (le-leb 1 _ (c .before .if1 .left), lt-leb _ mostPorts (c .if2 .taken))
 
-
 place-of-requires : tie.Need-place-of-requires
 place-of-requires c κs = search needs
 
