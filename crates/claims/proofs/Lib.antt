@@ -1,1 +1,11 @@
 pub mod OnePort
+pub mod Lists
+pub mod Parts
+pub mod Steps
+pub mod Settles
+pub mod Sound
+pub mod Calls
+pub mod Rule
+pub mod Lag
+pub mod Locality
+pub mod LivePartner

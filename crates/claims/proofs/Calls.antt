@@ -1,0 +1,278 @@
+-- Every table that calls can make is in range, of octets and at rest: an accepted start makes such a table of any memory, and each call
+-- keeps it, since a call that is not refused has passed its tests. A refusal changes nothing. Assumes nothing.
+use Prim.Native.Nat.{ℕ, _-_, _<_, _≤_}
+use mathlib.Core.Path.{_≡_, refl, sym, ap, _∙_, subst}
+use mathlib.Core.Bool.{Bool, true, false, cond, _&&_, _||_, true≢false, false≢true}
+use mathlib.Core.List.{List, [], _∷_, _++_}
+use native.Mathlib.Omega.{arith}
+use lib.ListN.{length}
+use lib.Dec.{eqb, ltb}
+use Rattle.frame.specs.declared.class.Class.{Class}
+use Rattle.frame.specs.declared.class.Class.the-variants as class
+use Rattle.frame.specs.Class.{classOf}
+use Rattle.machine.specs.declared.states.Line.{Line}
+use Rattle.machine.specs.declared.states.Mux.{Mux}
+use Rattle.machine.specs.Mux.{collects, distributes}
+use Rattle.port.specs.declared.transmit.Due.{Due}
+use Rattle.port.specs.declared.transmit.Due.the-variants as due
+use Rattle.port.specs.Transmit.{due as dueOf}
+use Rattle.frame.specs.declared.block.SystemId.{SystemId}
+use Rattle.frame.specs.declared.wire.TensOfMicroseconds.{TensOfMicroseconds}
+use Rattle.settings.specs.declared.Settings.{Settings}
+use Rattle.settings.specs.Settings.{lawful}
+use Rattle.table.specs.Layout.{within, mostPorts, tableSize}
+use Rattle.table.specs.Table.{tableInRange, countIn, portAt}
+use Rattle.table.proofs.RangeLaws.{both, within-true}
+use Rattle.control.specs.declared.answer.Answer.{Answer}
+use Rattle.control.specs.declared.answer.Answer.the-variants.{Done, Lacpdu, Marker, Refused}
+use Rattle.control.specs.declared.answer.Reason.{Reason}
+use Rattle.control.specs.declared.answer.Reason.the-variants as reason
+use Rattle.control.specs.Answer.{isNumber, onPort, withRoom, withDefault, frameAnswer, dueAnswer}
+use Rattle.control.specs.Call.{Call, start, receive, tick, link, duplex, configure, fetch, report, aggregator}
+use Rattle.control.specs.After.{answer, afterFrame, changedBy, unless, after, outgoing, bufferOf, writtenBy}
+use Rattle.claims.specs.Run.{isLacpdu, Octets, Takes, AllTake, accepted, run, Made}
+use Rattle.claims.specs.AtRest.{Sound}
+use Rattle.claims.specs.Claims.{isStart, NeverStuck, NoAnswerOne, RefusalsSilent}
+use Rattle.claims.proofs.Sound.{send-sound, line-sound, settings-sound, heard-sound, tick-sound, start-sound}
+
+-- ---- what an accepted call has passed
+
+if-accepted : (b : Bool) (a : Answer) (r : Reason) → accepted (cond b a (Refused r)) ≡ true → (b ≡ true) × (accepted a ≡ true)
+if-accepted true a r e = (refl, e)
+if-accepted false a r e = absurd (false≢true e)
+
+-- a port number that is none too high, counted from 0
+pub record OnPort (t : List ℕ) (n : ℕ) : Type 0 where
+  pub some : 1 ≤ n
+  pub below : n - 1 < countIn t
+
+pub on-port : (t : List ℕ) (n : ℕ) (rest : Answer) → accepted (onPort t n rest) ≡ true → OnPort t n × (accepted rest ≡ true)
+on-port t n rest e =
+    let a = if-accepted (tableInRange t) (cond (isNumber t n) rest (Refused reason.Number)) reason.Table e in
+    let b = if-accepted (isNumber t n) rest reason.Number (a .1) in
+    let w = within-true 1 n (countIn t) (b .0) in
+    (record { some = w .0; below = less n (countIn t) (w .0) (w .1) }, b .1)
+  where
+    less : (n c : ℕ) → 1 ≤ n → n ≤ c → n - 1 < c
+    less n c a b = omega arith
+
+-- which port an accepted call on a port names
+pub named : (t : List ℕ) (n : ℕ) (rest : Answer) → accepted (onPort t n rest) ≡ true → n - 1 < countIn t
+named t n rest e = on-port t n rest e .0 .below
+
+if-lacpdu : (b : Bool) (a : Answer) (r : Reason) → isLacpdu (cond b a (Refused r)) ≡ true → (b ≡ true) × (isLacpdu a ≡ true)
+if-lacpdu true a r e = (refl, e)
+if-lacpdu false a r e = absurd (false≢true e)
+
+unless-lacpdu : (b : Bool) (a : Answer) (r : Reason) → isLacpdu (cond b (Refused r) a) ≡ true → isLacpdu a ≡ true
+unless-lacpdu true a r e = absurd (false≢true e)
+unless-lacpdu false a r e = e
+
+no-marker : (b : Bool) (r : Reason) → isLacpdu (cond b Marker (Refused r)) ≡ true → ⊥
+no-marker true r e = false≢true e
+no-marker false r e = false≢true e
+
+frame-up : (k : Class) (l : Line) (m : Mux) → isLacpdu (frameAnswer k l m) ≡ true → (l .up ≡ true) × (l .full ≡ true)
+frame-up class.Lacpdu l m e = both (l .up) (l .full) (if-lacpdu (l .up && l .full) Lacpdu reason.Disabled e .0)
+frame-up class.Marker l m e = absurd (no-marker (collects m || distributes m) reason.NotCollecting e)
+frame-up class.Response l m e = absurd (false≢true e)
+frame-up (class.Refused r) l m e = absurd (false≢true e)
+
+-- an accepted LACPDU: the port is up at full duplex
+pub record Heard (t : List ℕ) (n : ℕ) : Type 0 where
+  pub below : n - 1 < countIn t
+  pub up : portAt t (n - 1) .line .up ≡ true
+  pub full : portAt t (n - 1) .line .full ≡ true
+
+pub heard-on : (t : List ℕ) (n : ℕ) (frame out : List ℕ) → answer (receive n frame out) t ≡ Lacpdu → Heard t n
+unfolding answer
+heard-on t n frame out e =
+    let p = portAt t (n - 1) in
+    let rest = withRoom out (frameAnswer (classOf frame) (p .line) (p .phase .mux)) in
+    let a = if-lacpdu (tableInRange t) (cond (isNumber t n) rest (Refused reason.Number)) reason.Table (ap isLacpdu e) in
+    let b = if-lacpdu (isNumber t n) rest reason.Number (a .1) in
+    let c = unless-lacpdu (ltb (length out) 124) (frameAnswer (classOf frame) (p .line) (p .phase .mux)) reason.Buffer (b .1) in
+    let w = frame-up (classOf frame) (p .line) (p .phase .mux) c in
+    record { below = named t n rest (ap accepted e); up = w .0; full = w .1 }
+
+-- ---- each call keeps a table sound
+
+frame-sound : (t : List ℕ) (s : Sound t) (n : ℕ) (frame out : List ℕ) → Octets frame → (a : Answer) → answer (receive n frame out) t ≡ a
+    → Sound (afterFrame a t (n - 1) frame)
+frame-sound t s n frame out o Done e = s
+frame-sound t s n frame out o Lacpdu e =
+    let h = heard-on t n frame out e in
+    heard-sound t s (n - 1) (h .below) frame o (h .up) (h .full)
+frame-sound t s n frame out o Marker e = s
+frame-sound t s n frame out o (Refused r) e = s
+
+-- an accepted start makes a sound table of any memory
+pub started-sound : (t : List ℕ) (count : ℕ) (system : SystemId) (delay : TensOfMicroseconds) (x : Settings) → Takes (start count system delay x)
+    → accepted (answer (start count system delay x) t) ≡ true → Sound (changedBy (start count system delay x) t)
+unfolding answer changedBy
+started-sound t count system delay x k e =
+    let a = if-accepted (within 1 count mostPorts && eqb (length t) (tableSize count)) (withDefault x Done) reason.Table e in
+    let b = both (within 1 count mostPorts) (eqb (length t) (tableSize count)) (a .0) in
+    let w = within-true 1 count mostPorts (b .0) in
+    start-sound (record { count = count; system = system; delay = delay }) x (k .0) (k .1) (w .0) (w .1)
+
+pub changed-sound : (t : List ℕ) → Sound t → (c : Call) → Takes c → accepted (answer c t) ≡ true → Sound (changedBy c t)
+unfolding answer changedBy
+changed-sound t s (start count system delay x) k e = started-sound t count system delay x k e
+changed-sound t s (receive n frame out) k e = frame-sound t s n frame out (k .0) (answer (receive n frame out) t) refl
+changed-sound t s tick k e = tick-sound t s
+changed-sound t s (link n up) k e = line-sound t s (n - 1) (named t n Done e) (record { up = up; full = portAt t (n - 1) .line .full })
+changed-sound t s (duplex n full) k e = line-sound t s (n - 1) (named t n Done e) (record { up = portAt t (n - 1) .line .up; full = full })
+changed-sound t s (configure n x) k e = settings-sound t s (n - 1) (named t n (withDefault x Done) e) x k
+changed-sound t s (fetch n out) k e = send-sound t s (n - 1) (named t n (withRoom out (dueAnswer (dueOf (portAt t (n - 1))))) e)
+changed-sound t s (report n) k e = s
+changed-sound t s (aggregator n) k e = s
+
+unless-sound : (a : Answer) (t u : List ℕ) → Sound t → (accepted a ≡ true → Sound u) → Sound (unless a t u)
+unless-sound Done t u s f = f refl
+unless-sound Lacpdu t u s f = f refl
+unless-sound Marker t u s f = f refl
+unless-sound (Refused r) t u s f = s
+
+pub call-sound : (t : List ℕ) → Sound t → (c : Call) → Takes c → Sound (after c t)
+unfolding after
+call-sound t s c k = unless-sound (answer c t) t (changedBy c t) s (λ e. changed-sound t s c k e)
+
+unless-accepted : (a : Answer) (t u : List ℕ) → accepted a ≡ true → unless a t u ≡ u
+unless-accepted Done t u e = refl
+unless-accepted Lacpdu t u e = refl
+unless-accepted Marker t u e = refl
+unless-accepted (Refused r) t u e = absurd (false≢true e)
+
+-- what an accepted call leaves
+pub after-accepted : (t : List ℕ) (c : Call) → accepted (answer c t) ≡ true → after c t ≡ changedBy c t
+unfolding after
+after-accepted t c e = unless-accepted (answer c t) t (changedBy c t) e
+
+-- ---- runs
+
+pub run-sound : (t : List ℕ) → Sound t → (cs : List Call) → AllTake cs → Sound (run t cs)
+unfolding run
+run-sound t s [] k = s
+run-sound t s (c ∷ cs) k = run-sound (after c t) (call-sound t s c (k .0)) cs (k .1)
+
+pub never-stuck : NeverStuck
+never-stuck t m =
+    let c = start (m .count) (m .system) (m .delay) (m .settings) in
+    let first : Sound (after c (m .memory)) =
+    subst Sound (sym (after-accepted (m .memory) c (m .starts))) (started-sound (m .memory) (m .count) (m .system) (m .delay) (m .settings) (m .takes) (m .starts)) in
+    subst Sound (m .gives) (run-sound (after c (m .memory)) first (m .calls) (m .allTake))
+
+-- a start makes a table, and so does a call on one
+pub made-start : (m : List ℕ) → Octets m → (count : ℕ) (system : SystemId) (delay : TensOfMicroseconds) (x : Settings)
+    → Takes (start count system delay x) → accepted (answer (start count system delay x) m) ≡ true → Made (after (start count system delay x) m)
+unfolding run
+made-start m o count system delay x k e = record {
+  memory = m;
+  octets = o;
+  count = count;
+  system = system;
+  delay = delay;
+  settings = x;
+  takes = k;
+  starts = e;
+  calls = [];
+  allTake = tt;
+  gives = refl;
+}
+
+run-more : (t : List ℕ) (cs : List Call) (c : Call) → run t (cs ++ (c ∷ [])) ≡ after c (run t cs)
+unfolding run
+run-more t [] c = refl
+run-more t (b ∷ cs) c = run-more (after b t) cs c
+
+all-more : (cs : List Call) (c : Call) → AllTake cs → Takes c → AllTake (cs ++ (c ∷ []))
+all-more [] c a k = (k, tt)
+all-more (b ∷ cs) c a k = (a .0, all-more cs c (a .1) k)
+
+pub made-call : (t : List ℕ) → Made t → (c : Call) → Takes c → Made (after c t)
+made-call t m c k = record {
+  memory = m .memory;
+  octets = m .octets;
+  count = m .count;
+  system = m .system;
+  delay = m .delay;
+  settings = m .settings;
+  takes = m .takes;
+  starts = m .starts;
+  calls = m .calls ++ (c ∷ []);
+  allTake = all-more (m .calls) c (m .allTake) k;
+  gives =
+      run-more (after (start (m .count) (m .system) (m .delay) (m .settings)) (m .memory)) (m .calls) c ∙ ap (after c) (m .gives);
+}
+
+-- ---- answer 1
+
+abbrev isTable : Reason → Bool
+isTable reason.Table = true
+isTable reason.Number = false
+isTable reason.Buffer = false
+isTable reason.Default = false
+isTable reason.Disabled = false
+isTable (reason.Frame r) = false
+isTable reason.NotCollecting = false
+isTable reason.NothingToSend = false
+isTable reason.Barred = false
+isTable reason.Response = false
+
+abbrev answersOne : Answer → Bool
+answersOne Done = false
+answersOne Lacpdu = false
+answersOne Marker = false
+answersOne (Refused r) = isTable r
+
+-- of two answers neither of which is 1
+neither : (b : Bool) (x y : Answer) → answersOne x ≡ false → answersOne y ≡ false → answersOne (cond b x y) ≡ false
+neither true x y e f = e
+neither false x y e f = f
+
+port-not-one : (t : List ℕ) → tableInRange t ≡ true → (n : ℕ) (rest : Answer) → answersOne rest ≡ false → answersOne (onPort t n rest) ≡ false
+port-not-one t r n rest e =
+    ap (λ (b : Bool). answersOne (cond b (cond (isNumber t n) rest (Refused reason.Number)) (Refused reason.Table))) r
+    ∙ neither (isNumber t n) rest (Refused reason.Number) e refl
+
+frame-not-one : (k : Class) (l : Line) (m : Mux) → answersOne (frameAnswer k l m) ≡ false
+frame-not-one class.Lacpdu l m = neither (l .up && l .full) Lacpdu (Refused reason.Disabled) refl refl
+frame-not-one class.Marker l m = neither (collects m || distributes m) Marker (Refused reason.NotCollecting) refl refl
+frame-not-one class.Response l m = refl
+frame-not-one (class.Refused r) l m = refl
+
+due-not-one : (k : Due) → answersOne (dueAnswer k) ≡ false
+due-not-one due.Nothing = refl
+due-not-one due.Barred = refl
+due-not-one due.Lacpdu = refl
+
+not-one : (t : List ℕ) → tableInRange t ≡ true → (c : Call) → isStart c ≡ false → answersOne (answer c t) ≡ false
+unfolding answer
+not-one t r (start count system delay x) s = absurd (true≢false s)
+not-one t r (receive n frame out) s =
+    let l = portAt t (n - 1) .line in
+    let m = portAt t (n - 1) .phase .mux in
+    let a = frameAnswer (classOf frame) l m in
+    port-not-one t r n (withRoom out a) (neither (ltb (length out) 124) (Refused reason.Buffer) a refl (frame-not-one (classOf frame) l m))
+not-one t r tick s = ap (λ (b : Bool). answersOne (cond b Done (Refused reason.Table))) r
+not-one t r (link n up) s = port-not-one t r n Done refl
+not-one t r (duplex n full) s = port-not-one t r n Done refl
+not-one t r (configure n x) s = port-not-one t r n (withDefault x Done) (neither (lawful x) Done (Refused reason.Default) refl refl)
+not-one t r (fetch n out) s =
+    let a = dueAnswer (dueOf (portAt t (n - 1))) in
+    port-not-one t r n (withRoom out a) (neither (ltb (length out) 124) (Refused reason.Buffer) a refl (due-not-one (dueOf (portAt t (n - 1)))))
+not-one t r (report n) s = port-not-one t r n Done refl
+not-one t r (aggregator n) s = port-not-one t r n Done refl
+
+pub no-answer-one : NoAnswerOne
+no-answer-one t m c s e = true≢false (ap answersOne (sym e) ∙ not-one t (never-stuck t m .ranged) c s)
+
+-- ---- refusals
+
+pub refusals-silent : RefusalsSilent
+unfolding after outgoing
+refusals-silent t c r e = record {
+  table = ap (λ (a : Answer). unless a t (changedBy c t)) e;
+  buffer = ap (λ (a : Answer). unless a (bufferOf c) (writtenBy c t)) e;
+}

@@ -1,0 +1,461 @@
+-- The partner information in force lasts: of all that a call does to a port, only recordDefault and recordPDU change it but for two bits,
+-- and each way to one of them is one of the ends. By cases on the call and on the receive state. Assumes nothing.
+use Prim.Native.Nat.{ℕ, _+_, _-_, _<_}
+use mathlib.Core.Path.{_≡_, refl, sym, ap, _∙_, subst}
+use mathlib.Core.Bool.{Bool, true, false, cond, not, _&&_, _||_, true≢false, false≢true}
+use mathlib.Core.List.{List, [], _∷_, map}
+use mathlib.Core.Logic.{_⊎_, inl, inr}
+use native.Mathlib.Omega.{arith}
+use lib.ListN.{length, getD, set, length-map, length-set}
+use lib.Seq.{getD-set-same}
+use lib.Dec.{eqb}
+use borrow.Author.Tests.{eqb-true, eqb-false, eq-eqb}
+use Rattle.frame.specs.declared.block.Block.{Block}
+use Rattle.frame.specs.declared.block.SystemId.{SystemId}
+use Rattle.frame.specs.Block.{blockOf}
+use Rattle.frame.specs.Wire.{actorPart}
+use Rattle.machine.specs.declared.states.Line.{Line}
+use Rattle.machine.specs.declared.states.Receive.{Receive}
+use Rattle.machine.specs.declared.states.Receive.the-variants.{Initialize, PortDisabled, Expired, LacpDisabled, Defaulted, Current}
+use Rattle.machine.specs.declared.receive.ReceiveStep.{ReceiveStep}
+use Rattle.machine.specs.declared.receive.ReceiveStep.the-variants.{Stay, Enter}
+use Rattle.machine.specs.Receive.{receiveNext}
+use Rattle.machine.specs.States.{sameLine}
+use Rattle.machine.specs.Time.{ranOut}
+use Rattle.port.specs.declared.record.Port.{Port}
+use Rattle.port.specs.Record.{withLine, withNtt, withActor, withOwn}
+use Rattle.port.specs.Receive.{recordPdu, unselected, portDisabled, expired, heard, current}
+use Rattle.port.specs.Receive.{receiveChoice, receiveStep, receiveRun, received, down, lined}
+use Rattle.port.specs.Periodic.{periodicRun}
+use Rattle.port.specs.Transmit.{sent, due, ticked}
+use Rattle.port.proofs.PeriodicLaws.{periodic-keeps}
+use Rattle.settings.specs.declared.Settings.{Settings}
+use Rattle.settings.specs.Settings.{ownOf, ownBits, sameGrouping, sameSettings, regrouped, changed, configured}
+use Rattle.table.specs.Record.{decoded}
+use Rattle.table.specs.Range.{ownFits}
+use Rattle.table.specs.Table.{countIn, portAt, ports}
+use Rattle.table.proofs.StoreLaws.{ports-length, ports-at}
+use Rattle.trunk.specs.Selection.{ruleOf}
+use Rattle.trunk.specs.Ready.{ready}
+use Rattle.trunk.specs.Settled.{selectedAll, settled}
+use Rattle.port.specs.Compared.{compared}
+use Rattle.port.specs.Mux.{attachedIf}
+use Rattle.trunk.specs.Advanced.{advanced}
+use Rattle.trunk.specs.Displaced.{isDisplaced, displacedIf, displaced}
+use Rattle.trunk.proofs.SweepLaws.{sweep-at}
+use Rattle.trunk.proofs.TableWork.{map-at}
+use Rattle.trunk.proofs.SettledLaws.{settled-at, selected-at}
+use Rattle.work.specs.Work.{ours, again, worked, afterOne, heardAt, afterHeard, afterTick, afterLine, afterSettings, afterSend}
+use Rattle.control.specs.declared.answer.Answer.{Answer}
+use Rattle.control.specs.declared.answer.Answer.the-variants.{Done, Lacpdu, Marker, Refused}
+use Rattle.control.specs.Answer.{withRoom, withDefault, dueAnswer}
+use Rattle.control.specs.Call.{Call, start, receive, tick, link, duplex, configure, fetch, report, aggregator}
+use Rattle.control.specs.After.{answer, afterFrame, changedBy, unless, after}
+use Rattle.claims.specs.Run.{isLacpdu, Octets, Takes, AllTake, accepted, run}
+use Rattle.claims.specs.AtRest.{Sound, goesWith}
+use Rattle.claims.specs.LivePartner.{lasting, Live, isExpired, toHalf, ends, NoneEnds, LivePartner}
+use Rattle.claims.proofs.Parts.{Standing, receivePart, ReceiveRests, besideSettled, reselected-beside, attached-beside, climbed-beside}
+use Rattle.claims.proofs.Steps.{lined-falls}
+use Rattle.claims.proofs.Sound.{Before, in-ports, port-standing, work-ports, tick-before, line-before, settings-before, heard-before, send-ports}
+use Rattle.claims.proofs.Calls.{named, heard-on, after-accepted, call-sound, never-stuck}
+use Rattle.claims.proofs.Locality.{again-at, again-count, set-kept, displaced-kept}
+
+-- ---- what is to last
+
+record Lasting : Type 0 where
+  partner : Block
+  defaulted : Bool
+
+abbrev lastingOf : Port → Lasting
+lastingOf p = record { partner = lasting (p .partner); defaulted = p .actor .defaulted }
+
+live-is : (frame : List ℕ) (p q : Port) → lastingOf q ≡ lastingOf p → Live frame p → Live frame q
+live-is frame p q e l = record {
+  partner = ap (λ (x : Lasting). x .partner) e ∙ l .partner;
+  defaulted = ap (λ (x : Lasting). x .defaulted) e ∙ l .defaulted;
+}
+
+-- ---- the end of step 2, and steps 3 to 6, keep it
+
+settled-beside : (s : SystemId) (ps : List Port) (i : ℕ) (d : Port) → i < length ps → besideSettled (getD (settled s ps) i d) ≡ besideSettled (getD ps i d)
+settled-beside s ps i d h =
+    let ss = selectedAll s ps in
+    let r = ready (getD ss i d .aggregator) ss in
+    ap (λ (x : Port). besideSettled x) (settled-at s ps i d h)
+    ∙ climbed-beside (attachedIf r (getD ss i d)) ∙ attached-beside r (getD ss i d)
+    ∙ ap (λ (x : Port). besideSettled x) (selected-at s ps i d h) ∙ reselected-beside (ruleOf s (map compared ps) i) (getD ps i d)
+
+worked-lasting : (s : SystemId) (ps : List Port) (i : ℕ) (d : Port) → i < length ps → lastingOf (getD (worked s ps) i d) ≡ lastingOf (getD ps i d)
+unfolding worked
+worked-lasting s ps i d h =
+    ap (λ (x : Port). lastingOf x) (settled-beside s (map periodicRun ps) i d (rw (length-map ps periodicRun) h))
+    ∙ ap (λ (x : Port). lastingOf x) (map-at periodicRun ps i d d h) ∙ ap (λ (x : Port). lastingOf x) (periodic-keeps (getD ps i d))
+
+-- one record after the work
+work-lasting : (t : List ℕ) (s : Sound t) (ps : List Port) → Before t ps → (i : ℕ) → i < countIn t
+    → lastingOf (portAt (again t (worked (ours t) ps)) i) ≡ lastingOf (getD ps i (decoded []))
+work-lasting t s ps b i h =
+    ap (λ (x : Port). lastingOf x) (again-at t (worked (ours t) ps) (work-ports t s ps b) i (decoded []) h)
+    ∙ worked-lasting (ours t) ps i (decoded []) (rw (b .size) h)
+
+-- ---- the receive machine
+
+-- a choice that records no default: to stay, or to enter EXPIRED
+data Gentle (k : ReceiveStep) : Type 0 where
+  stays : k ≡ Stay → Gentle k
+  expires : k ≡ Enter Expired → Gentle k
+
+step-stays : (p : Port) → receiveChoice p ≡ Stay → receiveStep p ≡ p
+unfolding receiveStep
+step-stays p e = rw e
+
+step-expires : (p : Port) → receiveChoice p ≡ Enter Expired → receiveStep p ≡ expired p
+unfolding receiveStep
+step-expires p e = rw e
+
+step-falls : (p : Port) → receiveChoice p ≡ Enter PortDisabled → receiveStep p ≡ portDisabled p
+unfolding receiveStep
+step-falls p e = rw e
+
+-- EXPIRED has started its timer
+after-expired : (p : Port) → p .line .up ≡ true → receiveChoice (expired p) ≡ Stay
+unfolding receiveChoice expired
+after-expired p u = rw u
+
+after-disabled : (p : Port) → p .line .up ≡ false → receiveChoice (portDisabled p) ≡ Stay
+unfolding receiveChoice portDisabled
+after-disabled p u = rw u
+
+expired-lasting : (p : Port) → lastingOf (expired p) ≡ lastingOf p
+unfolding expired
+expired-lasting p = refl
+
+disabled-lasting : (p : Port) → lastingOf (portDisabled p) ≡ lastingOf p
+unfolding portDisabled
+disabled-lasting p = refl
+
+-- a run that begins so keeps what lasts
+run-lasting : (p : Port) → p .line .up ≡ true → Gentle (receiveChoice p) → lastingOf (receiveRun p) ≡ lastingOf p
+unfolding receiveRun
+run-lasting p u (stays e) = ap (λ (x : Port). lastingOf (receiveStep x)) (step-stays p e) ∙ ap (λ (x : Port). lastingOf x) (step-stays p e)
+run-lasting p u (expires e) =
+    ap (λ (x : Port). lastingOf (receiveStep x)) (step-expires p e)
+    ∙ ap (λ (x : Port). lastingOf x) (step-stays (expired p) (after-expired p u)) ∙ expired-lasting p
+
+-- and so does one with the link down
+still-lasting : (p : Port) → receiveChoice p ≡ Stay → lastingOf (receiveRun p) ≡ lastingOf p
+unfolding receiveRun
+still-lasting p e = ap (λ (x : Port). lastingOf (receiveStep x)) (step-stays p e) ∙ ap (λ (x : Port). lastingOf x) (step-stays p e)
+
+falls-lasting : (p : Port) → p .line .up ≡ false → receiveChoice p ≡ Enter PortDisabled → lastingOf (receiveRun p) ≡ lastingOf p
+unfolding receiveRun
+falls-lasting p u e =
+    ap (λ (x : Port). lastingOf (receiveStep x)) (step-falls p e)
+    ∙ ap (λ (x : Port). lastingOf x) (step-stays (portDisabled p) (after-disabled p u)) ∙ disabled-lasting p
+
+-- ---- a tick
+
+-- a timer that runs out now held 1, for one that held 0 had run out
+ran-before : (n : ℕ) → eqb (n - 1) 0 ≡ true → eqb n 0 ≡ false → eqb n 1 ≡ true
+ran-before n a b =
+    let x : n - 1 ≡ 0 = eqb-true (n - 1) 0 a in
+    let y : n ≡ 0 → ⊥ = eqb-false n 0 b in
+    eq-eqb n 1 (omega arith)
+
+stay-is : (k : ReceiveStep) → Bool
+stay-is Stay = true
+stay-is (Enter s) = false
+
+expired-next : (before now : Bool) → receiveNext Expired true true before ≡ Stay → (now ≡ true → before ≡ false → ⊥) → receiveNext Expired true true now ≡ Stay
+expired-next true now e f = absurd (false≢true (unfold stay-is in ap stay-is e))
+expired-next false true e f = absurd (f refl refl)
+expired-next false false e f = refl
+
+current-next : (now : Bool) → Gentle (receiveNext Current true true now)
+current-next true = expires refl
+current-next false = stays refl
+
+-- the choice after a tick, of a port that was at rest with its link up
+tick-chooses : (s : Receive) (full : Bool) (n : ℕ) → goesWith (record { up = true; full = full }) s ≡ true → receiveNext s true full (eqb n 0) ≡ Stay
+    → isExpired s && eqb n 1 ≡ false → Gentle (receiveNext s true full (eqb (n - 1) 0))
+tick-chooses Initialize full n g r e = absurd (false≢true g)
+tick-chooses PortDisabled full n g r e = absurd (false≢true g)
+tick-chooses Expired false n g r e = absurd (false≢true g)
+tick-chooses Expired true n g r e =
+    stays (expired-next (eqb n 0) (eqb (n - 1) 0) r (λ a b. true≢false (sym (ran-before n a b) ∙ e)))
+tick-chooses LacpDisabled full n g r e = stays refl
+tick-chooses Defaulted full n g r e = stays refl
+tick-chooses Current false n g r e = absurd (false≢true g)
+tick-chooses Current true n g r e = current-next (eqb (n - 1) 0)
+
+ticked-lasting : (p : Port) → lastingOf (ticked p) ≡ lastingOf p
+unfolding ticked
+ticked-lasting p = refl
+
+ticked-choice : (p : Port) → receiveChoice (ticked p) ≡ receiveNext (p .phase .receive) (p .line .up) (p .line .full) (eqb (p .timers .current .0 - 1) 0)
+unfolding receiveChoice ticked
+ticked-choice p = refl
+
+ticked-line : (p : Port) → ticked p .line ≡ p .line
+unfolding ticked
+ticked-line p = refl
+
+down-chooses : (s : Receive) (full out : Bool) → goesWith (record { up = false; full = full }) s ≡ true → receiveNext s false full out ≡ Stay
+down-chooses Initialize full out g = absurd (false≢true g)
+down-chooses PortDisabled full out g = refl
+down-chooses Expired full out g = absurd (false≢true g)
+down-chooses LacpDisabled full out g = absurd (false≢true g)
+down-chooses Defaulted full out g = absurd (false≢true g)
+down-chooses Current full out g = absurd (false≢true g)
+
+advanced-lasting : (p : Port) → ReceiveRests (receivePart p) → isExpired (p .phase .receive) && eqb (p .timers .current .0) 1 ≡ false
+    → lastingOf (advanced p) ≡ lastingOf p
+unfolding advanced
+advanced-lasting p r e = by (p .line .up) refl ∙ ticked-lasting p
+  where
+    state : Receive
+    state = p .phase .receive
+
+    out : Bool
+    out = eqb (p .timers .current .0 - 1) 0
+
+    line-is : (b : Bool) → p .line .up ≡ b → goesWith (record { up = b; full = p .line .full }) state ≡ true
+    line-is b u = rw u at (r .state)
+
+    by : (b : Bool) → p .line .up ≡ b → lastingOf (receiveRun (ticked p)) ≡ lastingOf (ticked p)
+    by true u =
+        let g : Gentle (receiveNext state true (p .line .full) out) =
+        tick-chooses state (p .line .full) (p .timers .current .0) (line-is true u) (rw u at (r .stays)) e in
+        run-lasting (ticked p) (ap (λ (l : Line). l .up) (ticked-line p) ∙ u)
+        (subst Gentle (ap (λ (b : Bool). receiveNext state b (p .line .full) out) (sym u) ∙ sym (ticked-choice p)) g)
+    by false u =
+        still-lasting (ticked p)
+        (ticked-choice p ∙ ap (λ (b : Bool). receiveNext state b (p .line .full) out) u ∙ down-chooses state (p .line .full) out (line-is false u))
+
+-- ---- a link or duplex change
+
+fall-chooses : (s : Receive) (l : Line) (full out : Bool) → goesWith l s ≡ true
+    → (receiveNext s false full out ≡ Stay) ⊎ (receiveNext s false full out ≡ Enter PortDisabled)
+fall-chooses Initialize l full out g = absurd (false≢true g)
+fall-chooses PortDisabled l full out g = inl refl
+fall-chooses Expired l full out g = inr refl
+fall-chooses LacpDisabled l full out g = inr refl
+fall-chooses Defaulted l full out g = inr refl
+fall-chooses Current l full out g = inr refl
+
+fall-lasting : (p : Port) → ReceiveRests (receivePart p) → lastingOf (receiveRun (withLine p (down (p .line)))) ≡ lastingOf p
+unfolding receiveChoice
+fall-lasting p r = by (fall-chooses (p .phase .receive) (p .line) (p .line .full) (ranOut (p .timers .current)) (r .state))
+  where
+    by : (receiveNext (p .phase .receive) false (p .line .full) (ranOut (p .timers .current)) ≡ Stay)
+        ⊎ (receiveNext (p .phase .receive) false (p .line .full) (ranOut (p .timers .current)) ≡ Enter PortDisabled)
+        → lastingOf (receiveRun (withLine p (down (p .line)))) ≡ lastingOf p
+    by (inl e) = still-lasting (withLine p (down (p .line))) e
+    by (inr e) = falls-lasting (withLine p (down (p .line))) refl e
+
+rise-chooses : (p : Port) (l : Line) → p .phase .receive ≡ PortDisabled → receiveChoice (withLine p l) ≡ receiveNext PortDisabled (l .up) (l .full) (ranOut (p .timers .current))
+unfolding receiveChoice
+rise-chooses p l e = rw e
+
+rise-lasting : (p : Port) (l : Line) (up full : Bool) → l .up ≡ up → l .full ≡ full → p .phase .receive ≡ PortDisabled → up && not full ≡ false
+    → lastingOf (receiveRun (withLine p l)) ≡ lastingOf p
+rise-lasting p l false full u f e h = still-lasting (withLine p l) (rise-chooses p l e ∙ rw u)
+rise-lasting p l true true u f e h = run-lasting (withLine p l) u (expires (rise-chooses p l e ∙ rw (u, f)))
+rise-lasting p l true false u f e h = absurd (true≢false h)
+
+lined-lasting : (p : Port) → Standing p → (l : Line) → toHalf (p .line) l ≡ false → lastingOf (lined l p) ≡ lastingOf p
+unfolding lined
+lined-lasting p s l h = by (sameLine l (p .line)) h
+  where
+    fell : Port
+    fell = receiveRun (withLine p (down (p .line)))
+
+    by : (b : Bool) → not b && (l .up && not (l .full)) ≡ false → lastingOf (cond b p (receiveRun (withLine fell l))) ≡ lastingOf p
+    by true e = refl
+    by false e = rise-lasting fell l (l .up) (l .full) refl refl (lined-falls p s) e ∙ fall-lasting p (s .receive)
+
+-- ---- settings, a send, and the frame itself
+
+changed-as : (b : Bool) (x : Settings) (p : Port)
+    → lastingOf (withNtt (withActor (withOwn (cond b p (unselected p)) (ownOf x)) (ownBits x (p .actor))) true) ≡ lastingOf p
+changed-as true x p = refl
+changed-as false x p = refl
+
+configured-lasting : (x : Settings) (p : Port) → lastingOf (configured x p) ≡ lastingOf p
+unfolding configured changed regrouped
+configured-lasting x p = by (sameSettings x p)
+  where
+    by : (b : Bool) → lastingOf (cond b p (changed x p)) ≡ lastingOf p
+    by true = refl
+    by false = changed-as (sameGrouping x p) x p
+
+sent-lasting : (p : Port) → lastingOf (sent p) ≡ lastingOf p
+unfolding sent
+sent-lasting p = refl
+
+heard-live : (t : List ℕ) (i : ℕ) (frame : List ℕ) → Live frame (heardAt t i frame)
+unfolding heardAt received current heard recordPdu
+heard-live t i frame = record { partner = refl; defaulted = refl }
+
+-- ---- each call, from t to u
+
+record Goes (t u : List ℕ) (i : ℕ) : Type 0 where
+  count : countIn u ≡ countIn t
+  lasts : lastingOf (portAt u i) ≡ lastingOf (portAt t i)
+
+unchanged : (t : List ℕ) (i : ℕ) → Goes t t i
+unchanged t i = record { count = refl; lasts = refl }
+
+module _ (t : List ℕ) (s : Sound t) (i : ℕ) (h : i < countIn t) where
+  -- work by which what lasts of record i is as it was before settling
+  work-goes : (ps : List Port) → Before t ps → lastingOf (getD ps i (decoded [])) ≡ lastingOf (portAt t i) → Goes t (again t (worked (ours t) ps)) i
+  work-goes ps b e = record { count = again-count t (worked (ours t) ps); lasts = work-lasting t s ps b i h ∙ e }
+
+  -- one record is changed
+  set-lasting : (m : ℕ) (q : Port) → (eqb i m ≡ true → lastingOf q ≡ lastingOf (portAt t i)) → lastingOf (getD (set (ports t) m q) i (decoded [])) ≡ lastingOf (portAt t i)
+  set-lasting m q f = by (eqb i m) refl
+    where
+      by : (b : Bool) → eqb i m ≡ b → lastingOf (getD (set (ports t) m q) i (decoded [])) ≡ lastingOf (portAt t i)
+      by true e =
+          let is : i ≡ m = eqb-true i m e in
+          let here : m < length (ports t) = rw is at (in-ports t s i h) in
+          ap (λ (k : ℕ). lastingOf (getD (set (ports t) m q) k (decoded []))) is
+          ∙ ap (λ (x : Port). lastingOf x) (getD-set-same (ports t) m q (decoded []) here) ∙ f e
+      by false e = ap (λ (x : Port). lastingOf x) (set-kept t m q i h e)
+
+  at-same : (m : ℕ) → eqb i m ≡ true → portAt t m ≡ portAt t i
+  at-same m e = ap (portAt t) (sym (eqb-true i m e))
+
+  line-goes : (m : ℕ) → m < countIn t → (l : Line) → (eqb i m ≡ true → toHalf (portAt t m .line) l ≡ false) → Goes t (afterLine t m l) i
+  unfolding afterLine afterOne
+  line-goes m g l f = by (sameLine l (portAt t m .line))
+    where
+      by : (b : Bool) → Goes t (cond b t (again t (worked (ours t) (set (ports t) m (lined l (portAt t m)))))) i
+      by true = unchanged t i
+      by false =
+          work-goes (set (ports t) m (lined l (portAt t m))) (line-before t s m g l)
+          (set-lasting m (lined l (portAt t m)) (λ e.
+          lined-lasting (portAt t m) (port-standing t s m g) l (f e) ∙ ap (λ (x : Port). lastingOf x) (at-same m e)))
+
+  settings-goes : (m : ℕ) → m < countIn t → (x : Settings) → ownFits (ownOf x) ≡ true → Goes t (afterSettings t m x) i
+  unfolding afterSettings afterOne
+  settings-goes m g x o = by (sameSettings x (portAt t m))
+    where
+      by : (b : Bool) → Goes t (cond b t (again t (worked (ours t) (set (ports t) m (configured x (portAt t m)))))) i
+      by true = unchanged t i
+      by false =
+          work-goes (set (ports t) m (configured x (portAt t m))) (settings-before t s m g x o)
+          (set-lasting m (configured x (portAt t m)) (λ e. configured-lasting x (portAt t m) ∙ ap (λ (y : Port). lastingOf y) (at-same m e)))
+
+  send-goes : (m : ℕ) → m < countIn t → Goes t (afterSend t m) i
+  unfolding afterSend
+  send-goes m g = record {
+    count = again-count t (set (ports t) m (sent (portAt t m)));
+    lasts =
+        ap (λ (x : Port). lastingOf x) (again-at t (set (ports t) m (sent (portAt t m))) (send-ports t s m g) i (decoded []) h)
+        ∙ set-lasting m (sent (portAt t m)) (λ e. sent-lasting (portAt t m) ∙ ap (λ (y : Port). lastingOf y) (at-same m e));
+  }
+
+  tick-goes : isExpired (portAt t i .phase .receive) && eqb (portAt t i .timers .current .0) 1 ≡ false → Goes t (afterTick t) i
+  unfolding afterTick
+  tick-goes e =
+      work-goes (map advanced (ports t)) (tick-before t s)
+      (ap (λ (x : Port). lastingOf x) (map-at advanced (ports t) i (decoded []) (decoded []) (in-ports t s i h))
+      ∙ ap (λ (x : Port). lastingOf (advanced x)) (ports-at t i (decoded []) h)
+      ∙ advanced-lasting (portAt t i) (port-standing t s i h .receive) e)
+
+  frame-goes : (n : ℕ) (frame out : List ℕ) → Octets frame → (a : Answer) → answer (receive n frame out) t ≡ a
+      → isLacpdu a && (eqb i (n - 1) || isDisplaced (blockOf (actorPart frame)) (portAt t i)) ≡ false → Goes t (afterFrame a t (n - 1) frame) i
+  frame-goes n frame out o Done e f = unchanged t i
+  frame-goes n frame out o Lacpdu e f = unfold afterHeard in
+      let x = heard-on t n frame out e in
+      let a = blockOf (actorPart frame) in
+      work-goes (displaced (n - 1) a (set (ports t) (n - 1) (heardAt t (n - 1) frame))) (heard-before t s (n - 1) (x .below) frame o (x .up) (x .full))
+      (ap (λ (y : Port). lastingOf y) (displaced-kept t s i h (n - 1) (heardAt t (n - 1) frame) a i h f))
+  frame-goes n frame out o Marker e f = unchanged t i
+  frame-goes n frame out o (Refused r) e f = unchanged t i
+
+  -- a test under an acceptance that holds
+  under : (a b : Bool) → a ≡ true → a && b ≡ false → b ≡ false
+  under true b e f = f
+  under false b e f = absurd (false≢true e)
+
+  half-at : (m : ℕ) (l : Port → Line) → eqb i m && toHalf (portAt t i .line) (l (portAt t i)) ≡ false
+      → eqb i m ≡ true → toHalf (portAt t m .line) (l (portAt t m)) ≡ false
+  half-at m l f e = ap (λ (p : Port). toHalf (p .line) (l p)) (at-same m e) ∙ under (eqb i m) (toHalf (portAt t i .line) (l (portAt t i))) e f
+
+  changed-goes : (c : Call) → Takes c → accepted (answer c t) ≡ true → ends c t i ≡ false → Goes t (changedBy c t) i
+  unfolding changedBy
+  changed-goes (start count system delay x) k e f = absurd (true≢false (sym e ∙ f))
+  changed-goes (receive n frame out) k e f = frame-goes n frame out (k .0) (answer (receive n frame out) t) refl f
+  changed-goes tick k e f = tick-goes f
+  changed-goes (link n up) k e f =
+      line-goes (n - 1) (unfold answer in named t n Done e) (record { up = up; full = portAt t (n - 1) .line .full })
+      (half-at (n - 1) (λ p. record { up = up; full = p .line .full }) (under (accepted (answer (link n up) t)) _ e f))
+  changed-goes (duplex n full) k e f =
+      line-goes (n - 1) (unfold answer in named t n Done e) (record { up = portAt t (n - 1) .line .up; full = full })
+      (half-at (n - 1) (λ p. record { up = p .line .up; full = full }) (under (accepted (answer (duplex n full) t)) _ e f))
+  changed-goes (configure n x) k e f = settings-goes (n - 1) (unfold answer in named t n (withDefault x Done) e) x k
+  changed-goes (fetch n out) k e f = send-goes (n - 1) (unfold answer in named t n (withRoom out (dueAnswer (due (portAt t (n - 1))))) e)
+  changed-goes (report n) k e f = unchanged t i
+  changed-goes (aggregator n) k e f = unchanged t i
+
+  unless-goes : (a : Answer) (u : List ℕ) → (accepted a ≡ true → Goes t u i) → Goes t (unless a t u) i
+  unless-goes Done u f = f refl
+  unless-goes Lacpdu u f = f refl
+  unless-goes Marker u f = f refl
+  unless-goes (Refused r) u f = unchanged t i
+
+  call-goes : (c : Call) → Takes c → ends c t i ≡ false → Goes t (after c t) i
+  call-goes c k f = unfold after in unless-goes (answer c t) (changedBy c t) (λ e. changed-goes c k e f)
+
+-- ---- runs
+
+run-live : (frame : List ℕ) (i : ℕ) (t : List ℕ) (cs : List Call) → Sound t → i < countIn t → Live frame (portAt t i) → AllTake cs → NoneEnds t i cs
+    → Live frame (portAt (run t cs) i)
+unfolding run
+run-live frame i t [] s h l k f = l
+run-live frame i t (c ∷ cs) s h l k f =
+    let g = call-goes t s i h c (k .0) (f .0) in
+    run-live frame i (after c t) cs (call-sound t s c (k .0)) (rw (g .count) h) (live-is frame (portAt t i) (portAt (after c t) i) (g .lasts) l) (k .1) (f .1)
+
+-- the frame itself, on the port that hears it
+module _ (t : List ℕ) (s : Sound t) (i : ℕ) (h : i < countIn t) (frame : List ℕ) where
+  own-kept : getD (displaced i (blockOf (actorPart frame)) (set (ports t) i (heardAt t i frame))) i (decoded []) ≡ heardAt t i frame
+  unfolding displaced displacedIf
+  own-kept =
+      let a = blockOf (actorPart frame) in
+      let q = heardAt t i frame in
+      let here : i < length (set (ports t) i q) = rw (length-set (ports t) i q, ports-length) h in
+      let z : 0 + i ≡ i = omega arith in
+      sweep-at (displacedIf i a) 0 (set (ports t) i q) i (decoded []) here
+      ∙ ap (λ (m : ℕ). displacedIf i a m (getD (set (ports t) i q) i (decoded []))) z
+      ∙ ap (λ (p : Port). displacedIf i a i p) (getD-set-same (ports t) i q (decoded []) (in-ports t s i h))
+      ∙ rw (eq-eqb i i refl)
+
+  begins : Octets frame → portAt t i .line .up ≡ true → portAt t i .line .full ≡ true → Live frame (portAt (afterHeard t i frame) i)
+  unfolding afterHeard
+  begins o u f =
+      let ps = displaced i (blockOf (actorPart frame)) (set (ports t) i (heardAt t i frame)) in
+      live-is frame (heardAt t i frame) (portAt (again t (worked (ours t) ps)) i)
+      (work-lasting t s ps (heard-before t s i h frame o u f) i h ∙ ap (λ (x : Port). lastingOf x) own-kept) (heard-live t i frame)
+
+  heard-count : countIn (afterHeard t i frame) ≡ countIn t
+  unfolding afterHeard
+  heard-count = again-count t (worked (ours t) (displaced i (blockOf (actorPart frame)) (set (ports t) i (heardAt t i frame))))
+
+-- what an accepted LACPDU leaves
+after-heard : (t : List ℕ) (n : ℕ) (frame out : List ℕ) → answer (receive n frame out) t ≡ Lacpdu → after (receive n frame out) t ≡ afterHeard t (n - 1) frame
+unfolding changedBy
+after-heard t n frame out e =
+    after-accepted t (receive n frame out) (ap accepted e) ∙ ap (λ (a : Answer). afterFrame a t (n - 1) frame) e
+
+pub live-partner : LivePartner
+live-partner t m n frame out k e cs takes none =
+    let s = never-stuck t m in
+    let x = heard-on t n frame out e in
+    let u = after (receive n frame out) t in
+    let is : u ≡ afterHeard t (n - 1) frame = after-heard t n frame out e in
+    let count : countIn u ≡ countIn t = ap (λ (l : List ℕ). countIn l) is ∙ heard-count t s (n - 1) (x .below) frame in
+    let first : Live frame (portAt u (n - 1)) = rw is (begins t s (n - 1) (x .below) frame (k .0) (x .up) (x .full)) in
+    run-live frame (n - 1) u cs (call-sound t s (receive n frame out) k) (rw count (x .below)) first takes none

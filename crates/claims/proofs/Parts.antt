@@ -1,0 +1,290 @@
+-- What rest of one port looks at: the receive machine's part of a record, the periodic machine's, and the mux's. A step that leaves a
+-- part as it was leaves its rest; a step of the periodic machine or of steps 3 to 6 leaves the parts of the others. Assumes nothing.
+use Prim.Native.Nat.{ℕ}
+use mathlib.Core.Path.{_≡_, refl, sym, ap, _∙_, subst}
+use mathlib.Core.Bool.{Bool, true, false, cond, not, _&&_, true≢false, false≢true}
+use borrow.Author.Tests.{eqb-true}
+use Rattle.machine.specs.declared.states.Line.{Line}
+use Rattle.machine.specs.declared.states.Ticks.{Ticks}
+use Rattle.machine.specs.declared.states.Receive.{Receive}
+use Rattle.machine.specs.declared.states.Periodic.{Periodic}
+use Rattle.machine.specs.declared.states.Periodic.the-variants.{NoPeriodic, FastPeriodic, SlowPeriodic, PeriodicTx}
+use Rattle.machine.specs.declared.states.Mux.{Mux}
+use Rattle.machine.specs.declared.states.Selection.the-variants.{Unselected, Selected}
+use Rattle.machine.specs.declared.receive.ReceiveStep.the-variants as receive
+use Rattle.machine.specs.Receive.{receiveNext}
+use Rattle.machine.specs.Periodic.{periodicNext}
+use Rattle.machine.specs.Mux.{isAttached, collects, distributes, waits}
+use Rattle.machine.specs.States.{quietOn, ticks}
+use Rattle.machine.specs.Time.{ranOut, longTimeoutTime, slowPeriodicTime, aggregateWaitTime}
+use Rattle.port.specs.declared.record.Port.{Port}
+use Rattle.port.specs.Record.{withAggregator, withSelected}
+use Rattle.port.specs.Receive.{receiveChoice}
+use Rattle.port.specs.Periodic.{quiet, periodicTaken, periodicEntered, periodicChoice, periodicStep, periodicRun}
+use Rattle.port.specs.Mux.{muxStep, muxRun, detached, placed, attachedIf}
+use Rattle.port.specs.Timing.{Timed, WaitTimed, usesCurrent, usesPace}
+use Rattle.port.proofs.PeriodicLaws.{periodic-rests, periodic-keeps}
+use Rattle.port.proofs.MuxLaws.{besideMux, mux-keeps, detached-keeps, placed-keeps, attached-keeps, BitsAgree, bits-kept}
+use Rattle.port.proofs.TransmitLaws.{quieted-keeps}
+use Rattle.port.proofs.TimerLaws.{pace-run, wait-step}
+use Rattle.trunk.specs.Settled.{mustMove, reselected, climbed}
+use Rattle.claims.specs.AtRest.{goesWith, Resting}
+
+-- ---- the three parts
+
+pub record ReceivePart : Type 0 where
+  pub line : Line
+  pub state : Receive
+  pub timer : Ticks
+  pub synced : Bool
+
+abbrev pub receivePart : Port → ReceivePart
+receivePart p = record { line = p .line; state = p .phase .receive; timer = p .timers .current; synced = p .partner .state .synchronization }
+
+pub record PeriodicPart : Type 0 where
+  pub line : Line
+  pub state : Periodic
+  pub timer : Ticks
+  pub active : Bool
+  pub partnerActive : Bool
+  pub short : Bool
+
+abbrev pub periodicPart : Port → PeriodicPart
+periodicPart p = record {
+  line = p .line;
+  state = p .phase .periodic;
+  timer = p .timers .periodic;
+  active = p .actor .activity;
+  partnerActive = p .partner .state .activity;
+  short = p .partner .state .timeout;
+}
+
+pub record MuxPart : Type 0 where
+  pub state : Mux
+  pub timer : Ticks
+  pub synchronization : Bool
+  pub collecting : Bool
+  pub distributing : Bool
+
+abbrev pub muxPart : Port → MuxPart
+muxPart p = record {
+  state = p .phase .mux;
+  timer = p .timers .wait;
+  synchronization = p .actor .synchronization;
+  collecting = p .actor .collecting;
+  distributing = p .actor .distributing;
+}
+
+-- ---- rest of each part
+
+pub record ReceiveRests (v : ReceivePart) : Type 0 where
+  pub state : goesWith (v .line) (v .state) ≡ true
+  pub unheard : v .line .up ≡ false → v .synced ≡ false
+  pub stays : receiveNext (v .state) (v .line .up) (v .line .full) (ranOut (v .timer)) ≡ receive.Stay
+  pub timed : Timed (usesCurrent (v .state)) longTimeoutTime (v .timer)
+
+abbrev pub PeriodicTimed : PeriodicPart → Type 0
+PeriodicTimed v = Timed (usesPace (v .state)) slowPeriodicTime (v .timer)
+
+pub record MuxAgrees (v : MuxPart) : Type 0 where
+  pub synchronization : v .synchronization ≡ isAttached (v .state)
+  pub collecting : v .collecting ≡ collects (v .state)
+  pub distributing : v .distributing ≡ distributes (v .state)
+  pub timed : Timed (waits (v .state)) aggregateWaitTime (v .timer)
+
+-- where the periodic machine is at rest: by its state, whether it is to be quiet, whether its timer has run out, the partner's Timeout
+abbrev pub calm : Periodic → Bool → Bool → Bool → Bool
+calm NoPeriodic q out short = q && out
+calm FastPeriodic q out short = not q && (not out && short)
+calm SlowPeriodic q out short = not q && (not out && not short)
+calm PeriodicTx q out short = false
+
+abbrev pub calmPart : PeriodicPart → Bool
+calmPart v = calm (v .state) (quietOn (v .line) (not (v .active) && not (v .partnerActive))) (ranOut (v .timer)) (v .short)
+
+-- all of them but for a periodic machine at rest
+pub record Standing (p : Port) : Type 0 where
+  pub receive : ReceiveRests (receivePart p)
+  pub timed : PeriodicTimed (periodicPart p)
+  pub mux : MuxAgrees (muxPart p)
+
+-- ---- the periodic machine is at rest exactly where its part is calm
+
+calm-if : (p : Port) (s : Periodic) (q out short : Bool) → p .phase .periodic ≡ s → ranOut (p .timers .periodic) ≡ out
+    → periodicTaken (periodicNext s q out short) p ≡ p → calm s q out short ≡ true
+calm-if p NoPeriodic true true short h t e = refl
+calm-if p NoPeriodic true false short h t e =
+    absurd (true≢false (ap (λ (x : Port). ranOut (x .timers .periodic)) e ∙ t))
+calm-if p NoPeriodic false out short h t e = let x : FastPeriodic ≡ NoPeriodic = ap (λ (x : Port). x .phase .periodic) e ∙ h in cc
+calm-if p FastPeriodic true out short h t e = let x : NoPeriodic ≡ FastPeriodic = ap (λ (x : Port). x .phase .periodic) e ∙ h in cc
+calm-if p FastPeriodic false true short h t e = let x : PeriodicTx ≡ FastPeriodic = ap (λ (x : Port). x .phase .periodic) e ∙ h in cc
+calm-if p FastPeriodic false false true h t e = refl
+calm-if p FastPeriodic false false false h t e = let x : SlowPeriodic ≡ FastPeriodic = ap (λ (x : Port). x .phase .periodic) e ∙ h in cc
+calm-if p SlowPeriodic true out short h t e = let x : NoPeriodic ≡ SlowPeriodic = ap (λ (x : Port). x .phase .periodic) e ∙ h in cc
+calm-if p SlowPeriodic false true short h t e = let x : PeriodicTx ≡ SlowPeriodic = ap (λ (x : Port). x .phase .periodic) e ∙ h in cc
+calm-if p SlowPeriodic false false true h t e = let x : PeriodicTx ≡ SlowPeriodic = ap (λ (x : Port). x .phase .periodic) e ∙ h in cc
+calm-if p SlowPeriodic false false false h t e = refl
+calm-if p PeriodicTx true out short h t e = let x : NoPeriodic ≡ PeriodicTx = ap (λ (x : Port). x .phase .periodic) e ∙ h in cc
+calm-if p PeriodicTx false out true h t e = let x : FastPeriodic ≡ PeriodicTx = ap (λ (x : Port). x .phase .periodic) e ∙ h in cc
+calm-if p PeriodicTx false out false h t e = let x : SlowPeriodic ≡ PeriodicTx = ap (λ (x : Port). x .phase .periodic) e ∙ h in cc
+
+pub rests-calm : (p : Port) → periodicStep p ≡ p → calmPart (periodicPart p) ≡ true
+unfolding periodicStep periodicChoice
+rests-calm p e = calm-if p (p .phase .periodic) (quiet p) (ranOut (p .timers .periodic)) (p .partner .state .timeout) refl refl e
+
+-- a port in NO_PERIODIC with its timer stopped
+entered-same : (p : Port) → p .phase .periodic ≡ NoPeriodic → p .timers .periodic .0 ≡ 0 → periodicEntered NoPeriodic p ≡ p
+entered-same p h t = λ i. record {
+  phase = record { receive = p .phase .receive; periodic = sym h i; mux = p .phase .mux; selected = p .phase .selected };
+  aggregator = p .aggregator;
+  ntt = p .ntt;
+  line = p .line;
+  actor = p .actor;
+  timers = record { current = p .timers .current; periodic = ticks (sym t i); wait = p .timers .wait };
+  ages = p .ages;
+  own = p .own;
+  partner = p .partner;
+}
+
+calm-then : (p : Port) (s : Periodic) (q out short : Bool) → p .phase .periodic ≡ s → ranOut (p .timers .periodic) ≡ out
+    → calm s q out short ≡ true → periodicTaken (periodicNext s q out short) p ≡ p
+calm-then p NoPeriodic true true short h t e = entered-same p h (eqb-true (p .timers .periodic .0) 0 t)
+calm-then p NoPeriodic true false short h t e = absurd (false≢true e)
+calm-then p NoPeriodic false out short h t e = absurd (false≢true e)
+calm-then p FastPeriodic true out short h t e = absurd (false≢true e)
+calm-then p FastPeriodic false true short h t e = absurd (false≢true e)
+calm-then p FastPeriodic false false true h t e = refl
+calm-then p FastPeriodic false false false h t e = absurd (false≢true e)
+calm-then p SlowPeriodic true out short h t e = absurd (false≢true e)
+calm-then p SlowPeriodic false true short h t e = absurd (false≢true e)
+calm-then p SlowPeriodic false false true h t e = absurd (false≢true e)
+calm-then p SlowPeriodic false false false h t e = refl
+calm-then p PeriodicTx q out short h t e = absurd (false≢true e)
+
+pub calm-rests : (p : Port) → calmPart (periodicPart p) ≡ true → periodicStep p ≡ p
+unfolding periodicStep periodicChoice
+calm-rests p e = calm-then p (p .phase .periodic) (quiet p) (ranOut (p .timers .periodic)) (p .partner .state .timeout) refl refl e
+
+-- ---- rest of a port, taken apart and put together
+
+pub resting-is : (p : Port) → Standing p → periodicStep p ≡ p → Resting p
+unfolding receiveChoice
+resting-is p s e = record {
+  state = s .receive .state;
+  unheard = s .receive .unheard;
+  receive = s .receive .stays;
+  periodic = e;
+  says = record { synchronization = s .mux .synchronization; collecting = s .mux .collecting; distributing = s .mux .distributing };
+  current = s .receive .timed;
+  pace = s .timed;
+  wait = s .mux .timed;
+}
+
+pub standing : (p : Port) → Resting p → Standing p
+unfolding receiveChoice
+standing p r = record {
+  receive = record { state = r .state; unheard = r .unheard; stays = r .receive; timed = r .current };
+  timed = r .pace;
+  mux = record {
+    synchronization = r .says .synchronization;
+    collecting = r .says .collecting;
+    distributing = r .says .distributing;
+    timed = r .wait;
+  };
+}
+
+-- ---- the periodic machine leaves the other parts
+
+pub periodic-standing : (p : Port) → Standing p → Resting (periodicRun p)
+periodic-standing p s =
+    resting-is (periodicRun p)
+    (record {
+      receive = subst ReceiveRests (sym (ap (λ (x : Port). receivePart x) (periodic-keeps p))) (s .receive);
+      timed = pace-run p (s .timed);
+      mux = subst MuxAgrees (sym (ap (λ (x : Port). muxPart x) (periodic-keeps p))) (s .mux);
+    })
+    (periodic-rests p)
+
+-- ---- steps 3 to 6 leave all but the mux part, Selected, the aggregator held and NTT
+
+abbrev pub besideSettled : Port → Port
+besideSettled p = withAggregator (withSelected (besideMux p) Unselected) 0
+
+abbrev aside : Port → Port
+aside p = withAggregator (withSelected p Unselected) 0
+
+pub reselected-beside : (k : ℕ) (p : Port) → besideSettled (reselected k p) ≡ besideSettled p
+unfolding reselected
+reselected-beside k p = by (mustMove k p)
+  where
+    by : (b : Bool) → besideSettled (cond b (placed k (detached p)) p) ≡ besideSettled p
+    by true = ap (λ (x : Port). aside x) (placed-keeps k (detached p)) ∙ ap (λ (x : Port). aside x) (detached-keeps p)
+    by false = refl
+
+pub attached-beside : (r : Bool) (p : Port) → besideSettled (attachedIf r p) ≡ besideSettled p
+attached-beside r p = ap (λ (x : Port). aside x) (attached-keeps r p)
+
+pub climbed-beside : (p : Port) → besideSettled (climbed p) ≡ besideSettled p
+unfolding climbed
+climbed-beside p = ap (λ (x : Port). besideSettled x) (quieted-keeps (muxRun p)) ∙ ap (λ (x : Port). aside x) (mux-keeps p)
+
+-- ---- and keep the mux part's bits and timer
+
+agrees : (p : Port) → MuxAgrees (muxPart p) → BitsAgree p
+agrees p h = record { synchronization = h .synchronization; collecting = h .collecting; distributing = h .distributing }
+
+mux-agrees : (p : Port) → BitsAgree p → WaitTimed p → MuxAgrees (muxPart p)
+mux-agrees p b t = record { synchronization = b .synchronization; collecting = b .collecting; distributing = b .distributing; timed = t }
+
+pub step-agrees : (r : Bool) (p : Port) → MuxAgrees (muxPart p) → MuxAgrees (muxPart (muxStep r p))
+step-agrees r p h = mux-agrees (muxStep r p) (bits-kept r p (agrees p h)) (wait-step r p (h .timed))
+
+reselected-agrees : (k : ℕ) (p : Port) → MuxAgrees (muxPart p) → MuxAgrees (muxPart (reselected k p))
+unfolding reselected placed detached
+reselected-agrees k p h = by (mustMove k p)
+  where
+    q : Port
+    q = withSelected p Unselected
+
+    by : (b : Bool) → MuxAgrees (muxPart (cond b (placed k (detached p)) p))
+    by true =
+        step-agrees false (withSelected (withAggregator (detached p) k) Selected)
+        (step-agrees false (muxStep false (muxStep false q)) (step-agrees false (muxStep false q) (step-agrees false q h)))
+    by false = h
+
+attached-agrees : (r : Bool) (p : Port) → MuxAgrees (muxPart p) → MuxAgrees (muxPart (attachedIf r p))
+unfolding attachedIf
+attached-agrees r p h = by (waits (p .phase .mux))
+  where
+    by : (b : Bool) → MuxAgrees (muxPart (cond b (muxStep r p) p))
+    by true = step-agrees r p h
+    by false = h
+
+climbed-agrees : (p : Port) → MuxAgrees (muxPart p) → MuxAgrees (muxPart (climbed p))
+unfolding climbed muxRun
+climbed-agrees p h =
+    let q = muxStep false (muxStep false p) in
+    subst MuxAgrees (sym (ap (λ (x : Port). muxPart x) (quieted-keeps q))) (step-agrees false (muxStep false p) (step-agrees false p h))
+
+-- ---- so they keep a port's rest
+
+beside-resting : (p q : Port) → besideSettled q ≡ besideSettled p → MuxAgrees (muxPart q) → Resting p → Resting q
+beside-resting p q e m r =
+    let s = standing p r in
+    let f = sym e in
+    resting-is q
+    (record {
+      receive = subst ReceiveRests (ap (λ (x : Port). receivePart x) f) (s .receive);
+      timed = subst PeriodicTimed (ap (λ (x : Port). periodicPart x) f) (s .timed);
+      mux = m;
+    })
+    (calm-rests q (ap (λ (x : Port). calmPart (periodicPart x)) e ∙ rests-calm p (r .periodic)))
+
+pub reselected-resting : (k : ℕ) (p : Port) → Resting p → Resting (reselected k p)
+reselected-resting k p r = beside-resting p (reselected k p) (reselected-beside k p) (reselected-agrees k p (standing p r .mux)) r
+
+pub attached-resting : (b : Bool) (p : Port) → Resting p → Resting (attachedIf b p)
+attached-resting b p r = beside-resting p (attachedIf b p) (attached-beside b p) (attached-agrees b p (standing p r .mux)) r
+
+pub climbed-resting : (p : Port) → Resting p → Resting (climbed p)
+climbed-resting p r = beside-resting p (climbed p) (climbed-beside p) (climbed-agrees p (standing p r .mux)) r

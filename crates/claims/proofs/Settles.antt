@@ -1,0 +1,238 @@
+-- Where steps 3 to 6 change nothing, said port by port, and back: each port is SELECTED, holds what the rule gives, waits for no Ready
+-- aggregator, and its mux machine and the clearing of NTT are at rest. So a send, which these do not read, keeps it. Assumes nothing.
+use Prim.Native.Nat.{ℕ, _<_}
+use mathlib.Core.Path.{_≡_, refl, sym, ap, _∙_}
+use mathlib.Core.Bool.{Bool, true, false, cond, _||_}
+use mathlib.Core.List.{List, [], _∷_, map}
+use lib.ListN.{length, getD, set, length-map, length-set}
+use lib.Seq.{ext-getD, getD-set-same, getD-set-other, map-set-same}
+use lib.Dec.{eqb}
+use borrow.Author.Tests.{eqb-true, eqb-false}
+use Rattle.frame.specs.declared.block.SystemId.{SystemId}
+use Rattle.machine.specs.declared.states.Mux.{Mux}
+use Rattle.machine.specs.declared.states.Mux.the-variants.{Detached, Waiting, Attached, Collecting, Distributing}
+use Rattle.machine.specs.declared.states.Selection.{Selection}
+use Rattle.machine.specs.declared.states.Selection.the-variants.{Selected}
+use Rattle.machine.specs.declared.mux.MuxStep.the-variants.{Stay}
+use Rattle.machine.specs.Mux.{muxNext, waits}
+use Rattle.port.specs.declared.record.Port.{Port}
+use Rattle.port.specs.Record.{withNtt}
+use Rattle.port.specs.Compared.{Compared, compared}
+use Rattle.port.specs.Mux.{muxTaken, muxChoice, muxStep, muxRun, attachedIf}
+use Rattle.port.specs.Transmit.{silent, quieted, sent}
+use Rattle.port.proofs.MuxLaws.{mux-rests, mux-idle, mux-keeps}
+use Rattle.port.proofs.TransmitLaws.{quieted-keeps, quieted-twice, besideSends}
+use Rattle.table.specs.Record.{decoded}
+use Rattle.trunk.specs.Selection.{ruleOf}
+use Rattle.trunk.specs.Ready.{waitsFor, hasWaiting, holdsBack, heldBack, ready}
+use Rattle.trunk.specs.Settled.{selectedAll, attachedAll, climbed, settled}
+use Rattle.trunk.proofs.TableWork.{map-at}
+use Rattle.trunk.proofs.ReadyLaws.{attached-other, attached-stays}
+use Rattle.trunk.proofs.SettledLaws.{reselected-stays, attached-holds, attached-length, attached-at, selected-length, selected-at, settled-at, settled-chosen, settled-rule}
+use Rattle.trunk.proofs.RestLaws.{climbed-twice, none-ready}
+
+-- ---- one port in step 6
+
+no-loop : (m : Mux) (sync coll : Bool) (p : Port) → p .phase .mux ≡ m → muxTaken (muxNext m Selected false sync coll) p ≡ p
+    → muxNext m Selected false sync coll ≡ Stay
+no-loop Detached sync coll p h e = let x : Waiting ≡ Detached = ap (λ (q : Port). q .phase .mux) e ∙ h in cc
+no-loop Waiting sync coll p h e = refl
+no-loop Attached true coll p h e = let x : Collecting ≡ Attached = ap (λ (q : Port). q .phase .mux) e ∙ h in cc
+no-loop Attached false coll p h e = refl
+no-loop Collecting true true p h e = let x : Distributing ≡ Collecting = ap (λ (q : Port). q .phase .mux) e ∙ h in cc
+no-loop Collecting true false p h e = refl
+no-loop Collecting false coll p h e = let x : Attached ≡ Collecting = ap (λ (q : Port). q .phase .mux) e ∙ h in cc
+no-loop Distributing true true p h e = refl
+no-loop Distributing true false p h e = let x : Collecting ≡ Distributing = ap (λ (q : Port). q .phase .mux) e ∙ h in cc
+no-loop Distributing false coll p h e = let x : Collecting ≡ Distributing = ap (λ (q : Port). q .phase .mux) e ∙ h in cc
+
+step-stays : (p : Port) → p .phase .selected ≡ Selected → muxStep false p ≡ p → muxChoice false p ≡ Stay
+unfolding muxStep muxChoice
+step-stays p s e =
+    let sync = p .partner .state .synchronization in
+    let coll = p .partner .state .collecting in
+    let taken : muxTaken (muxNext (p .phase .mux) Selected false sync coll) p ≡ p =
+    ap (λ (t : Selection). muxTaken (muxNext (p .phase .mux) t false sync coll) p) (sym s) ∙ e in
+    rw s (no-loop (p .phase .mux) sync coll p refl taken)
+
+quieted-chooses : (p : Port) → muxChoice false (quieted p) ≡ muxChoice false p
+unfolding muxChoice
+quieted-chooses p = ap (λ (x : Port). muxChoice false x) (quieted-keeps p)
+
+-- where step 6 changes nothing, the mux machine stays and NTT is clear where it is to be
+pub climbed-stays : (p : Port) → p .phase .selected ≡ Selected → climbed p ≡ p → muxChoice false p ≡ Stay
+unfolding climbed
+climbed-stays p s e =
+    let y = muxRun p in
+    let t : y .phase .selected ≡ Selected = ap (λ (x : Port). x .phase .selected) (mux-keeps p) ∙ s in
+    ap (muxChoice false) (sym e) ∙ quieted-chooses y ∙ step-stays y t (mux-rests p s)
+
+pub climbed-quiet : (p : Port) → climbed p ≡ p → quieted p ≡ p
+unfolding climbed
+climbed-quiet p e = ap quieted (sym e) ∙ quieted-twice (muxRun p) ∙ e
+
+pub climbed-is : (p : Port) → muxChoice false p ≡ Stay → quieted p ≡ p → climbed p ≡ p
+unfolding climbed
+climbed-is p c q = ap quieted (mux-idle p (stays p c)) ∙ q
+  where
+    stays : (p : Port) → muxChoice false p ≡ Stay → muxStep false p ≡ p
+    stays p c = unfold muxStep in rw c
+
+-- ---- one port in all of them: k is what the rule gives it, r what Ready says of each aggregator
+
+pub record Firm (k : ℕ) (r : ℕ → Bool) (p : Port) : Type 0 where
+  pub chosen : p .phase .selected ≡ Selected
+  pub rule : p .aggregator ≡ k
+  pub unready : waits (p .phase .mux) ≡ true → r (p .aggregator) ≡ false
+  pub stays : muxChoice false p ≡ Stay
+  pub quiet : quieted p ≡ p
+
+-- ---- a list
+
+abbrev pub Settles : SystemId → List Port → Type 0
+Settles ours ps = (i : ℕ) (d : Port) → i < length ps → Firm (ruleOf ours (map compared ps) i) (λ k. ready k ps) (getD ps i d)
+
+module _ (ours : SystemId) (ps : List Port) where
+  pub settles : settled ours ps ≡ ps → Settles ours ps
+  settles e i d h = record {
+    chosen = chosen;
+    rule = rule;
+    unready = rw e at (none-ready ours ps i d h);
+    stays = climbed-stays p chosen top;
+    quiet = climbed-quiet p top;
+  }
+    where
+      p : Port
+      p = getD ps i d
+
+      chosen : p .phase .selected ≡ Selected
+      chosen = rw e at (settled-chosen ours ps i d h)
+
+      rule : p .aggregator ≡ ruleOf ours (map compared ps) i
+      rule = rw e at (settled-rule ours ps i d h)
+
+      same : getD (selectedAll ours ps) i d ≡ p
+      same = selected-at ours ps i d h ∙ reselected-stays (ruleOf ours (map compared ps) i) p chosen rule
+
+      r : Bool
+      r = ready (getD (selectedAll ours ps) i d .aggregator) (selectedAll ours ps)
+
+      from : p ≡ climbed (attachedIf r p)
+      from = ap (λ (l : List Port). getD l i d) (sym e) ∙ settled-at ours ps i d h ∙ ap (λ (x : Port). climbed (attachedIf r x)) same
+
+      top : climbed p ≡ p
+      top = ap climbed from ∙ climbed-twice (attachedIf r p) (attached-holds r p .0 ∙ chosen) ∙ sym from
+
+  module _ (f : Settles ours ps) where
+    selected-same : selectedAll ours ps ≡ ps
+    selected-same =
+        ext-getD (decoded []) (selectedAll ours ps) ps (selected-length ours ps)
+        (λ i k. let h : i < length ps = rw (selected-length ours ps) at k in
+        let q = f i (decoded []) h in
+        selected-at ours ps i (decoded []) h ∙ reselected-stays (ruleOf ours (map compared ps) i) (getD ps i (decoded [])) (q .chosen) (q .rule))
+
+    attached-same : attachedAll ps ≡ ps
+    attached-same =
+        ext-getD (decoded []) (attachedAll ps) ps (attached-length ps)
+        (λ i k. let h : i < length ps = rw (attached-length ps) at k in
+        attached-at ps i (decoded []) h ∙ by i h (waits (getD ps i (decoded []) .phase .mux)) refl)
+      where
+        by : (i : ℕ) → i < length ps → (b : Bool) → waits (getD ps i (decoded []) .phase .mux) ≡ b
+            → attachedIf (ready (getD ps i (decoded []) .aggregator) ps) (getD ps i (decoded [])) ≡ getD ps i (decoded [])
+        by i h true w =
+            let q = f i (decoded []) h in
+            rw (q .unready w) (attached-stays (getD ps i (decoded [])) w (q .chosen))
+        by i h false w = attached-other (ready (getD ps i (decoded []) .aggregator) ps) (getD ps i (decoded [])) w
+
+    climbed-same : map climbed ps ≡ ps
+    climbed-same =
+        ext-getD (decoded []) (map climbed ps) ps (length-map ps climbed)
+        (λ i k. let h : i < length ps = rw (length-map ps climbed) at k in
+        let q = f i (decoded []) h in
+        map-at climbed ps i (decoded []) (decoded []) h ∙ climbed-is (getD ps i (decoded [])) (q .stays) (q .quiet))
+
+    pub settles-is : settled ours ps ≡ ps
+    unfolding settled
+    settles-is = ap (λ (l : List Port). map climbed (attachedAll l)) selected-same ∙ ap (map climbed) attached-same ∙ climbed-same
+
+-- ---- a send
+
+if-quiet : (b : Bool) (p : Port) → cond b (withNtt (sent p) false) (sent p) ≡ sent p
+unfolding sent
+if-quiet true p = refl
+if-quiet false p = refl
+
+sent-quiet : (p : Port) → quieted (sent p) ≡ sent p
+unfolding quieted
+sent-quiet p = if-quiet (silent (sent p)) p
+
+sent-chooses : (p : Port) → muxChoice false (sent p) ≡ muxChoice false p
+unfolding muxChoice sent
+sent-chooses p = refl
+
+sent-firm : (k : ℕ) (r : ℕ → Bool) (p : Port) → Firm k r p → Firm k r (sent p)
+unfolding sent
+sent-firm k r p f = record {
+  chosen = f .chosen;
+  rule = f .rule;
+  unready = f .unready;
+  stays = sent-chooses p ∙ f .stays;
+  quiet = sent-quiet p;
+}
+
+firm-as : (k m : ℕ) (r s : ℕ → Bool) (p : Port) → k ≡ m → ((n : ℕ) → r n ≡ s n) → Firm k r p → Firm m s p
+firm-as k m r s p e g f = record {
+  chosen = f .chosen;
+  rule = f .rule ∙ e;
+  unready = λ w. sym (g (p .aggregator)) ∙ f .unready w;
+  stays = f .stays;
+  quiet = f .quiet;
+}
+
+-- Ready does not read what a send changes
+waiting-beside : (k : ℕ) (ps : List Port) → hasWaiting k (map besideSends ps) ≡ hasWaiting k ps
+unfolding hasWaiting waitsFor
+waiting-beside k [] = refl
+waiting-beside k (p ∷ ps) = ap (λ (b : Bool). waitsFor k p || b) (waiting-beside k ps)
+
+held-beside : (k : ℕ) (ps : List Port) → heldBack k (map besideSends ps) ≡ heldBack k ps
+unfolding heldBack holdsBack waitsFor
+held-beside k [] = refl
+held-beside k (p ∷ ps) = ap (λ (b : Bool). holdsBack k p || b) (held-beside k ps)
+
+ready-beside : (k : ℕ) (ps : List Port) → ready k (map besideSends ps) ≡ ready k ps
+unfolding ready
+ready-beside k ps = rw (waiting-beside k ps, held-beside k ps)
+
+module _ (ours : SystemId) (ps : List Port) (n : ℕ) (d : Port) (f : Settles ours ps) where
+  qs : List Port
+  qs = set ps n (sent (getD ps n d))
+
+  sends-same : map besideSends qs ≡ map besideSends ps
+  unfolding qs sent
+  sends-same = map-set-same (λ (p : Port). besideSends p) ps n (sent (getD ps n d)) d refl
+
+  compared-same : map compared qs ≡ map compared ps
+  unfolding qs sent
+  compared-same = map-set-same (λ (p : Port). compared p) ps n (sent (getD ps n d)) d refl
+
+  ready-same : (k : ℕ) → ready k ps ≡ ready k qs
+  ready-same k = sym (ready-beside k ps) ∙ ap (ready k) (sym sends-same) ∙ ready-beside k qs
+
+  -- where steps 3 to 6 change nothing, they change nothing after a send
+  pub sent-settles : Settles ours (set ps n (sent (getD ps n d)))
+  unfolding qs
+  sent-settles i c k =
+      firm-as (ruleOf ours (map compared ps) i) (ruleOf ours (map compared qs) i) (λ j. ready j ps) (λ j. ready j qs) (getD qs i c)
+      (ap (λ (l : List Compared). ruleOf ours l i) (sym compared-same)) ready-same (by (eqb i n) refl)
+    where
+      h : i < length ps
+      h = rw (length-set ps n (sent (getD ps n d))) at k
+
+      by : (b : Bool) → eqb i n ≡ b → Firm (ruleOf ours (map compared ps) i) (λ j. ready j ps) (getD qs i c)
+      by true x =
+          let is : i ≡ n = eqb-true i n x in
+          let less : n < length ps = rw is at h in
+          let this : getD qs i c ≡ sent (getD ps i d) = rw is (getD-set-same ps n (sent (getD ps n d)) c less) in
+          rw this (sent-firm (ruleOf ours (map compared ps) i) (λ j. ready j ps) (getD ps i d) (f i d h))
+      by false x = rw (getD-set-other ps n i (sent (getD ps n d)) c (eqb-false i n x)) (f i c h)

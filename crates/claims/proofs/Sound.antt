@@ -1,0 +1,277 @@
+-- Each piece of work leaves a sound table of a sound one, and start makes one. Before settling, it leaves records in range whose receive
+-- machines rest; the periodic machines and steps 3 to 6 bring the others to rest and keep the range. Assumes nothing.
+use Prim.Native.Nat.{ℕ, _+_, _<_, _≤_}
+use mathlib.Core.Path.{_≡_, refl, sym, ap, _∙_, subst}
+use mathlib.Core.Bool.{Bool, true, false, cond, not, _&&_}
+use mathlib.Core.List.{List, [], map}
+use native.Mathlib.Omega.{arith}
+use lib.ListN.{length, getD, set, replicate, length-map, length-set, length-replicate}
+use lib.Dec.{eqb}
+use Rattle.frame.specs.declared.block.Block.{Block}
+use Rattle.frame.specs.declared.block.SystemId.{SystemId}
+use Rattle.frame.specs.Block.{blockOf}
+use Rattle.frame.specs.Wire.{actorPart, partnerPart}
+use Rattle.machine.specs.declared.states.Line.{Line}
+use Rattle.machine.specs.States.{sameLine}
+use Rattle.port.specs.declared.record.Port.{Port}
+use Rattle.port.specs.Receive.{lined, moved}
+use Rattle.port.specs.Periodic.{periodicRun}
+use Rattle.port.specs.Transmit.{sent, ticked}
+use Rattle.settings.specs.declared.Settings.{Settings}
+use Rattle.settings.specs.Settings.{configured, sameSettings, started, ownOf}
+use Rattle.table.specs.declared.layout.Header.{Header}
+use Rattle.table.specs.Layout.{headerOf, mostPorts}
+use Rattle.table.specs.Record.{decoded}
+use Rattle.table.specs.Range.{portInRange, portsInRange, headerFits, ownFits}
+use Rattle.table.specs.Table.{countIn, portAt, ports, tableOctets}
+use Rattle.table.proofs.RangeLaws.{both, within-is}
+use Rattle.table.proofs.TableLaws.{in-range, in-range-is}
+use Rattle.table.proofs.StoreLaws.{ports-length, ports-at}
+use Rattle.table.proofs.MadeLaws.{ports-ranged-at, ports-ranged, table-ports-ranged, header-fits, made-ports, made-header, made-in-range, made-octets}
+use Rattle.trunk.specs.Settled.{settled}
+use Rattle.trunk.specs.Advanced.{advanced}
+use Rattle.trunk.specs.Displaced.{isDisabled, isDisplaced, displacedIf, displaced}
+use Rattle.trunk.proofs.SweepLaws.{sweep-length}
+use Rattle.trunk.proofs.SettledLaws.{settled-length}
+use Rattle.trunk.proofs.RestLaws.{settled-twice}
+use Rattle.trunk.proofs.RangeKept.{reselected-ranged, attached-ranged, climbed-ranged, displaced-ranged}
+use Rattle.trunk.proofs.AdvanceRange.{ticked-ranged, periodic-ranged, receive-ranged}
+use Rattle.work.specs.Work.{ours, again, worked, afterOne, afterStart, heardAt, afterHeard, afterTick, afterLine, afterSettings, afterSend}
+use Rattle.work.proofs.RangeWork.{part-fits, received-ranged, lined-ranged, configured-ranged, sent-ranged, started-ranged}
+use Rattle.claims.specs.Run.{Octets}
+use Rattle.claims.specs.AtRest.{Resting, AtRest, Sound}
+use Rattle.claims.proofs.Lists.{Each, each-map, each-sweep, each-set, each-alike, each-settled}
+use Rattle.claims.proofs.Parts.{Standing, standing, periodic-standing, reselected-resting, attached-resting, climbed-resting}
+use Rattle.claims.proofs.Steps.{advanced-standing, received-standing, moved-standing, disabled-down, lined-standing, configured-standing, sent-resting, started-resting}
+use Rattle.claims.proofs.Settles.{Settles, settles, settles-is, sent-settles}
+
+-- ---- lists of records
+
+abbrev pub Fits : ℕ → Port → Type 0
+Fits count p = portInRange count p ≡ true
+
+pub settled-fits : (count : ℕ) (s : SystemId) (ps : List Port) → length ps ≡ count → Each (Fits count) ps → Each (Fits count) (settled s ps)
+settled-fits count s ps n e =
+    each-settled (Fits count) s ps
+    (λ k p a b h. reselected-ranged count k p (within-is 1 k count a (omega arith)) h)
+    (λ r p h. attached-ranged count r p h)
+    (λ p h. climbed-ranged count p h) e
+
+pub settled-resting : (s : SystemId) (ps : List Port) → Each Resting ps → Each Resting (settled s ps)
+settled-resting s ps e =
+    each-settled Resting s ps (λ k p a b h. reselected-resting k p h) (λ r p h. attached-resting r p h) (λ p h. climbed-resting p h) e
+
+pub settled-at-rest : (s : SystemId) (ps : List Port) → Each Resting ps → AtRest s (settled s ps)
+settled-at-rest s ps e = record { each = settled-resting s ps e; together = settled-twice s ps }
+
+pub worked-length : (s : SystemId) (ps : List Port) → length (worked s ps) ≡ length ps
+unfolding worked
+worked-length s ps = settled-length s (map periodicRun ps) ∙ length-map ps periodicRun
+
+pub worked-fits : (count : ℕ) (s : SystemId) (ps : List Port) → length ps ≡ count → Each (Fits count) ps → Each (Fits count) (worked s ps)
+unfolding worked
+worked-fits count s ps n e =
+    settled-fits count s (map periodicRun ps) (length-map ps periodicRun ∙ n)
+    (each-map (Fits count) (Fits count) periodicRun ps (λ p h. periodic-ranged count p h) e)
+
+pub worked-at-rest : (s : SystemId) (ps : List Port) → Each Standing ps → AtRest s (worked s ps)
+unfolding worked
+worked-at-rest s ps e = settled-at-rest s (map periodicRun ps) (each-map Standing Resting periodicRun ps (λ p h. periodic-standing p h) e)
+
+-- ---- tables
+
+ranged-list : (count : ℕ) (ps : List Port) → Each (Fits count) ps → portsInRange count ps ≡ true
+ranged-list count ps e = ports-ranged count ps (decoded []) (λ i h. e i (decoded []) h)
+
+module _ (h : Header) (qs : List Port) (n : h .count ≡ length qs) (r : Each (Fits (h .count)) qs) where
+  list-ranged : portsInRange (length qs) qs ≡ true
+  list-ranged = ranged-list (length qs) qs (rw n at r)
+
+  pub octets-ports : ports (tableOctets h qs) ≡ qs
+  octets-ports = made-ports h qs n list-ranged
+
+  pub octets-sound : headerFits h ≡ true → 1 ≤ h .count → h .count ≤ mostPorts → AtRest (h .system) qs → Sound (tableOctets h qs)
+  octets-sound f some few a =
+      let least : 1 ≤ length qs = rw n at some in
+      let most : length qs ≤ mostPorts = rw n at few in
+      record {
+        ranged = in-range-is (tableOctets h qs) (made-in-range h qs n list-ranged least most);
+        octets = made-octets h qs n list-ranged f most;
+        rest = subst (λ (x : SystemId). AtRest x (ports (tableOctets h qs))) (sym (ap (λ (x : Header). x .system) (made-header h qs))) (rw octets-ports a);
+      }
+
+-- ---- a sound table with other records
+
+module _ (t : List ℕ) (s : Sound t) where
+  pub table-fits : Each (Fits (countIn t)) (ports t)
+  table-fits i d h = ports-ranged-at (countIn t) (ports t) (table-ports-ranged t (in-range t (s .ranged)) (s .octets)) i d h
+
+  pub table-standing : Each Standing (ports t)
+  table-standing i d h = standing (getD (ports t) i d) (s .rest .each i d h)
+
+  -- one of its records
+  module _ (i : ℕ) (h : i < countIn t) where
+    pub in-ports : i < length (ports t)
+    in-ports = rw ports-length h
+
+    pub port-fits : Fits (countIn t) (portAt t i)
+    port-fits = rw (ports-at t i (decoded []) h) at (table-fits i (decoded []) in-ports)
+
+    pub port-resting : Resting (portAt t i)
+    port-resting = rw (ports-at t i (decoded []) h) at (s .rest .each i (decoded []) in-ports)
+
+    pub port-standing : Standing (portAt t i)
+    port-standing = standing (portAt t i) port-resting
+
+  module _ (qs : List Port) (n : length qs ≡ countIn t) (r : Each (Fits (countIn t)) qs) where
+    pub again-ports : ports (again t qs) ≡ qs
+    again-ports = octets-ports (headerOf t) qs (sym n) r
+
+    pub again-sound : AtRest (ours t) qs → Sound (again t qs)
+    again-sound a =
+        let g = in-range t (s .ranged) in
+        octets-sound (headerOf t) qs (sym n) r (header-fits t (s .octets)) (g .least) (g .most) a
+
+-- the records that a call leaves before settling
+pub record Before (t : List ℕ) (ps : List Port) : Type 0 where
+  pub size : length ps ≡ countIn t
+  pub fits : Each (Fits (countIn t)) ps
+  pub stands : Each Standing ps
+
+module _ (t : List ℕ) (s : Sound t) (ps : List Port) (b : Before t ps) where
+  pub work-ports : ports (again t (worked (ours t) ps)) ≡ worked (ours t) ps
+  work-ports =
+      again-ports t s (worked (ours t) ps) (worked-length (ours t) ps ∙ b .size) (worked-fits (countIn t) (ours t) ps (b .size) (b .fits))
+
+  pub work-sound : Sound (again t (worked (ours t) ps))
+  work-sound =
+      again-sound t s (worked (ours t) ps) (worked-length (ours t) ps ∙ b .size) (worked-fits (countIn t) (ours t) ps (b .size) (b .fits))
+      (worked-at-rest (ours t) ps (b .stands))
+
+-- ---- each piece of work
+
+-- a port that is displaced has its link down
+displaced-standing : (r : ℕ) (a : Block) (i : ℕ) (p : Port) → Standing p → Standing (displacedIf r a i p)
+unfolding displacedIf isDisplaced
+displaced-standing r a i p s = by (not (eqb i r) && isDisplaced a p) refl
+  where
+    by : (b : Bool) → not (eqb i r) && isDisplaced a p ≡ b → Standing (cond b (moved p) p)
+    by true e =
+        let x = both (not (eqb i r)) (isDisplaced a p) e .1 in
+        let y = both (isDisabled (p .phase .receive)) _ x .0 in
+        moved-standing p (disabled-down (p .line) (p .phase .receive) (s .receive .state) y) s
+    by false e = s
+
+module _ (t : List ℕ) (s : Sound t) where
+  pub tick-before : Before t (map advanced (ports t))
+  tick-before = record {
+    size = length-map (ports t) advanced ∙ ports-length t;
+    fits = each-map (Fits (countIn t)) (Fits (countIn t)) advanced (ports t) (λ p h. advanced-fits p h) (table-fits t s);
+    stands = each-map Standing Standing advanced (ports t) (λ p h. advanced-standing p h) (table-standing t s);
+  }
+    where
+      advanced-fits : (p : Port) → Fits (countIn t) p → Fits (countIn t) (advanced p)
+      advanced-fits p h = unfold advanced in receive-ranged (countIn t) (ticked p) (ticked-ranged (countIn t) p h)
+
+  -- one port becomes q
+  pub one-before : (i : ℕ) (q : Port) → Fits (countIn t) q → Standing q → Before t (set (ports t) i q)
+  one-before i q f k = record {
+    size = length-set (ports t) i q ∙ ports-length t;
+    fits = each-set (Fits (countIn t)) (ports t) i q f (table-fits t s);
+    stands = each-set Standing (ports t) i q k (table-standing t s);
+  }
+
+  module _ (i : ℕ) (h : i < countIn t) where
+    pub line-before : (l : Line) → Before t (set (ports t) i (lined l (portAt t i)))
+    line-before l =
+        one-before i (lined l (portAt t i)) (lined-ranged (countIn t) l (portAt t i) (port-fits t s i h))
+        (lined-standing (portAt t i) (port-standing t s i h) l)
+
+    pub settings-before : (c : Settings) → ownFits (ownOf c) ≡ true → Before t (set (ports t) i (configured c (portAt t i)))
+    settings-before c f =
+        one-before i (configured c (portAt t i)) (configured-ranged (countIn t) c (portAt t i) f (port-fits t s i h))
+        (configured-standing c (portAt t i) (port-standing t s i h))
+
+    module _ (frame : List ℕ) (o : Octets frame) (u : portAt t i .line .up ≡ true) (f : portAt t i .line .full ≡ true) where
+      heard-one : Before t (set (ports t) i (heardAt t i frame))
+      unfolding heardAt
+      heard-one =
+          let a = blockOf (actorPart frame) in
+          let b = blockOf (partnerPart frame) in
+          one-before i (heardAt t i frame) (received-ranged (countIn t) (ours t) (i + 1) a b (portAt t i) (part-fits 18 33 frame o) (port-fits t s i h))
+          (received-standing (ours t) (i + 1) a b (portAt t i) u f (port-standing t s i h))
+
+      pub heard-before : Before t (displaced i (blockOf (actorPart frame)) (set (ports t) i (heardAt t i frame)))
+      unfolding displaced
+      heard-before =
+          let a = blockOf (actorPart frame) in
+          let ps = set (ports t) i (heardAt t i frame) in
+          record {
+            size = sweep-length (displacedIf i a) 0 ps ∙ heard-one .size;
+            fits =
+                each-sweep (Fits (countIn t)) (Fits (countIn t)) (displacedIf i a) ps
+                (λ j p k e. displaced-ranged (countIn t) i a j p e) (heard-one .fits);
+            stands = each-sweep Standing Standing (displacedIf i a) ps (λ j p k e. displaced-standing i a j p e) (heard-one .stands);
+          }
+
+    -- a send
+    pub sent-same : set (ports t) i (sent (getD (ports t) i (decoded []))) ≡ set (ports t) i (sent (portAt t i))
+    sent-same = ap (λ (p : Port). set (ports t) i (sent p)) (ports-at t i (decoded []) h)
+
+    sent-size : length (set (ports t) i (sent (portAt t i))) ≡ countIn t
+    sent-size = length-set (ports t) i (sent (portAt t i)) ∙ ports-length t
+
+    sent-fits : Each (Fits (countIn t)) (set (ports t) i (sent (portAt t i)))
+    sent-fits =
+        each-set (Fits (countIn t)) (ports t) i (sent (portAt t i)) (sent-ranged (countIn t) (portAt t i) (port-fits t s i h)) (table-fits t s)
+
+    sent-at-rest : AtRest (ours t) (set (ports t) i (sent (portAt t i)))
+    sent-at-rest = record {
+      each = each-set Resting (ports t) i (sent (portAt t i)) (sent-resting (portAt t i) (port-resting t s i h)) (s .rest .each);
+      together =
+          settles-is (ours t) (set (ports t) i (sent (portAt t i)))
+          (subst (Settles (ours t)) sent-same (sent-settles (ours t) (ports t) i (decoded []) (settles (ours t) (ports t) (s .rest .together))));
+    }
+
+    pub send-ports : ports (afterSend t i) ≡ set (ports t) i (sent (portAt t i))
+    unfolding afterSend
+    send-ports = again-ports t s (set (ports t) i (sent (portAt t i))) sent-size sent-fits
+
+    pub send-sound : Sound (afterSend t i)
+    unfolding afterSend
+    send-sound = again-sound t s (set (ports t) i (sent (portAt t i))) sent-size sent-fits sent-at-rest
+
+    pub line-sound : (l : Line) → Sound (afterLine t i l)
+    unfolding afterLine afterOne
+    line-sound l = by (sameLine l (portAt t i .line))
+      where
+        by : (b : Bool) → Sound (cond b t (again t (worked (ours t) (set (ports t) i (lined l (portAt t i))))))
+        by true = s
+        by false = work-sound t s (set (ports t) i (lined l (portAt t i))) (line-before l)
+
+    pub settings-sound : (c : Settings) → ownFits (ownOf c) ≡ true → Sound (afterSettings t i c)
+    unfolding afterSettings afterOne
+    settings-sound c f = by (sameSettings c (portAt t i))
+      where
+        by : (b : Bool) → Sound (cond b t (again t (worked (ours t) (set (ports t) i (configured c (portAt t i))))))
+        by true = s
+        by false = work-sound t s (set (ports t) i (configured c (portAt t i))) (settings-before c f)
+
+    pub heard-sound : (frame : List ℕ) → Octets frame → portAt t i .line .up ≡ true → portAt t i .line .full ≡ true → Sound (afterHeard t i frame)
+    unfolding afterHeard
+    heard-sound frame o u f =
+        work-sound t s (displaced i (blockOf (actorPart frame)) (set (ports t) i (heardAt t i frame))) (heard-before frame o u f)
+
+  pub tick-sound : Sound (afterTick t)
+  unfolding afterTick
+  tick-sound = work-sound t s (map advanced (ports t)) tick-before
+
+-- start makes a sound table
+pub start-sound : (h : Header) (c : Settings) → headerFits h ≡ true → ownFits (ownOf c) ≡ true → 1 ≤ h .count → h .count ≤ mostPorts → Sound (afterStart h c)
+unfolding afterStart
+start-sound h c f o some few =
+    let ps = replicate (h .count) (started c) in
+    let n : length ps ≡ h .count = length-replicate (h .count) (started c) in
+    octets-sound h (settled (h .system) ps) (sym (settled-length (h .system) ps ∙ n))
+    (settled-fits (h .count) (h .system) ps n (each-alike (Fits (h .count)) (h .count) (started c) (started-ranged (h .count) c some o)))
+    f some few (settled-at-rest (h .system) ps (each-alike Resting (h .count) (started c) (started-resting c)))

@@ -1,0 +1,69 @@
+-- Runs: what a table can become by calls. A table is made if some accepted start on some memory, and then any list of calls, leaves it:
+-- refused calls and further starts included.
+use Prim.Native.Nat.{ℕ, _<_}
+use mathlib.Core.Path.{_≡_}
+use mathlib.Core.Bool.{Bool, true, false}
+use mathlib.Core.List.{List, [], _∷_}
+use lib.ListN.{getD}
+use Rattle.frame.specs.declared.block.SystemId.{SystemId}
+use Rattle.frame.specs.declared.wire.TensOfMicroseconds.{TensOfMicroseconds}
+use Rattle.settings.specs.declared.Settings.{Settings}
+use Rattle.settings.specs.Settings.{ownOf}
+use Rattle.table.specs.Range.{headerFits, ownFits}
+use Rattle.control.specs.declared.answer.Answer.{Answer}
+use Rattle.control.specs.declared.answer.Answer.the-variants.{Done, Lacpdu, Marker, Refused}
+use Rattle.control.specs.Call.{Call, start, receive, tick, link, duplex, configure, fetch, report, aggregator}
+use Rattle.control.specs.After.{answer, after}
+
+-- every element is an octet
+abbrev pub Octets : List ℕ → Type 0
+Octets l = (i : ℕ) → getD l i 0 < 256
+
+-- the arguments that the program's types can hold: octets are octets, and numbers fit their two octets
+abbrev pub Takes : Call → Type 0
+Takes (start count system delay s) =
+    (headerFits (record { count = count; system = system; delay = delay }) ≡ true) × (ownFits (ownOf s) ≡ true)
+Takes (receive n frame out) = Octets frame × Octets out
+Takes tick = Unit
+Takes (link n up) = Unit
+Takes (duplex n full) = Unit
+Takes (configure n s) = ownFits (ownOf s) ≡ true
+Takes (fetch n out) = Octets out
+Takes (report n) = Unit
+Takes (aggregator k) = Unit
+
+abbrev pub AllTake : List Call → Type 0
+AllTake [] = Unit
+AllTake (c ∷ cs) = Takes c × AllTake cs
+
+-- every answer but a refusal
+abbrev pub accepted : Answer → Bool
+accepted Done = true
+accepted Lacpdu = true
+accepted Marker = true
+accepted (Refused r) = false
+
+-- an accepted LACPDU
+abbrev pub isLacpdu : Answer → Bool
+isLacpdu Done = false
+isLacpdu Lacpdu = true
+isLacpdu Marker = false
+isLacpdu (Refused r) = false
+
+-- call after call
+unfoldable pub run : List ℕ → List Call → List ℕ
+run t [] = t
+run t (c ∷ cs) = run (after c t) cs
+
+pub record Made (t : List ℕ) : Type 0 where
+  pub memory : List ℕ
+  pub octets : Octets memory
+  pub count : ℕ
+  pub system : SystemId
+  pub delay : TensOfMicroseconds
+  pub settings : Settings
+  pub takes : Takes (start count system delay settings)
+  pub starts : accepted (answer (start count system delay settings) memory) ≡ true
+  pub calls : List Call
+  pub allTake : AllTake calls
+  pub gives : run (after (start count system delay settings) memory) calls ≡ t
