@@ -56,6 +56,10 @@ on-port t n rest e =
     less : (n c : ℕ) → 1 ≤ n → n ≤ c → n - 1 < c
     less n c a b = omega arith
 
+-- the memory of an accepted call on a port is a table
+pub in-table : (t : List ℕ) (n : ℕ) (rest : Answer) → accepted (onPort t n rest) ≡ true → tableInRange t ≡ true
+in-table t n rest e = if-accepted (tableInRange t) (cond (isNumber t n) rest (Refused reason.Number)) reason.Table e .0
+
 -- which port an accepted call on a port names
 pub named : (t : List ℕ) (n : ℕ) (rest : Answer) → accepted (onPort t n rest) ≡ true → n - 1 < countIn t
 named t n rest e = on-port t n rest e .0 .below

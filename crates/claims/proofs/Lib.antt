@@ -9,3 +9,5 @@ pub mod Rule
 pub mod Lag
 pub mod Locality
 pub mod LivePartner
+pub mod Reports
+pub mod ReadBack

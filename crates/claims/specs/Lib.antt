@@ -5,3 +5,5 @@ pub mod Lag
 pub mod Claims
 pub mod Locality
 pub mod LivePartner
+pub mod Reports
+pub mod ReadBack

@@ -15,16 +15,7 @@ use lib.Seq.{drop-cons, drop-length}
 use borrow.Author.Tests.{ne-eqb}
 use Rattle.frame.specs.State.{weighed}
 use Rattle.port.specs.declared.record.Port.{Port}
-use Rattle.report.specs.Sets.{setOf, lowestOf}
-
--- how many records pass a test
-unfoldable pub counted : (Port → Bool) → List Port → ℕ
-counted f [] = 0
-counted f (p ∷ ps) = weighed (f p) 1 + counted f ps
-
--- whether bit i of a set is set
-unfoldable pub member : ℕ → ℕ → Bool
-member x i = eqb (x / 2 ^ i % 2) 1
+use Rattle.report.specs.Sets.{setOf, lowestOf, counted, member}
 
 -- ---- the lowest bit of a set, and the half
 

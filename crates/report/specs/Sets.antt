@@ -1,5 +1,5 @@
 -- The aggregator report (document 01): the ports that hold an aggregator, are attached to it and distribute, as sets of ports.
-use Prim.Native.Nat.{ℕ, _+_, _*_}
+use Prim.Native.Nat.{ℕ, _+_, _*_, _/_, _%_, _^_}
 use mathlib.Core.Bool.{Bool, cond, _&&_}
 use mathlib.Core.List.{List, [], _∷_}
 use lib.Dec.{eqb}
@@ -35,3 +35,14 @@ setsOf k ps = record {
   count = ones (setOf (stands Distributes k) ps);
   lowest = lowestOf (setOf (stands Distributes k) ps);
 }
+
+-- ---- what a set and a count say
+
+-- the number of ports that pass a test
+unfoldable pub counted : (Port → Bool) → List Port → ℕ
+counted f [] = 0
+counted f (p ∷ ps) = weighed (f p) 1 + counted f ps
+
+-- whether port i, from 0, is in a set: its bit
+unfoldable pub member : ℕ → ℕ → Bool
+member x i = eqb (x / 2 ^ i % 2) 1

@@ -1,0 +1,37 @@
+-- What the two reports say, against the records.
+use Prim.Native.Nat.{ℕ, _+_, _-_, _<_, _≤_}
+use mathlib.Core.Path.{_≡_}
+use mathlib.Core.Bool.{Bool, true, false, _&&_}
+use mathlib.Core.List.{List}
+use lib.Dec.{eqb}
+use Rattle.machine.specs.Mux.{isAttached, distributes}
+use Rattle.port.specs.declared.record.Port.{Port}
+use Rattle.report.specs.declared.Sets.{Sets}
+use Rattle.report.specs.Sets.{counted, member}
+use Rattle.table.specs.Table.{countIn, ports, portAt}
+use Rattle.control.specs.declared.answer.Answer.the-variants.{Done}
+use Rattle.control.specs.Call.{report, aggregator}
+use Rattle.control.specs.After.{answer}
+use Rattle.control.specs.Report.{portReport, aggregatorReport}
+
+-- 7: an accepted port report is the port's record
+abbrev pub PortTrue : Type 0
+PortTrue = (t : List ℕ) (n : ℕ) → answer (report n) t ≡ Done → portReport n t .port ≡ portAt t (n - 1)
+
+-- a port that holds aggregator k and distributes
+abbrev pub sendsOn : ℕ → Port → Bool
+sendsOn k p = eqb (p .aggregator) k && distributes (p .phase .mux)
+
+-- an accepted aggregator report: its sets are of the ports that hold it, are attached to it and distribute; the count is the number of
+-- ports that hold it and distribute; the lowest is the least such port, and 0 if there is none
+pub record SetsTrue (k : ℕ) (t : List ℕ) (s : Sets) : Type 0 where
+  pub holding : (i : ℕ) → i < countIn t → member (s .holding) i ≡ eqb (portAt t i .aggregator) k
+  pub attached : (i : ℕ) → i < countIn t → member (s .attached) i ≡ (eqb (portAt t i .aggregator) k && isAttached (portAt t i .phase .mux))
+  pub distributing : (i : ℕ) → i < countIn t → member (s .distributing) i ≡ sendsOn k (portAt t i)
+  pub nobody : (i : ℕ) → countIn t ≤ i → (member (s .holding) i ≡ false) × (member (s .attached) i ≡ false) × (member (s .distributing) i ≡ false)
+  pub count : s .count ≡ counted (sendsOn k) (ports t)
+  pub none : ((i : ℕ) → i < countIn t → sendsOn k (portAt t i) ≡ false) → s .lowest ≡ 0
+  pub least : (i : ℕ) → i < countIn t → sendsOn k (portAt t i) ≡ true → ((j : ℕ) → j < i → sendsOn k (portAt t j) ≡ false) → s .lowest ≡ i + 1
+
+abbrev pub AggregatorTrue : Type 0
+AggregatorTrue = (t : List ℕ) (k : ℕ) → answer (aggregator k) t ≡ Done → SetsTrue k t (aggregatorReport k t .sets)
