@@ -1,7 +1,8 @@
 .PHONY: cases test
 
 # Proves the libraries and the program, runs it (rt does, under an emulator where the machine is no x86-64) and holds what it writes
-# to crates/cases/stdout; then shows that file: what the frame tests say of 170 frames that scapy wrote, and one port's story.
+# to crates/cases/stdout; then shows that file: what the frame tests say of 170 frames that scapy wrote, one port's story, and
+# two trunks of six ports.
 cases:
 	rt check cases
 	cat crates/cases/stdout
