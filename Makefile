@@ -1,4 +1,4 @@
-.PHONY: cases test
+.PHONY: cases test mutants
 
 # Proves the libraries and the program, runs it (rt does, under an emulator where the machine is no x86-64) and holds what it writes
 # to crates/cases/stdout; then shows that file: what the frame tests say of 170 frames that scapy wrote, one port's story, and
@@ -10,3 +10,7 @@ cases:
 # The whole gate: every proof from nothing, the must-fail edits, the programs.
 test:
 	.ci/run
+
+# Not in the gate: changes one definition at a time, as if code and contract followed it, and shows that a law or a claim refuses it.
+mutants:
+	python3 tools/mutants.py

@@ -1,4 +1,4 @@
-pub mod OnePort
+pub mod Cases
 pub mod Lists
 pub mod Parts
 pub mod Steps

@@ -1,4 +1,4 @@
-pub mod OnePort
+pub mod Cases
 pub mod Run
 pub mod AtRest
 pub mod Lag

@@ -1,0 +1,51 @@
+-- The cases of document 01, each by computation. Assumes nothing.
+use mathlib.Core.Path.{refl}
+use Rattle.machine.specs.Compare.{sameAddress, sameSystem, sameNumbers, sameParty, sameView, maintained, inSync}
+use Rattle.port.specs.Receive.{recordDefault, recordPdu, updateSelected, updateDefaultSelected, updateNtt, initialized, portDisabled, expired}
+use Rattle.port.specs.Receive.{lacpDisabled, defaulted, heard, current, moved, received, receiveChoice, receiveStep, receiveRun, lined}
+use Rattle.port.specs.Periodic.{periodicChoice, periodicStep, periodicRun}
+use Rattle.port.specs.Transmit.{silent, quieted, ticked}
+use Rattle.port.specs.Mux.{muxChoice, muxStep, detached, placed, attachedIf, muxRun}
+use Rattle.settings.specs.Settings.{lawful, blank, started as Settings·started}
+use Rattle.trunk.specs.Advanced.{advanced}
+use Rattle.trunk.specs.Selection.{individual, sameKeys, sameGroup, joins, firstFrom, lowest, ruleOf}
+use Rattle.trunk.specs.Ready.{waitsFor, hasWaiting, holdsBack, heldBack, ready}
+use Rattle.trunk.specs.Settled.{mapFrom, mustMove, reselected, selectedAll, attachedAll, climbed, settled}
+use Rattle.trunk.specs.Displaced.{isDisplaced, displacedIf, displaced}
+use Rattle.octets.specs.Octets.{sameOctets}
+use Rattle.frame.specs.Class.{foreign, unknown, wrongLength, wrongMarkerType, illegal, classOf}
+use Rattle.table.specs.Range.{codesInRange, timersInRange, agesInRange, recordInRange}
+use Rattle.table.specs.Record.{encoded, decoded}
+use Rattle.table.specs.Table.{recordAt, portAt, portsFrom, ports, recordsOctets, tableOctets, firstInRange, tableInRange}
+use Rattle.work.specs.Work.{worked, afterOne, afterStart, heardAt, afterHeard, afterTick, afterLine}
+use Rattle.control.specs.After.{answer, changedBy, after}
+use Rattle.claims.specs.Run.{run}
+use Rattle.claims.specs.Cases.{Cases, started, ticks, receiveFrom, up, alone, four, fourSix, threeFive, twoGroups, passiveSays}
+
+pub cases : Cases
+unfolding sameAddress sameSystem sameNumbers sameParty sameView maintained inSync recordDefault recordPdu updateSelected updateDefaultSelected updateNtt initialized portDisabled expired lacpDisabled defaulted heard current moved received receiveChoice receiveStep receiveRun lined periodicChoice periodicStep periodicRun silent quieted ticked muxChoice muxStep detached placed attachedIf muxRun lawful blank Settings·started advanced individual sameKeys sameGroup joins firstFrom lowest ruleOf waitsFor hasWaiting holdsBack heldBack ready mapFrom mustMove reselected selectedAll attachedAll climbed settled isDisplaced displacedIf displaced sameOctets foreign unknown wrongLength wrongMarkerType illegal classOf codesInRange timersInRange agesInRange recordInRange encoded decoded recordAt portAt portsFrom ports recordsOctets tableOctets firstInRange tableInRange worked afterOne afterStart heardAt afterHeard afterTick afterLine answer changedBy after run started ticks receiveFrom up alone four fourSix threeFive twoGroups passiveSays
+cases = record {
+  active-short = refl;
+  in-trunk = refl;
+  in-trunk-long = refl;
+  after-start = refl;
+  after-link-up = refl;
+  alone-19 = refl;
+  alone-20 = refl;
+  joined-24 = refl;
+  joined-25 = refl;
+  sharing = refl;
+  learned = refl;
+  parted = refl;
+  gone-over = refl;
+  silence = refl;
+  octets-123 = refl;
+  octets-124 = refl;
+  octets-125 = refl;
+  subtype-0 = refl;
+  subtype-3 = refl;
+  subtype-10 = refl;
+  subtype-11 = refl;
+  says-passive = refl;
+  says-active = refl;
+}

@@ -1,0 +1,183 @@
+-- The cases of document 01 marked P, in its order, over runs of the calls whose answers and tables the program's contracts cite.
+use Prim.Native.Nat.{ℕ, zero, suc, _-_}
+use mathlib.Core.Path.{_≡_}
+use mathlib.Core.Bool.{Bool, true, false}
+use mathlib.Core.List.{List, [], _∷_, _++_, map}
+use lib.ListN.{take, set, replicate}
+use Rattle.frame.specs.declared.block.Address.{Address}
+use Rattle.frame.specs.declared.block.Block.{Block}
+use Rattle.frame.specs.declared.block.SystemId.{SystemId}
+use Rattle.frame.specs.declared.wire.TensOfMicroseconds.{TensOfMicroseconds}
+use Rattle.frame.specs.State.{stateOctet, stateOf}
+use Rattle.frame.specs.Wire.{lacpdu, zeros}
+use Rattle.machine.specs.declared.states.Receive.{Receive}
+use Rattle.machine.specs.declared.states.Receive.the-variants.{Expired, Defaulted, Current}
+use Rattle.machine.specs.declared.states.Mux.{Mux}
+use Rattle.machine.specs.declared.states.Mux.the-variants.{Waiting, Attached}
+use Rattle.machine.specs.Bits.{state}
+use Rattle.settings.specs.declared.Settings.{Settings}
+use Rattle.table.specs.Layout.{tableSize}
+use Rattle.table.specs.Table.{portAt}
+use Rattle.control.specs.Answer.{answerNumber}
+use Rattle.control.specs.Call.{Call, start, receive, tick, link}
+use Rattle.control.specs.After.{answer, after}
+use Rattle.claims.specs.Run.{run}
+
+-- ---- who speaks
+
+abbrev pub address : ℕ → Address
+address n = record { high = 0; middle = 0; low = n }
+
+-- system `s` with priority 1
+abbrev pub system : ℕ → SystemId
+system s = record { priority = 1; address = address s }
+
+abbrev pub noDelay : TensOfMicroseconds
+noDelay = record { 0 = 0 }
+
+-- port `q` of system `s`, key 1, port priority 1, with the state octet `o`
+abbrev pub block : ℕ → ℕ → ℕ → Block
+block s q o = record { system = system s; key = 1; port = record { priority = 1; number = q }; state = stateOf o }
+
+-- active and aggregatable, short or long, with a default partner block that is all zeros but for its state octet
+abbrev pub settings : Bool → ℕ → Settings
+settings short o = record {
+  address = address 9;
+  key = 1;
+  priority = 1;
+  activity = true;
+  timeout = short;
+  aggregation = true;
+  default = record {
+    system = record { priority = 0; address = address 0 };
+    key = 0;
+    port = record { priority = 0; number = 0 };
+    state = stateOf o;
+  };
+}
+
+-- ---- calls; we are system 9, and every default partner is individual
+
+-- started with n ports, long timeout, in a memory of zeros
+unfoldable pub started : ℕ → List ℕ
+started n = after (start n (system 9) noDelay (settings false 0)) (zeros (tableSize n))
+
+-- an LACPDU of port q of system s with the state octet o, to port n, of which it says state octet v
+abbrev pub frame : ℕ → ℕ → ℕ → ℕ → ℕ → List ℕ
+frame s q o n v = lacpdu (address s) (block s q o) (block 9 n v) noDelay
+
+-- port n hears port q of system s, active, aggregatable and not in sync
+abbrev pub hears : ℕ → ℕ → ℕ → Call
+hears n s q = receive n (frame s q 0x05 n 0x05) (zeros 124)
+
+-- n ticks
+unfoldable pub ticks : ℕ → List ℕ → List ℕ
+ticks zero t = t
+ticks (suc n) t = ticks n (after tick t)
+
+-- ---- what is seen of port n
+
+abbrev pub actorOf : ℕ → List ℕ → ℕ
+actorOf n t = stateOctet (portAt t (n - 1) .actor)
+
+abbrev pub partnerInSync : ℕ → List ℕ → Bool
+partnerInSync n t = portAt t (n - 1) .partner .state .synchronization
+
+-- its receive state, `now` ticks having passed, and then when so many have
+unfoldable pub receiveFrom : ℕ → ℕ → List ℕ → List ℕ → List Receive
+receiveFrom now n [] t = []
+receiveFrom now n (k ∷ ks) t = let u = ticks (k - now) t in portAt u (n - 1) .phase .receive ∷ receiveFrom k n ks u
+
+abbrev pub receiveAt : ℕ → List ℕ → List ℕ → List Receive
+receiveAt n ks t = receiveFrom 0 n ks t
+
+-- the aggregator that it holds, and its mux state
+pub record Stands : Type 0 where
+  pub aggregator : ℕ
+  pub mux : Mux
+
+abbrev pub on : ℕ → Mux → Stands
+on k m = record { aggregator = k; mux = m }
+
+-- of each of some ports
+abbrev pub standing : List ℕ → List ℕ → List Stands
+standing ns t = map (λ n. on (portAt t (n - 1) .aggregator) (portAt t (n - 1) .phase .mux)) ns
+
+-- ---- the tables of the cases
+
+-- one port, link up
+unfoldable pub up : List ℕ
+up = run (started 1) (link 1 true ∷ [])
+
+-- and it has heard a partner that is not in sync
+unfoldable pub alone : List ℕ
+alone = run up (hears 1 5 1 ∷ [])
+
+-- port 4 of six starts waiting
+unfoldable pub four : List ℕ
+four = run (started 6) (link 4 true ∷ link 6 true ∷ hears 4 5 4 ∷ [])
+
+-- 5 ticks later port 6 joins its group; n ticks after port 4 started
+unfoldable pub fourSix : ℕ → List ℕ
+fourSix n = ticks (n - 5) (run (ticks 5 four) (hears 6 5 6 ∷ []))
+
+-- ports 3 and 5 of five have learned one group, and have attached
+unfoldable pub threeFive : List ℕ
+threeFive = ticks 20 (run (started 5) (link 2 true ∷ link 3 true ∷ link 5 true ∷ hears 3 5 3 ∷ hears 5 5 5 ∷ []))
+
+-- 2 and 4 of five have learned one group, 3 and 5 another
+unfoldable pub twoGroups : List ℕ
+twoGroups =
+    ticks 20 (run (started 5)
+    (link 2 true ∷ link 3 true ∷ link 4 true ∷ link 5 true ∷ hears 2 5 2 ∷ hears 4 5 4 ∷ hears 3 6 3 ∷ hears 5 6 5 ∷ []))
+
+-- what is answered to a frame on port 1, up at full duplex
+abbrev pub answerTo : List ℕ → ℕ
+answerTo f = answerNumber (answer (receive 1 f (zeros 124)) up)
+
+-- an LACPDU for it, and the same with another subtype
+abbrev pub lacpdu124 : List ℕ
+lacpdu124 = frame 5 1 0x05 1 0x05
+
+abbrev pub withSubtype : ℕ → List ℕ
+withSubtype k = set lacpdu124 14 k
+
+-- port 1 has heard a passive sender, aggregatable and in sync, that says state octet v of it
+unfoldable pub passiveSays : ℕ → List ℕ
+passiveSays v = run up (receive 1 (frame 5 1 0x0C 1 v) (zeros 124) ∷ [])
+
+pub record Cases : Type 0 where
+  -- active, short, aggregatable is 0x07; with Synchronization, Collecting, Distributing 0x3F; the same with long 0x3D
+  pub active-short : stateOctet (state true true true false false false false false) ≡ 0x07
+  pub in-trunk : stateOctet (state true true true true true true false false) ≡ 0x3F
+  pub in-trunk-long : stateOctet (state true false true true true true false false) ≡ 0x3D
+  -- active, long, aggregatable port: after start 0x45; after link up, before any tick, 0xC5
+  pub after-start : actorOf 1 (started 1) ≡ 0x45
+  pub after-link-up : actorOf 1 up ≡ 0xC5
+  -- alone, partner not in sync: WAITING after 19 ticks, ATTACHED at the 20th
+  pub alone-19 : standing (1 ∷ []) (ticks 19 alone) ≡ on 1 Waiting ∷ []
+  pub alone-20 : standing (1 ∷ []) (ticks 20 alone) ≡ on 1 Attached ∷ []
+  -- port 4 starts waiting, port 6 joins its group 5 ticks later: both attach at tick 25
+  pub joined-24 : standing (4 ∷ 6 ∷ []) (fourSix 24) ≡ on 4 Waiting ∷ on 4 Waiting ∷ []
+  pub joined-25 : standing (4 ∷ 6 ∷ []) (fourSix 25) ≡ on 4 Attached ∷ on 4 Attached ∷ []
+  -- ports 3 and 5 share aggregator 3; port 2 learns their group: all three hold 2 and are WAITING
+  pub sharing : standing (3 ∷ 5 ∷ []) threeFive ≡ on 3 Attached ∷ on 3 Attached ∷ []
+  pub learned : standing (2 ∷ 3 ∷ 5 ∷ []) (run threeFive (hears 2 5 2 ∷ [])) ≡ on 2 Waiting ∷ on 2 Waiting ∷ on 2 Waiting ∷ []
+  -- 2 and 4 on aggregator 2, 3 and 5 on 3; port 2 goes over to 3 and 5: 4 holds 4; 2, 3, 5 hold 2
+  pub parted : standing (2 ∷ 4 ∷ 3 ∷ 5 ∷ []) twoGroups ≡ on 2 Attached ∷ on 2 Attached ∷ on 3 Attached ∷ on 3 Attached ∷ []
+  pub gone-over : standing (4 ∷ 2 ∷ 3 ∷ 5 ∷ []) (run twoGroups (hears 2 6 2 ∷ []))
+      ≡ on 4 Waiting ∷ on 2 Waiting ∷ on 2 Waiting ∷ on 2 Waiting ∷ []
+  -- long timeout, silence: CURRENT after 899 ticks, EXPIRED at 900, DEFAULTED at 930
+  pub silence : receiveAt 1 (899 ∷ 900 ∷ 929 ∷ 930 ∷ []) alone ≡ Current ∷ Expired ∷ Expired ∷ Defaulted ∷ []
+  -- LACPDU of 123 octets: 8; 124 and 125: 0
+  pub octets-123 : answerTo (take 123 lacpdu124) ≡ 8
+  pub octets-124 : answerTo lacpdu124 ≡ 0
+  pub octets-125 : answerTo (lacpdu124 ++ (0 ∷ [])) ≡ 0
+  -- subtype 0: 8; 3: 7; 10: 7; 11: 8
+  pub subtype-0 : answerTo (withSubtype 0) ≡ 8
+  pub subtype-3 : answerTo (withSubtype 3) ≡ 7
+  pub subtype-10 : answerTo (withSubtype 10) ≡ 7
+  pub subtype-11 : answerTo (withSubtype 11) ≡ 8
+  -- sender passive, we active, its partner block says passive: no Synchronization; says active: Synchronization if the rest agrees
+  pub says-passive : partnerInSync 1 (passiveSays 0x04) ≡ false
+  pub says-active : partnerInSync 1 (passiveSays 0x05) ≡ true
