@@ -64,9 +64,11 @@ def check():
     if done.returncode == 0:
         return None
     for line in (done.stdout + done.stderr).split("\n"):
-        m = re.search(r"crates/(\w+)/(?:specs|proofs)/(\S+?)\.antt:\d+:\d+: error: `([^`]*)`", line)
+        m = re.search(r"crates/(\w+)/(specs|proofs)/(\S+?)\.antt:\d+:\d+: error: `([^`]*)`", line)
+        if m and m.group(2) == "specs":
+            raise SystemExit(f"no definition: {line}")
         if m:
-            return m.group(1), f"{m.group(2)}: {m.group(3)}"
+            return m.group(1), f"{m.group(3)}: {m.group(4)}"
     raise SystemExit((done.stdout + done.stderr)[-3000:])
 
 
@@ -99,7 +101,7 @@ def main(words):
 # (what it is to try, name, file, (old, new)..)
 MUTANTS = [
     ("0 never stuck", "current-while started at 901", "machine/specs/Time.antt",
-     ("timeoutTime short = cond short shortTimeoutTime longTimeoutTime", "timeoutTime short = cond short shortTimeoutTime (longTimeoutTime Prim.Native.Nat.+ 1)")),
+     ("timeoutTime short = cond short shortTimeoutTime longTimeoutTime", "timeoutTime short = cond short shortTimeoutTime 901")),
     ("0 never stuck", "a start with aggregator 0", "settings/specs/Settings.antt",
      ("port (phase Initialize NoPeriodic Detached Unselected) 1 true", "port (phase Initialize NoPeriodic Detached Unselected) 0 true")),
     ("0 refusals are silent", "a refusal that writes", "control/specs/After.antt",

@@ -1,0 +1,195 @@
+// The C interface (include/myrkosti.h): each call of `control` with numbers and lent octets. A call answers document 01's number.
+ghost use mathlib.Core.Path.{_≡_};
+ghost use Rattle.table.specs.Layout.{publishedSize};
+ghost use Rattle.table.specs.Record.{encoded};
+ghost use Rattle.control.specs.Answer.{answerNumber, lengthSent};
+ghost use Rattle.control.specs.Call.{start as Call·start, receive as Call·receive, tick as Call·tick, link as Call·link, duplex as Call·duplex, configure as Call·configure, fetch as Call·fetch};
+ghost use Rattle.control.specs.After.{answer, after, outgoing};
+ghost use Rattle.control.specs.Report.{portReport, aggregatorReport};
+ghost use Rattle.myrkosti.specs.Arguments.{settingsOf, systemOf, delayOf};
+use frame::block::Address;
+use frame::block::Block;
+use frame::block::SystemId;
+use frame::wire::TensOfMicroseconds;
+use settings::Settings;
+
+// The octets that a table of `ports` ports has; 0 for a count outside 1 to 32.
+#[no_mangle]
+pub extern "C" fn myrkosti_table_size(ports: u32) -> u32
+    ensures { λ r. ⌜ r ≡ publishedSize ports ⌝ }
+{
+    table::layout::table_size(ports)
+}
+
+// A tenth of a second has passed.
+#[no_mangle]
+pub extern "C" fn myrkosti_tick(table: &mut [u8]) -> u32
+    ensures { λ r. ⌜ (r ≡ answerNumber (answer Call·tick (now (table .entry)))) × (now (table .exit) ≡ after Call·tick (now (table .entry))) ⌝ }
+{
+    let a = control::tick(table);
+    a.number() as u32
+}
+
+// The link of a port is up or down now.
+#[no_mangle]
+pub extern "C" fn myrkosti_link(table: &mut [u8], port: u32, up: bool) -> u32
+    ensures { λ r. ⌜ (r ≡ answerNumber (answer (Call·link port up) (now (table .entry)))) × (now (table .exit) ≡ after (Call·link port up) (now (table .entry))) ⌝ }
+{
+    let a = control::link(table, port, up);
+    a.number() as u32
+}
+
+// The duplex of a port is full or half now.
+#[no_mangle]
+pub extern "C" fn myrkosti_duplex(table: &mut [u8], port: u32, full: bool) -> u32
+    ensures { λ r. ⌜ (r ≡ answerNumber (answer (Call·duplex port full) (now (table .entry)))) × (now (table .exit) ≡ after (Call·duplex port full) (now (table .entry))) ⌝ }
+{
+    let a = control::duplex(table, port, full);
+    a.number() as u32
+}
+
+// The next LACPDU of a port is written into `out`.
+#[no_mangle]
+pub extern "C" fn myrkosti_fetch(table: &mut [u8], port: u32, out: &mut [u8]) -> u32
+    ensures { λ r. ⌜ (r ≡ answerNumber (answer (Call·fetch port (now (out .entry))) (now (table .entry)))) × (now (table .exit) ≡ after (Call·fetch port (now (out .entry))) (now (table .entry))) × (now (out .exit) ≡ outgoing (Call·fetch port (now (out .entry))) (now (table .entry))) ⌝ }
+{
+    let a = control::fetch(table, port, out);
+    a.number() as u32
+}
+
+// A frame was received on a port. The Response to a Marker is written into `out`, and its length into `sent`.
+#[no_mangle]
+pub extern "C" fn myrkosti_receive(
+    table: &mut [u8],
+    port: u32,
+    frame: &[u8],
+    out: &mut [u8],
+    sent: &mut u32,
+) -> u32
+    ensures { λ r. ⌜ (r ≡ answerNumber (answer (Call·receive port (now (frame .entry)) (now (out .entry))) (now (table .entry)))) × (now (table .exit) ≡ after (Call·receive port (now (frame .entry)) (now (out .entry))) (now (table .entry))) × (now (out .exit) ≡ outgoing (Call·receive port (now (frame .entry)) (now (out .entry))) (now (table .entry))) × (now (sent .exit) ≡ lengthSent (answer (Call·receive port (now (frame .entry)) (now (out .entry))) (now (table .entry)))) ⌝ }
+{
+    let a = control::receive(table, port, frame, out);
+    *sent = a.length_sent() as u32;
+    a.number() as u32
+}
+
+// A port's settings as numbers and lent octets.
+fn settings_of(
+    address: &[u8; 6],
+    key: u16,
+    priority: u16,
+    activity: bool,
+    timeout: bool,
+    aggregation: bool,
+    partner: &[u8; 15],
+) -> Settings
+    ensures { λ r. ⌜ r ≡ settingsOf (now (address .entry)) key priority activity timeout aggregation (now (partner .entry)) ⌝ }
+{
+    Settings {
+        address: Address::read(address, 0),
+        key,
+        priority,
+        activity,
+        timeout,
+        aggregation,
+        default: Block::read(partner),
+    }
+}
+
+// A port has these settings from now on.
+#[no_mangle]
+pub extern "C" fn myrkosti_settings(
+    table: &mut [u8],
+    port: u32,
+    address: &[u8; 6],
+    key: u16,
+    priority: u16,
+    activity: bool,
+    timeout: bool,
+    aggregation: bool,
+    partner: &[u8; 15],
+) -> u32
+    ensures { λ r. ⌜ (r ≡ answerNumber (answer (Call·configure port (settingsOf (now (address .entry)) key priority activity timeout aggregation (now (partner .entry)))) (now (table .entry)))) × (now (table .exit) ≡ after (Call·configure port (settingsOf (now (address .entry)) key priority activity timeout aggregation (now (partner .entry)))) (now (table .entry))) ⌝ }
+{
+    let s = settings_of(
+        address,
+        key,
+        priority,
+        activity,
+        timeout,
+        aggregation,
+        partner,
+    );
+    let a = control::configure(table, port, s);
+    a.number() as u32
+}
+
+// The record of a port, as it lies in the table; zeros beside a refusal.
+#[no_mangle]
+pub extern "C" fn myrkosti_port(table: &[u8], port: u32, record: &mut [u8; 57]) -> u32
+    ensures { λ r. ⌜ (r ≡ answerNumber (portReport port (now (table .entry)) .answer)) × (now («record» .exit) ≡ encoded (portReport port (now (table .entry)) .port)) ⌝ }
+{
+    let r = control::report_port(table, port);
+    let p = r.port;
+    table::record::write_record(p, record);
+    let a = r.answer;
+    a.number() as u32
+}
+
+// The ports that hold an aggregator, are attached to it and distribute, how many distribute and the lowest that does; zeros beside a refusal.
+#[no_mangle]
+pub extern "C" fn myrkosti_aggregator(
+    table: &[u8],
+    aggregator: u32,
+    holding: &mut u32,
+    attached: &mut u32,
+    distributing: &mut u32,
+    count: &mut u32,
+    lowest: &mut u32,
+) -> u32
+    ensures { λ r. ⌜ (r ≡ answerNumber (aggregatorReport aggregator (now (table .entry)) .answer)) × (now (holding .exit) ≡ aggregatorReport aggregator (now (table .entry)) .sets .holding) × (now (attached .exit) ≡ aggregatorReport aggregator (now (table .entry)) .sets .attached) × (now (distributing .exit) ≡ aggregatorReport aggregator (now (table .entry)) .sets .distributing) × (now (count .exit) ≡ aggregatorReport aggregator (now (table .entry)) .sets .count) × (now (lowest .exit) ≡ aggregatorReport aggregator (now (table .entry)) .sets .lowest) ⌝ }
+{
+    let r = control::report_aggregator(table, aggregator);
+    *holding = r.sets.holding;
+    *attached = r.sets.attached;
+    *distributing = r.sets.distributing;
+    *count = r.sets.count;
+    *lowest = r.sets.lowest;
+    let a = r.answer;
+    a.number() as u32
+}
+
+// Starts a table of `ports` ports in memory of any content; every port begins with these settings.
+#[no_mangle]
+pub extern "C" fn myrkosti_start(
+    table: &mut [u8],
+    ports: u32,
+    system_priority: u16,
+    system: &[u8; 6],
+    collector_max_delay: u16,
+    address: &[u8; 6],
+    key: u16,
+    port_priority: u16,
+    activity: bool,
+    timeout: bool,
+    aggregation: bool,
+    partner: &[u8; 15],
+) -> u32
+    ensures { λ r. ⌜ (r ≡ answerNumber (answer (Call·start ports (systemOf «system_priority» (now (system .entry))) (delayOf «collector_max_delay») (settingsOf (now (address .entry)) key «port_priority» activity timeout aggregation (now (partner .entry)))) (now (table .entry)))) × (now (table .exit) ≡ after (Call·start ports (systemOf «system_priority» (now (system .entry))) (delayOf «collector_max_delay») (settingsOf (now (address .entry)) key «port_priority» activity timeout aggregation (now (partner .entry)))) (now (table .entry))) ⌝ }
+{
+    let id = SystemId {
+        priority: system_priority,
+        address: Address::read(system, 0),
+    };
+    let s = settings_of(
+        address,
+        key,
+        port_priority,
+        activity,
+        timeout,
+        aggregation,
+        partner,
+    );
+    let a = control::start(table, ports, id, TensOfMicroseconds(collector_max_delay), s);
+    a.number() as u32
+}
