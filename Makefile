@@ -1,4 +1,4 @@
-.PHONY: cases test mutants
+.PHONY: cases test c-test mutants
 
 # Proves the libraries and the program, runs it (rt does, under an emulator where the machine is no x86-64) and holds what it writes
 # to crates/cases/stdout; then shows that file: what the frame tests say of 170 frames that scapy wrote, one port's story, and
@@ -10,6 +10,11 @@ cases:
 # The whole gate: every proof from nothing, the must-fail edits, the programs.
 test:
 	.ci/run
+
+# The C interface: a C program that includes include/myrkosti.h, links the proved library and drives every function.
+c-test:
+	rt staticlib myrkosti
+	tools/c-test.sh
 
 # Not in the gate: changes one definition at a time, as if code and contract followed it, and shows that a law or a claim refuses it.
 mutants:

@@ -1,0 +1,176 @@
+/*
+ * Myrkosti: the control side of link aggregation (LACP and Marker, IEEE Std 802.3ad-2000, Clause 43) for an access switch.
+ *
+ * You lend the memory of a table of 1 to 32 ports, tell the library what happens (frames, ticks, links, duplex, settings), send what
+ * it writes for you, and read from the reports which ports form one trunk. It keeps no memory of its own, allocates nothing, calls
+ * nothing, and every call ends. One table is one Aggregation System; different tables may be used at the same time.
+ *
+ * Every call takes every input: frames of any length and content, any port number, any setting, any table memory. It answers one of the
+ * numbers below. An answer other than MYRKOSTI_DONE leaves the table and the outgoing buffer exactly as they came. Only this is asked
+ * of you: memory that you lend is readable (the table and what is written, writable) for its whole length, and the areas that you lend
+ * to one call do not overlap.
+ *
+ * Link with libmyrkosti.a (`rt staticlib myrkosti`). Each function here is proved to meet its contract; docs/PROOFS.md says what that is.
+ */
+#ifndef MYRKOSTI_H
+#define MYRKOSTI_H
+
+#include <stdbool.h>
+#include <stddef.h>
+#include <stdint.h>
+
+#ifdef __cplusplus
+extern "C" {
+#endif
+
+/* ---- sizes ---- */
+
+#define MYRKOSTI_PORTS 32  /* the most ports that a table has */
+#define MYRKOSTI_HEADER 11 /* octets before the first record of a table */
+#define MYRKOSTI_RECORD 57 /* octets of a port's record; later versions append fields and move none */
+#define MYRKOSTI_FRAME 124 /* octets of every frame that the library writes, without FCS; an outgoing buffer has at least as many */
+#define MYRKOSTI_BLOCK 15  /* octets of an information block */
+#define MYRKOSTI_TABLE(ports) (MYRKOSTI_HEADER + MYRKOSTI_RECORD * (ports)) /* for a table whose port count is known beforehand */
+
+/* ---- answers ---- */
+
+enum {
+    MYRKOSTI_DONE = 0,            /* done */
+    MYRKOSTI_TABLE_WRONG = 1,     /* the memory is no table: wrong size, port count outside 1 to 32, or a field outside its range */
+    MYRKOSTI_NO_SUCH_PORT = 2,    /* the port or aggregator number is 0 or above the port count */
+    MYRKOSTI_BUFFER_SHORT = 3,    /* the outgoing buffer has under 124 octets (receive and fetch) */
+    MYRKOSTI_DEFAULT_WRONG = 4,   /* the default partner block has Collecting different from Synchronization (start and settings) */
+    MYRKOSTI_LACP_OFF = 5,        /* a well-formed LACPDU, and the link is down or the duplex half */
+    MYRKOSTI_FOREIGN = 6,         /* a frame under 14 octets, or not to 01-80-C2-00-00-02: not for this part */
+    MYRKOSTI_UNKNOWN = 7,         /* our destination with another type, or a Slow Protocols subtype 3 to 10: for others */
+    MYRKOSTI_ILLEGAL = 8,         /* a Slow Protocols frame that breaks the rules of its subtype */
+    MYRKOSTI_NOT_COLLECTING = 9,  /* a Marker, and the port neither collects nor distributes */
+    MYRKOSTI_NOTHING_TO_SEND = 10, /* fetch: nothing is due, the link is down or the duplex half */
+    MYRKOSTI_TOO_MANY_SENDS = 11, /* fetch: something is due, but three LACPDUs went in the last ten ticks; ask again after the next tick */
+    MYRKOSTI_RESPONSE = 12        /* a Marker Response: nobody here awaits one */
+};
+
+/*
+ * ---- the record of a port, MYRKOSTI_RECORD octets, as it lies in the table and as myrkosti_port gives it ----
+ *
+ * Record i (from 0, of port i + 1) begins at octet 11 + 57 * i of a table. Numbers are high octet first.
+ *
+ *    0       receive state: 0 INITIALIZE, 1 PORT_DISABLED, 2 EXPIRED, 3 LACP_DISABLED, 4 DEFAULTED, 5 CURRENT
+ *    1       periodic state: 0 NO_PERIODIC, 1 FAST_PERIODIC, 2 SLOW_PERIODIC, 3 PERIODIC_TX
+ *    2       mux state: 0 DETACHED, 1 WAITING, 2 ATTACHED, 3 COLLECTING, 4 DISTRIBUTING
+ *    3       Selected: 0 UNSELECTED, 1 SELECTED
+ *    4       aggregator held, from 1
+ *    5       NTT: 1 if an LACPDU is due
+ *    6       link: 1 up
+ *    7       duplex: 1 full
+ *    8       Actor_Oper_Port_State (bits below); bits 0 to 2 are the settings' own Activity, Timeout, Aggregation
+ *    9-10    current-while timer, in ticks
+ *   11-12    periodic timer, in ticks
+ *   13       wait timer, in ticks
+ *   14-16    ages in ticks of the sends that are remembered, newest first; 255 where there is none
+ *   17-22    own address
+ *   23-24    key
+ *   25-26    port priority
+ *   27-41    default partner block
+ *   42-56    partner information in force
+ *
+ * An information block, MYRKOSTI_BLOCK octets: system priority 2, system 6, key 2, port priority 2, port 2, state 1.
+ */
+enum {
+    MYRKOSTI_AT_RECEIVE = 0,
+    MYRKOSTI_AT_PERIODIC = 1,
+    MYRKOSTI_AT_MUX = 2,
+    MYRKOSTI_AT_SELECTED = 3,
+    MYRKOSTI_AT_AGGREGATOR = 4,
+    MYRKOSTI_AT_NTT = 5,
+    MYRKOSTI_AT_LINK = 6,
+    MYRKOSTI_AT_DUPLEX = 7,
+    MYRKOSTI_AT_ACTOR_STATE = 8,
+    MYRKOSTI_AT_CURRENT_WHILE = 9,
+    MYRKOSTI_AT_PERIODIC_TIMER = 11,
+    MYRKOSTI_AT_WAIT_TIMER = 13,
+    MYRKOSTI_AT_AGES = 14,
+    MYRKOSTI_AT_ADDRESS = 17,
+    MYRKOSTI_AT_KEY = 23,
+    MYRKOSTI_AT_PRIORITY = 25,
+    MYRKOSTI_AT_DEFAULT = 27,
+    MYRKOSTI_AT_PARTNER = 42
+};
+
+/* the bits of a state octet */
+enum {
+    MYRKOSTI_ACTIVITY = 0x01,
+    MYRKOSTI_TIMEOUT = 0x02, /* 1 is short */
+    MYRKOSTI_AGGREGATION = 0x04,
+    MYRKOSTI_SYNCHRONIZATION = 0x08,
+    MYRKOSTI_COLLECTING = 0x10,
+    MYRKOSTI_DISTRIBUTING = 0x20,
+    MYRKOSTI_DEFAULTED = 0x40,
+    MYRKOSTI_EXPIRED = 0x80
+};
+
+/* ---- calls ---- */
+
+/* The octets that the memory of a table of `ports` ports has, no more and no less; 0 for a count outside 1 to 32. */
+uint32_t myrkosti_table_size(uint32_t ports);
+
+/*
+ * Starts a table. Call it once before everything else, and again to begin anew; what the memory held before does not matter. Links are
+ * down and duplexes full then: tell the library of each link that is up. Every port begins with the settings given here. `system` and
+ * `system_priority` name this switch to its neighbours and must be its own; `collector_max_delay` counts tens of microseconds.
+ * Answers 0, 1 (memory size or port count) or 4.
+ */
+uint32_t myrkosti_start(uint8_t *table, size_t table_len, uint32_t ports,
+                        uint16_t system_priority, const uint8_t system[6], uint16_t collector_max_delay,
+                        const uint8_t address[6], uint16_t key, uint16_t port_priority,
+                        bool activity, bool timeout, bool aggregation, const uint8_t partner[MYRKOSTI_BLOCK]);
+
+/*
+ * A frame came in on a port: hand over every frame to 01-80-C2-00-00-02, without FCS, as it came. `sent` is written at every call: 124 if
+ * a Marker was answered, and then `out` begins with the Response, which you send on that port; otherwise 0. An LACPDU leaves `out` as it is.
+ * After an answer 0, other ports may have changed too: read the reports that you follow. Answers 0 to 3, 5 to 9 and 12.
+ */
+uint32_t myrkosti_receive(uint8_t *table, size_t table_len, uint32_t port,
+                          const uint8_t *frame, size_t frame_len, uint8_t *out, size_t out_len, uint32_t *sent);
+
+/* A tenth of a second has passed. Call it ten times a second, for all ports at once. Answers 0 or 1. */
+uint32_t myrkosti_tick(uint8_t *table, size_t table_len);
+
+/* The link of a port is up (true) or down now. A value as it is changes nothing. Answers 0, 1 or 2. */
+uint32_t myrkosti_link(uint8_t *table, size_t table_len, uint32_t port, bool up);
+
+/* The duplex of a port is full (true) or half now; at half duplex LACP is off. A value as it is changes nothing. Answers 0, 1 or 2. */
+uint32_t myrkosti_duplex(uint8_t *table, size_t table_len, uint32_t port, bool full);
+
+/*
+ * A port has these settings from now on. Equal settings change nothing. Another key, port priority or Aggregation takes the port out of its
+ * trunk for at least two seconds. A new default block counts from the next time that the partner is given up. `timeout` true is short.
+ * Answers 0, 1, 2 or 4.
+ */
+uint32_t myrkosti_settings(uint8_t *table, size_t table_len, uint32_t port,
+                           const uint8_t address[6], uint16_t key, uint16_t port_priority,
+                           bool activity, bool timeout, bool aggregation, const uint8_t partner[MYRKOSTI_BLOCK]);
+
+/*
+ * The next LACPDU of a port. On answer 0 `out` begins with a frame of 124 octets, which you send on that port; octets after it are kept.
+ * Ask every port after every call that was answered 0, and after every tick. Answers 0 to 3, 10 or 11.
+ */
+uint32_t myrkosti_fetch(uint8_t *table, size_t table_len, uint32_t port, uint8_t *out, size_t out_len);
+
+/* The record of a port. `record` is written at every call, with zeros beside a refusal. Answers 0, 1 or 2. */
+uint32_t myrkosti_port(const uint8_t *table, size_t table_len, uint32_t port, uint8_t record[MYRKOSTI_RECORD]);
+
+/*
+ * The ports of an aggregator as sets, bit 0 is port 1: those that hold it, those of them that are attached, and those that distribute: only
+ * these carry traffic. `count` is how many distribute, `lowest` the lowest of them, 0 for none. All five are written at every call, with
+ * zeros beside a refusal. Answers 0, 1 or 2.
+ */
+uint32_t myrkosti_aggregator(const uint8_t *table, size_t table_len, uint32_t aggregator,
+                             uint32_t *holding, uint32_t *attached, uint32_t *distributing,
+                             uint32_t *count, uint32_t *lowest);
+
+#ifdef __cplusplus
+}
+#endif
+
+#endif

@@ -1,0 +1,213 @@
+/* Drives every function of include/myrkosti.h, with its refusals. Prints one line for each check that fails, and how many passed. */
+#include "myrkosti.h"
+
+#include <stdio.h>
+#include <string.h>
+
+enum { PORTS = 2, SIZE = MYRKOSTI_TABLE(PORTS) };
+
+static const uint8_t OURS[6] = {0, 0, 0, 0, 0, 9};
+static const uint8_t THEIRS[6] = {0, 0, 0, 0, 0, 5};
+static const uint8_t ADDRESS[6] = {0x02, 0x00, 0x5e, 0x10, 0x20, 0x30};
+static const uint8_t NOBODY[MYRKOSTI_BLOCK];
+
+static unsigned passed, failed;
+
+static void check(bool holds, const char *what)
+{
+    if (holds) {
+        passed++;
+    } else {
+        failed++;
+        printf("failed: %s\n", what);
+    }
+}
+
+#define IS(expression, value) check((expression) == (value), #expression " is " #value)
+
+/* active, short timeout, aggregatable */
+static uint32_t start(uint8_t *table, size_t length, uint32_t ports, const uint8_t partner[MYRKOSTI_BLOCK])
+{
+    return myrkosti_start(table, length, ports, 1, OURS, 0, ADDRESS, 1, 1, true, true, true, partner);
+}
+
+static uint32_t settings(uint8_t *table, uint32_t port, uint16_t key, const uint8_t partner[MYRKOSTI_BLOCK])
+{
+    return myrkosti_settings(table, SIZE, port, ADDRESS, key, 1, true, true, true, partner);
+}
+
+static uint8_t *put_block(uint8_t *at, const uint8_t system[6], uint8_t port, uint8_t state)
+{
+    uint8_t block[MYRKOSTI_BLOCK] = {0, 1, 0, 0, 0, 0, 0, 0, 0, 1, 0, 1, 0, 0, 0};
+    memcpy(block + 2, system, 6);
+    block[13] = port;
+    block[14] = state;
+    memcpy(at, block, sizeof block);
+    return at + sizeof block;
+}
+
+/* an LACPDU of the same port of system 5, in sync, collecting and distributing, that says `state` of ours */
+static void write_lacpdu(uint8_t frame[MYRKOSTI_FRAME], uint8_t port, uint8_t state)
+{
+    static const uint8_t header[18] = {0x01, 0x80, 0xc2, 0, 0, 2, 2, 0, 0, 0, 0, 5, 0x88, 0x09, 1, 1, 1, 20};
+    memset(frame, 0, MYRKOSTI_FRAME);
+    memcpy(frame, header, sizeof header);
+    put_block(frame + 18, THEIRS, port, 0x3f);
+    frame[36] = 2;
+    frame[37] = 20;
+    put_block(frame + 38, OURS, port, state);
+    frame[56] = 3;
+    frame[57] = 16;
+}
+
+static void write_marker(uint8_t frame[MYRKOSTI_FRAME], uint8_t type)
+{
+    static const uint8_t header[18] = {0x01, 0x80, 0xc2, 0, 0, 2, 2, 0, 0, 0, 0, 5, 0x88, 0x09, 2, 1, 0, 16};
+    memset(frame, 0, MYRKOSTI_FRAME);
+    memcpy(frame, header, sizeof header);
+    frame[16] = type;
+    frame[29] = 7; /* transaction */
+}
+
+/* a port's record, and that a refused report gives zeros */
+static uint8_t field(const uint8_t *table, uint32_t port, unsigned at)
+{
+    uint8_t record[MYRKOSTI_RECORD];
+    memset(record, 0xff, sizeof record);
+    IS(myrkosti_port(table, SIZE, port, record), MYRKOSTI_DONE);
+    IS(memcmp(record, table + MYRKOSTI_HEADER + MYRKOSTI_RECORD * (port - 1), sizeof record), 0);
+    return record[at];
+}
+
+static void refuse_tables(void)
+{
+    uint8_t table[SIZE + 1], before[SIZE + 1], out[MYRKOSTI_FRAME], record[MYRKOSTI_RECORD];
+    uint8_t wrong[MYRKOSTI_BLOCK] = {0};
+    uint32_t a, b, c, d, e, sent = 9;
+    wrong[14] = MYRKOSTI_COLLECTING;
+    memset(table, 0xa5, sizeof table);
+    memcpy(before, table, sizeof table);
+    IS(myrkosti_table_size(0), 0);
+    IS(myrkosti_table_size(1), 68);
+    IS(myrkosti_table_size(32), 1835);
+    IS(myrkosti_table_size(33), 0);
+    IS(start(table, SIZE + 1, PORTS, NOBODY), MYRKOSTI_TABLE_WRONG);
+    IS(start(table, SIZE, 0, NOBODY), MYRKOSTI_TABLE_WRONG);
+    IS(start(table, SIZE, PORTS, wrong), MYRKOSTI_DEFAULT_WRONG);
+    IS(myrkosti_tick(table, SIZE), MYRKOSTI_TABLE_WRONG);
+    IS(myrkosti_link(table, SIZE, 1, true), MYRKOSTI_TABLE_WRONG);
+    IS(myrkosti_duplex(table, SIZE, 1, true), MYRKOSTI_TABLE_WRONG);
+    IS(settings(table, 1, 1, NOBODY), MYRKOSTI_TABLE_WRONG);
+    IS(myrkosti_fetch(table, SIZE, 1, out, sizeof out), MYRKOSTI_TABLE_WRONG);
+    IS(myrkosti_receive(table, SIZE, 1, out, 0, out, sizeof out, &sent), MYRKOSTI_TABLE_WRONG);
+    IS(sent, 0);
+    IS(myrkosti_port(table, 0, 1, record), MYRKOSTI_TABLE_WRONG);
+    memset(record, 0xff, sizeof record);
+    IS(myrkosti_port(table, SIZE, 1, record), MYRKOSTI_TABLE_WRONG);
+    for (unsigned i = 0; i < sizeof record; i++) {
+        IS(record[i], 0);
+    }
+    a = b = c = d = e = 9;
+    IS(myrkosti_aggregator(table, SIZE, 1, &a, &b, &c, &d, &e), MYRKOSTI_TABLE_WRONG);
+    IS(a | b | c | d | e, 0);
+    IS(memcmp(table, before, sizeof table), 0);
+}
+
+static void refuse_arguments(uint8_t *table)
+{
+    uint8_t before[SIZE], out[MYRKOSTI_FRAME], frame[MYRKOSTI_FRAME], record[MYRKOSTI_RECORD], wrong[MYRKOSTI_BLOCK] = {0};
+    uint32_t a, b, c, d, e, sent = 9;
+    memset(out, 0xff, sizeof out);
+    memcpy(before, table, SIZE);
+    wrong[14] = MYRKOSTI_SYNCHRONIZATION;
+    write_lacpdu(frame, 1, 0x07);
+    IS(myrkosti_link(table, SIZE, 0, true), MYRKOSTI_NO_SUCH_PORT);
+    IS(myrkosti_duplex(table, SIZE, PORTS + 1, true), MYRKOSTI_NO_SUCH_PORT);
+    IS(settings(table, 4000000000u, 1, wrong), MYRKOSTI_NO_SUCH_PORT);
+    IS(settings(table, 1, 1, wrong), MYRKOSTI_DEFAULT_WRONG);
+    IS(myrkosti_port(table, SIZE, 0, record), MYRKOSTI_NO_SUCH_PORT);
+    IS(myrkosti_aggregator(table, SIZE, 3, &a, &b, &c, &d, &e), MYRKOSTI_NO_SUCH_PORT);
+    IS(myrkosti_fetch(table, SIZE, 1, out, 123), MYRKOSTI_BUFFER_SHORT);
+    IS(myrkosti_receive(table, SIZE, 1, frame, 5, out, 123, &sent), MYRKOSTI_BUFFER_SHORT);
+    IS(myrkosti_receive(table, SIZE, 1, frame, 13, out, sizeof out, &sent), MYRKOSTI_FOREIGN);
+    IS(myrkosti_receive(table, SIZE, 1, frame, 123, out, sizeof out, &sent), MYRKOSTI_ILLEGAL);
+    IS(myrkosti_receive(table, SIZE, 1, frame, 124, out, sizeof out, &sent), MYRKOSTI_LACP_OFF);
+    frame[14] = 10;
+    IS(myrkosti_receive(table, SIZE, 1, frame, 124, out, sizeof out, &sent), MYRKOSTI_UNKNOWN);
+    write_marker(frame, 1);
+    IS(myrkosti_receive(table, SIZE, 1, frame, 124, out, sizeof out, &sent), MYRKOSTI_NOT_COLLECTING);
+    write_marker(frame, 2);
+    IS(myrkosti_receive(table, SIZE, 1, frame, 124, out, sizeof out, &sent), MYRKOSTI_RESPONSE);
+    IS(myrkosti_fetch(table, SIZE, 1, out, sizeof out), MYRKOSTI_NOTHING_TO_SEND);
+    IS(sent, 0);
+    IS(memcmp(table, before, SIZE), 0);
+    for (unsigned i = 0; i < sizeof out; i++) {
+        IS(out[i], 0xff);
+    }
+}
+
+static void hear(uint8_t *table, uint8_t port)
+{
+    uint8_t frame[MYRKOSTI_FRAME], out[MYRKOSTI_FRAME];
+    uint32_t sent = 9;
+    write_lacpdu(frame, port, field(table, port, MYRKOSTI_AT_ACTOR_STATE));
+    IS(myrkosti_receive(table, SIZE, port, frame, sizeof frame, out, sizeof out, &sent), MYRKOSTI_DONE);
+    IS(sent, 0);
+}
+
+/* two links to one neighbour become a trunk; a Marker is answered; the fourth LACPDU has to wait; half duplex leaves the trunk */
+static void form_a_trunk(uint8_t *table)
+{
+    uint8_t frame[MYRKOSTI_FRAME], out[MYRKOSTI_FRAME + 1];
+    uint32_t holding, attached, distributing, count, lowest, sent = 0;
+    IS(myrkosti_link(table, SIZE, 1, true), MYRKOSTI_DONE);
+    IS(myrkosti_link(table, SIZE, 2, true), MYRKOSTI_DONE);
+    hear(table, 1);
+    hear(table, 2);
+    for (int i = 0; i < 20; i++) {
+        IS(field(table, 2, MYRKOSTI_AT_MUX), 1);
+        IS(myrkosti_tick(table, SIZE), MYRKOSTI_DONE);
+    }
+    IS(field(table, 1, MYRKOSTI_AT_MUX), 4);
+    IS(field(table, 1, MYRKOSTI_AT_ACTOR_STATE), 0x3f);
+    IS(myrkosti_aggregator(table, SIZE, 1, &holding, &attached, &distributing, &count, &lowest), MYRKOSTI_DONE);
+    IS(holding, 3);
+    IS(attached, 3);
+    IS(distributing, 3);
+    IS(count, 2);
+    IS(lowest, 1);
+    write_marker(frame, 1);
+    memset(out, 0xff, sizeof out);
+    IS(myrkosti_receive(table, SIZE, 1, frame, sizeof frame, out, sizeof out, &sent), MYRKOSTI_DONE);
+    IS(sent, MYRKOSTI_FRAME);
+    IS(memcmp(out + 6, ADDRESS, 6), 0);
+    IS(out[16], 2);
+    IS(memcmp(out + 18, frame + 18, 12), 0);
+    IS(out[MYRKOSTI_FRAME], 0xff);
+    for (uint16_t i = 0; i < 3; i++) {
+        IS(settings(table, 2, 2 + i, NOBODY), MYRKOSTI_DONE);
+        IS(myrkosti_fetch(table, SIZE, 2, out, sizeof out), MYRKOSTI_DONE);
+        IS(out[27], 2 + i);
+        IS(out[51], 2);
+        IS(out[52], field(table, 2, MYRKOSTI_AT_PARTNER + 14));
+    }
+    IS(settings(table, 2, 1, NOBODY), MYRKOSTI_DONE);
+    IS(myrkosti_fetch(table, SIZE, 2, out, sizeof out), MYRKOSTI_TOO_MANY_SENDS);
+    IS(myrkosti_duplex(table, SIZE, 1, false), MYRKOSTI_DONE);
+    IS(field(table, 1, MYRKOSTI_AT_RECEIVE), 3);
+    IS(myrkosti_aggregator(table, SIZE, 1, &holding, &attached, &distributing, &count, &lowest), MYRKOSTI_DONE);
+    IS(holding, 1);
+    IS(distributing | count | lowest, 0);
+}
+
+int main(void)
+{
+    uint8_t table[SIZE];
+    refuse_tables();
+    memset(table, 0xa5, sizeof table);
+    IS(start(table, SIZE, PORTS, NOBODY), MYRKOSTI_DONE);
+    refuse_arguments(table);
+    form_a_trunk(table);
+    printf("C interface: %u checks passed, %u failed\n", passed, failed);
+    return failed != 0;
+}
