@@ -3,7 +3,7 @@
 
 A contract is met by code and definition that are wrong together; only a theorem refuses that. So this works on a copy of the repository
 from which the code is gone (its types stay): whatever a definition says, the code is taken to follow it. What is left of each crate is its
-definitions and laws, and of `claims` its theorems. The copy as it is must be proved; then each mutant below must be refused. A mutant that
+definitions and laws, and of `claims` and `runs` their theorems. The copy as it is must be proved; then each mutant below must be refused. A mutant that
 breaks a law of a lower crate is refused there, and with it every claim that rests on the law.
 
     tools/mutants.py [NAME..]     all mutants, or those whose name contains one of the words; the copy is target/mutants
@@ -60,7 +60,7 @@ def make_copy():
 
 def check():
     """What refuses the copy, as (crate, declaration), or None if all is proved."""
-    done = subprocess.run(["rt", "check", "claims"], cwd=COPY, capture_output=True, text=True)
+    done = subprocess.run(["rt", "check", "runs"], cwd=COPY, capture_output=True, text=True)
     if done.returncode == 0:
         return None
     for line in (done.stdout + done.stderr).split("\n"):

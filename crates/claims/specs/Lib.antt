@@ -1,4 +1,3 @@
-pub mod Cases
 pub mod Run
 pub mod AtRest
 pub mod Lag

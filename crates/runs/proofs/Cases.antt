@@ -19,8 +19,8 @@ use Rattle.table.specs.Record.{encoded, decoded}
 use Rattle.table.specs.Table.{recordAt, portAt, portsFrom, ports, recordsOctets, tableOctets, firstInRange, tableInRange}
 use Rattle.work.specs.Work.{worked, afterOne, afterStart, heardAt, afterHeard, afterTick, afterLine}
 use Rattle.control.specs.After.{answer, changedBy, after}
 use Rattle.claims.specs.Run.{run}
-use Rattle.claims.specs.Cases.{Cases, started, ticks, receiveFrom, up, alone, four, fourSix, threeFive, twoGroups, passiveSays}
+use Rattle.runs.specs.Cases.{Cases, started, ticks, receiveFrom, up, alone, four, fourSix, threeFive, twoGroups, passiveSays}
 
 pub cases : Cases
 unfolding sameAddress sameSystem sameNumbers sameParty sameView maintained inSync recordDefault recordPdu updateSelected updateDefaultSelected updateNtt initialized portDisabled expired lacpDisabled defaulted heard current moved received receiveChoice receiveStep receiveRun lined periodicChoice periodicStep periodicRun silent quieted ticked muxChoice muxStep detached placed attachedIf muxRun lawful blank Settings·started advanced individual sameKeys sameGroup joins firstFrom lowest ruleOf waitsFor hasWaiting holdsBack heldBack ready mapFrom mustMove reselected selectedAll attachedAll climbed settled isDisplaced displacedIf displaced sameOctets foreign unknown wrongLength wrongMarkerType illegal classOf codesInRange timersInRange agesInRange recordInRange encoded decoded recordAt portAt portsFrom ports recordsOctets tableOctets firstInRange tableInRange worked afterOne afterStart heardAt afterHeard afterTick afterLine answer changedBy after run started ticks receiveFrom up alone four fourSix threeFive twoGroups passiveSays
