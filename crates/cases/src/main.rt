@@ -4,7 +4,6 @@ mod six;
 mod story;
 
 ghost use Prim.Native.Nat.{_≤_};
-ghost use mathlib.Core.Path.{_≡_};
 ghost use lib.ListN.{length};
 use frame::block::Address;
 use frame::block::Block;

@@ -150,7 +150,7 @@ pub record TwoSwitches (o : ℕ) : Type 0 where
       ∷ since 21 carries carries carries carries
       ∷ []
   -- then link 1 falls at both ends: nothing is seen to change in 100 ticks, port 2 of each distributing all the while
-  pub falls : history false 100 (each (link 1 false) (trunk o))
+  pub falls : history true 100 (each (link 1 false) (trunk o))
       ≡ since 0 (is PortDisabled 1 Attached) carries (is PortDisabled 1 Attached) carries ∷ []
   -- or link 1 goes silent, and stays up: port 2 carries on until port 1 is DEFAULTED, 59 ticks later in the one and 60 in the other. At that
   -- tick it leaves aggregator 1 and is WAITING; it distributes again, on aggregator 2, after 80 and 81 ticks

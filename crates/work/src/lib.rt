@@ -2,12 +2,11 @@
 // displaced ports, periodic machines, and steps 3 to 6. `control` tests first, and then calls one of these.
 ghost use mathlib.Core.Path.{_≡_};
 ghost use mathlib.Core.Bool.{true};
-ghost use mathlib.Core.List.{map};
 ghost use Prim.Native.Nat.{_+_, _<_, _≤_};
 ghost use lib.ListN.{length, set, replicate};
 ghost use Rattle.table.specs.Layout.{headerOf, tableSize, mostPorts};
 ghost use Rattle.table.specs.Range.{portInRange};
-ghost use Rattle.table.specs.Table.{tableInRange, countIn, ports, portAt};
+ghost use Rattle.table.specs.Table.{tableInRange, countIn, ports};
 ghost use Rattle.settings.specs.Settings.{started};
 ghost use Rattle.trunk.specs.Worked.{Worked};
 ghost use Rattle.work.specs.Work.{ours, worked, afterOne, afterStart, heardAt, afterHeard, afterTick, afterLine, afterSettings, afterSend, lacpduOf, responseOf, over};
