@@ -27,7 +27,7 @@ use table::layout::Header;
 
 pub mod answer;
 mod constants;
-pub mod tests;
+mod tests;
 
 // Starts a table of `count` ports in memory of any content; every port begins with these settings.
 pub fn start(
