@@ -1,4 +1,4 @@
-.PHONY: cases test c-test mutants
+.PHONY: cases test c-test compare mutants
 
 # Proves the libraries and the program, runs it (rt does, under an emulator where the machine is no x86-64) and holds what it writes
 # to crates/cases/stdout; then shows that file: what the frame tests say of 170 frames that scapy wrote, one port's story, and
@@ -15,6 +15,13 @@ test:
 c-test:
 	rt staticlib myrkosti
 	tools/c-test.sh
+
+# The proved library and an independent model in plain Rust, side by side through random calls, every octet compared.
+SECONDS_TO_COMPARE ?= 60
+compare:
+	rt staticlib myrkosti
+	tools/x86.sh
+	cd rust && cargo run --release -p compare -- --seconds $(SECONDS_TO_COMPARE)
 
 # Not in the gate: changes one definition at a time, as if code and contract followed it, and shows that a law or a claim refuses it.
 mutants:

@@ -10,7 +10,7 @@ if [ "$(uname -m)" = x86_64 ]; then
     run=()
 else
     compiler=x86_64-linux-gnu-gcc
-    command -v "$compiler" > /dev/null || apt-get install -y -q gcc-x86-64-linux-gnu libc6-dev-amd64-cross > /dev/null
+    tools/x86.sh
     run=("/opt/rattle/on/$(uname -m)/toolchain/bin/qemu-x86_64")
 fi
 mkdir -p target/c

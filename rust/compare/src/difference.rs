@@ -1,0 +1,69 @@
+//! What differs between two replies, field by field.
+
+use crate::memory::FIELDS;
+use crate::world::{HEADER, RECORD};
+use myrkosti::raw::{Reply, Request};
+use std::fmt::Write;
+
+fn hex(octets: &[u8]) -> String {
+    octets.iter().fold(String::new(), |mut text, octet| {
+        let _ = write!(text, "{octet:02X}");
+        text
+    })
+}
+
+fn line<T: PartialEq + std::fmt::Debug>(text: &mut String, what: &str, model: &T, library: &T) {
+    if model != library {
+        let _ = writeln!(text, "  {what}: model {model:?}, library {library:?}");
+    }
+}
+
+/// The fields of a table that differ, with what they held before.
+fn tables(text: &mut String, before: &[u8], model: &[u8], library: &[u8]) {
+    line(text, "octets of the table", &model.len(), &library.len());
+    if model.get(..HEADER) != library.get(..HEADER) {
+        let header = |table: &[u8]| hex(table.get(..HEADER).unwrap_or_default());
+        let _ =
+            writeln!(text, "  header: before {}, model {}, library {}", header(before), header(model), header(library));
+    }
+    for port in 0..32 {
+        for (name, at, length, _) in FIELDS {
+            let start = HEADER + RECORD * port + at;
+            let field = |table: &[u8]| table.get(start..start + length).map(hex).unwrap_or_default();
+            if field(model) != field(library) {
+                let _ = writeln!(
+                    text,
+                    "  port {} {name}: before {}, model {}, library {}",
+                    port + 1,
+                    field(before),
+                    field(model),
+                    field(library)
+                );
+            }
+        }
+    }
+}
+
+/// A description of a difference.
+pub fn describe(request: &Request, model: &Reply, library: &Reply) -> String {
+    let mut text = String::new();
+    let _ = writeln!(text, "call: {:?}", request.call);
+    if let myrkosti::raw::Call::Receive { frame, .. } = &request.call {
+        let _ = writeln!(text, "frame ({} octets): {}", frame.len(), hex(frame));
+    }
+    let _ = writeln!(text, "outgoing buffer: {} octets", request.out.len());
+    let _ = writeln!(text, "table before ({} octets):", request.table.len());
+    let (header, records) = request.table.split_at(request.table.len().min(HEADER));
+    let _ = writeln!(text, "  {}", hex(header));
+    for record in records.chunks(RECORD) {
+        let _ = writeln!(text, "  {}", hex(record));
+    }
+    text.push_str("differences:\n");
+    line(&mut text, "answer", &model.answer, &library.answer);
+    line(&mut text, "sent", &model.sent, &library.sent);
+    line(&mut text, "record", &hex(&model.record), &hex(&library.record));
+    line(&mut text, "holding, attached, distributing, count, lowest", &model.aggregator, &library.aggregator);
+    line(&mut text, "outgoing buffer", &hex(&model.out), &hex(&library.out));
+    tables(&mut text, &request.table, &model.table, &library.table);
+    text
+}

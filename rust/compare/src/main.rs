@@ -1,0 +1,222 @@
+//! Drives the library and the model side by side through random calls and compares every octet that a call can write: table,
+//! outgoing buffer, answer, `sent`, record, and the five numbers of an aggregator.
+//!
+//! The model goes first, and the library then performs the same calls in batches, each on the octets that stood before it. As long
+//! as no difference was found these are the library's own octets, and at the first difference the comparison ends.
+
+mod by_model;
+mod difference;
+mod memory;
+mod random;
+mod scenario;
+mod tally;
+mod world;
+
+use by_model::by_model;
+use model::breakage::{self, Breakage};
+use myrkosti::raw::{self, Reply, Request, Unreachable};
+use random::Random;
+use scenario::{Kind, Scenario};
+use std::process::ExitCode;
+use std::time::{Duration, Instant, SystemTime, UNIX_EPOCH};
+use tally::Tally;
+
+/// Calls that go to the library at once.
+const BATCH: usize = 200;
+/// How long a breakage may go on uncaught.
+const PATIENCE: Duration = Duration::from_secs(30);
+
+const USAGE: &str = "\
+usage: compare [--seed N] [--calls N] [--seconds N] [--break NAME] [--breakages]
+  --seed N      begin from this seed (otherwise from the clock)
+  --calls N     stop after so many calls (otherwise 200000, unless --seconds is given)
+  --seconds N   stop after so many seconds
+  --break NAME  make this error in the model
+  --breakages   make each error in turn until it is caught";
+
+/// When to stop.
+#[derive(Clone, Copy)]
+struct Limit {
+    calls: u64,
+    time: Duration,
+}
+
+/// A call that came out differently.
+struct Difference {
+    run: u64,
+    kind: Kind,
+    step: u64,
+    calls: u64,
+    text: String,
+}
+
+/// A call that the model performed and the library has yet to.
+struct Pending {
+    run: u64,
+    kind: Kind,
+    step: u64,
+    reply: Reply,
+}
+
+struct Comparison {
+    tally: Tally,
+    runs: [u64; Kind::ALL.len()],
+    requests: Vec<Request>,
+    pending: Vec<Pending>,
+}
+
+impl Comparison {
+    fn new() -> Comparison {
+        Comparison { tally: Tally::default(), runs: [0; Kind::ALL.len()], requests: Vec::new(), pending: Vec::new() }
+    }
+
+    /// Runs until the limit or the first difference.
+    fn run(&mut self, seed: u64, limit: Limit) -> Result<Option<Difference>, Unreachable> {
+        let begun = Instant::now();
+        let mut seeds = Random::new(seed);
+        let mut calls = 0;
+        for run in 0.. {
+            let mut random = Random::new(seeds.bits());
+            let mut scenario = Scenario::begin(&mut random);
+            let place = Kind::ALL.iter().position(|(_, kind)| *kind == scenario.kind).unwrap_or(0);
+            self.runs[place] += 1;
+            let mut step = 0;
+            while let Some(request) = scenario.next(&mut random) {
+                let reply = by_model(&request);
+                scenario.after(&mut random, &reply);
+                self.requests.push(request);
+                self.pending.push(Pending { run, kind: scenario.kind, step, reply });
+                step += 1;
+                calls += 1;
+                let over = calls >= limit.calls;
+                if over || self.pending.len() >= BATCH {
+                    if let Some(difference) = self.catch_up()? {
+                        return Ok(Some(difference));
+                    }
+                }
+                if over || begun.elapsed() >= limit.time {
+                    return self.catch_up();
+                }
+            }
+        }
+        Ok(None)
+    }
+
+    /// The library performs what the model has performed.
+    fn catch_up(&mut self) -> Result<Option<Difference>, Unreachable> {
+        let replies = raw::perform(&self.requests)?;
+        for ((request, pending), library) in self.requests.drain(..).zip(self.pending.drain(..)).zip(replies) {
+            self.tally.count(&request, &library);
+            if pending.reply != library {
+                return Ok(Some(Difference {
+                    run: pending.run,
+                    kind: pending.kind,
+                    step: pending.step,
+                    calls: self.tally.total(),
+                    text: difference::describe(&request, &pending.reply, &library),
+                }));
+            }
+        }
+        Ok(None)
+    }
+}
+
+/// Compares once; true if there was no difference.
+fn compare(seed: u64, limit: Limit) -> Result<bool, Unreachable> {
+    let begun = Instant::now();
+    let mut comparison = Comparison::new();
+    let difference = comparison.run(seed, limit)?;
+    let seconds = begun.elapsed().as_secs_f64();
+    println!("{}", comparison.tally);
+    for ((_, kind), runs) in Kind::ALL.iter().zip(comparison.runs) {
+        println!("{runs} runs {kind:?}");
+    }
+    println!("{seconds:.1} s, {:.0} calls a second", comparison.tally.total() as f64 / seconds);
+    if let Some(Difference { run, kind, step, calls, text }) = &difference {
+        println!("DIFFERENCE: seed {seed}, run {run} ({kind:?}), step {step}, call {calls}\n{text}");
+    } else {
+        println!("no difference (seed {seed})");
+    }
+    Ok(difference.is_none())
+}
+
+/// Makes each error in turn; true if all were caught.
+fn breakages(seed: u64) -> Result<bool, Unreachable> {
+    let mut all = true;
+    for (name, breakage) in Breakage::ALL {
+        breakage::set(Some(breakage));
+        let caught = Comparison::new().run(seed, Limit { calls: u64::MAX, time: PATIENCE });
+        breakage::set(None);
+        let caught = caught?;
+        match &caught {
+            Some(Difference { calls, kind, .. }) => println!("{name:<34} caught after {calls:>7} calls ({kind:?})"),
+            None => println!("{name:<34} NOT CAUGHT in {} s", PATIENCE.as_secs()),
+        }
+        all &= caught.is_some();
+    }
+    Ok(all)
+}
+
+struct Options {
+    seed: u64,
+    calls: Option<u64>,
+    seconds: Option<u64>,
+    breakage: Option<Breakage>,
+    breakages: bool,
+}
+
+fn options() -> Option<Options> {
+    let clock = SystemTime::now().duration_since(UNIX_EPOCH).map_or(1, |since| since.as_nanos() as u64);
+    let mut options = Options { seed: clock, calls: None, seconds: None, breakage: None, breakages: false };
+    let mut words = std::env::args().skip(1);
+    while let Some(word) = words.next() {
+        match word.as_str() {
+            "--seed" => options.seed = words.next()?.parse().ok()?,
+            "--calls" => options.calls = Some(words.next()?.parse().ok()?),
+            "--seconds" => options.seconds = Some(words.next()?.parse().ok()?),
+            "--break" => options.breakage = Some(Breakage::named(&words.next()?)?),
+            "--breakages" => options.breakages = true,
+            _ => return None,
+        }
+    }
+    Some(options)
+}
+
+fn main() -> ExitCode {
+    let Some(options) = options() else {
+        eprintln!("{USAGE}");
+        eprintln!("names:{}", Breakage::ALL.iter().map(|(name, _)| format!(" {name}")).collect::<String>());
+        return ExitCode::from(2);
+    };
+    println!("seed {}", options.seed);
+    let limit = Limit {
+        calls: options.calls.unwrap_or(if options.seconds.is_some() { u64::MAX } else { 200_000 }),
+        time: options.seconds.map_or(Duration::MAX, Duration::from_secs),
+    };
+    breakage::set(options.breakage);
+    let outcome = if options.breakages { breakages(options.seed) } else { compare(options.seed, limit) };
+    match outcome {
+        Ok(true) => ExitCode::SUCCESS,
+        Ok(false) => ExitCode::FAILURE,
+        Err(unreachable) => {
+            eprintln!("{unreachable}");
+            ExitCode::from(2)
+        }
+    }
+}
+
+#[cfg(test)]
+mod tests {
+    use super::*;
+
+    #[test]
+    fn library_and_model_agree() {
+        let difference = Comparison::new().run(1, Limit { calls: 20_000, time: Duration::MAX });
+        assert!(difference.unwrap().is_none());
+    }
+
+    #[test]
+    fn every_breakage_is_caught() {
+        assert!(breakages(1).unwrap());
+    }
+}

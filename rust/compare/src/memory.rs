@@ -1,0 +1,117 @@
+//! Any memory for a table.
+
+use crate::random::Random;
+use crate::world::{HEADER, RECORD};
+
+/// The fields of a record by name, place and length; and what each may hold, if that is less than its octets can.
+pub const FIELDS: [(&str, usize, usize, Option<u32>); 26] = [
+    ("receive state", 0, 1, Some(5)),
+    ("periodic state", 1, 1, Some(3)),
+    ("mux state", 2, 1, Some(4)),
+    ("Selected", 3, 1, Some(1)),
+    ("aggregator held", 4, 1, Some(0)),
+    ("NTT", 5, 1, Some(1)),
+    ("link", 6, 1, Some(1)),
+    ("duplex", 7, 1, Some(1)),
+    ("actor state", 8, 1, None),
+    ("current-while timer", 9, 2, Some(900)),
+    ("periodic timer", 11, 2, Some(300)),
+    ("wait timer", 13, 1, Some(20)),
+    ("ages of sends", 14, 3, Some(9)),
+    ("own address", 17, 6, None),
+    ("key", 23, 2, None),
+    ("port priority", 25, 2, None),
+    ("default system priority", 27, 2, None),
+    ("default system", 29, 6, None),
+    ("default key", 35, 2, None),
+    ("default port priority and port", 37, 4, None),
+    ("default state", 41, 1, None),
+    ("partner system priority", 42, 2, None),
+    ("partner system", 44, 6, None),
+    ("partner key", 50, 2, None),
+    ("partner port priority and port", 52, 4, None),
+    ("partner state", 56, 1, None),
+];
+
+/// Changes the table, mostly so that it stays in range; true if a tick should come next.
+pub fn change(random: &mut Random, table: &mut Vec<u8>, count: u32) -> bool {
+    match random.below(100) {
+        0..=14 => change_octets(random, table),
+        15..=69 => {
+            for _ in 0..random.between(1, 6) {
+                change_field(random, table, count);
+            }
+        }
+        70..=87 => {
+            for port in 0..count {
+                for field in 0..FIELDS.len() {
+                    put_field(random, table, count, port, field);
+                }
+            }
+        }
+        88..=91 => table.fill_with(|| random.octet()),
+        92..=94 => {
+            let length = table.len().saturating_sub(random.of(&[1, 1, 11, 57, 60]));
+            table.truncate(length);
+        }
+        95..=96 => table.resize(table.len() + random.of(&[1, 2, 57, 58, 1000]), 0),
+        97 => {
+            if let Some(first) = table.first_mut() {
+                *first = random.of(&[0, 33, 255, *first ^ 1, first.wrapping_add(1)]);
+            }
+        }
+        _ => {
+            let length = random.below(2000) as usize;
+            table.clear();
+            table.resize_with(length, || random.octet());
+            if let (Some(first), true) = (table.first_mut(), random.flag()) {
+                *first = (length.saturating_sub(HEADER) / RECORD) as u8;
+            }
+        }
+    }
+    random.percent(40)
+}
+
+/// One to five octets anywhere, small values more often.
+fn change_octets(random: &mut Random, table: &mut [u8]) {
+    for _ in 0..random.between(1, 5) {
+        let at = random.place(table.len());
+        let octet = match random.below(5) {
+            0..=2 => random.below(7) as u8,
+            3 => random.octet(),
+            _ => random.bit(),
+        };
+        if let Some(place) = table.get_mut(at) {
+            *place = if random.flag() { octet } else { *place ^ octet };
+        }
+    }
+}
+
+/// A field of a port, in range.
+fn change_field(random: &mut Random, table: &mut [u8], count: u32) {
+    let port = random.below(count);
+    let field = if random.percent(60) { random.place(13) } else { random.place(FIELDS.len()) };
+    put_field(random, table, count, port, field);
+}
+
+fn put_field(random: &mut Random, table: &mut [u8], count: u32, port: u32, field: usize) {
+    let (_, at, length, highest) = FIELDS[field];
+    let start = HEADER + RECORD * port as usize + at;
+    let Some(place) = table.get_mut(start..start + length) else {
+        return;
+    };
+    match (at, highest) {
+        (4, _) => place[0] = random.between(1, count) as u8,
+        (14, _) => place.fill_with(|| random.of(&[255, 0, 1, 2, 3, 4, 8, 9, 9, 255])),
+        (_, Some(highest)) => {
+            let any = random.below(highest + 1);
+            let number = random.of(&[any, any, 0, 1.min(highest), highest]);
+            place.copy_from_slice(&number.to_be_bytes()[4 - length..]);
+        }
+        (8 | 41 | 56, None) => place[0] = random.octet(),
+        (_, None) => {
+            place.fill(0);
+            place[random.of(&[0, length - 1, length - 1])] = random.of(&[0, 1, 1, 5, 6, 9]);
+        }
+    }
+}

@@ -1,0 +1,372 @@
+//! Runs: a kind, a world, a table, and which call comes next.
+
+use crate::memory;
+use crate::random::Random;
+use crate::world::{self, World, FRAME};
+use myrkosti::raw::{Call, Reply, Request};
+use std::collections::VecDeque;
+
+/// What a run is about.
+#[derive(Clone, Copy, Debug, PartialEq, Eq)]
+pub enum Kind {
+    /// Neighbours that speak, are silent, move; links, duplex, settings.
+    Realistic,
+    /// Frames of every length and with changed octets.
+    DamagedFrames,
+    /// Arguments that are refused.
+    Refusals,
+    /// Any memory for a table.
+    AnyMemory,
+}
+
+impl Kind {
+    /// All kinds, and of a hundred runs how many.
+    pub const ALL: [(u32, Kind); 4] =
+        [(40, Kind::Realistic), (14, Kind::DamagedFrames), (12, Kind::Refusals), (34, Kind::AnyMemory)];
+}
+
+/// Something to do later.
+#[derive(Clone, Copy, Debug)]
+enum Plan {
+    Tick,
+    Hear(u32),
+    /// The far end is in sync, and collects or does not; it says so.
+    HearCollecting(u32, bool),
+    Link(u32, bool),
+    Duplex(u32, bool),
+    Settings(u32),
+    Fetch(u32),
+}
+
+/// A run.
+pub struct Scenario {
+    /// Its kind.
+    pub kind: Kind,
+    world: World,
+    table: Vec<u8>,
+    plans: VecDeque<Plan>,
+    left: u32,
+}
+
+#[derive(Clone, Copy)]
+enum Action {
+    Tick,
+    Ticks,
+    Silence,
+    LiveOn,
+    Hear,
+    HearAll,
+    Handshake,
+    Link,
+    LinkFlap,
+    AllUp,
+    Duplex,
+    Settings,
+    Fetch,
+    FetchAll,
+    FetchTooMuch,
+    Marker,
+    Response,
+    Port,
+    Aggregator,
+    MoveCable,
+    FarEnd,
+    Restart,
+    Refused,
+    Damaged,
+}
+
+const REALISTIC: &[(u32, Action)] = &[
+    (160, Action::Tick),
+    (30, Action::Ticks),
+    (2, Action::Silence),
+    (12, Action::LiveOn),
+    (200, Action::Hear),
+    (30, Action::HearAll),
+    (12, Action::Handshake),
+    (24, Action::Link),
+    (16, Action::LinkFlap),
+    (10, Action::AllUp),
+    (14, Action::Duplex),
+    (30, Action::Settings),
+    (70, Action::Fetch),
+    (16, Action::FetchAll),
+    (8, Action::FetchTooMuch),
+    (16, Action::Marker),
+    (6, Action::Response),
+    (16, Action::Port),
+    (20, Action::Aggregator),
+    (16, Action::MoveCable),
+    (24, Action::FarEnd),
+    (2, Action::Restart),
+    (6, Action::Refused),
+    (6, Action::Damaged),
+];
+
+/// Every call about as often, for memory that no run makes.
+const BALANCED: &[(u32, Action)] = &[
+    (20, Action::Tick),
+    (2, Action::Ticks),
+    (20, Action::Hear),
+    (20, Action::Link),
+    (4, Action::LinkFlap),
+    (24, Action::Duplex),
+    (20, Action::Settings),
+    (14, Action::Fetch),
+    (2, Action::FetchTooMuch),
+    (8, Action::Marker),
+    (2, Action::Response),
+    (6, Action::Port),
+    (8, Action::Aggregator),
+    (1, Action::MoveCable),
+    (2, Action::FarEnd),
+    (1, Action::Refused),
+    (1, Action::Damaged),
+];
+
+impl Scenario {
+    /// A run, at its start.
+    pub fn begin(random: &mut Random) -> Scenario {
+        let kind = random.weighted(&Kind::ALL);
+        let left = match kind {
+            Kind::Realistic => random.between(100, 900),
+            Kind::DamagedFrames => random.between(50, 400),
+            Kind::Refusals => random.between(50, 400),
+            Kind::AnyMemory => random.between(100, 600),
+        };
+        Scenario { kind, world: World::new(random), table: Vec::new(), plans: VecDeque::new(), left }
+    }
+
+    /// The next call, and none when the run is over.
+    pub fn next(&mut self, random: &mut Random) -> Option<Request> {
+        self.left = self.left.checked_sub(1)?;
+        if self.table.is_empty() {
+            self.table = vec![0xA5; model::table_size(self.world.count) as usize];
+            self.table.fill_with(|| random.octet());
+            if random.percent(80) {
+                self.all_up();
+            }
+            let call = self.world.start(random);
+            return Some(self.request(random, call));
+        }
+        if self.kind == Kind::AnyMemory && random.percent(25) {
+            self.plans.clear();
+            self.plans.extend(memory::change(random, &mut self.table, self.world.count).then_some(Plan::Tick));
+        }
+        let call = match (self.plans.pop_front(), self.kind) {
+            (Some(plan), _) => self.planned(random, plan),
+            (None, Kind::DamagedFrames) if random.percent(70) => self.damaged(random),
+            (None, Kind::Refusals) if random.percent(70) => return Some(self.refused(random)),
+            (None, _) => return Some(self.act(random)),
+        };
+        Some(self.request(random, call))
+    }
+
+    /// Takes note of what came of the last call. Memory that is no table is soon given up.
+    pub fn after(&mut self, random: &mut Random, reply: &Reply) {
+        if reply.answer == 1 && random.percent(40) {
+            self.table.clear();
+            self.plans.clear();
+        } else if !self.table.is_empty() && reply.table.len() == self.table.len() {
+            self.table.clone_from(&reply.table);
+        }
+    }
+
+    /// The call on the present table, with an outgoing buffer if it takes one.
+    fn request(&self, random: &mut Random, call: Call) -> Request {
+        let out = match call {
+            Call::Receive { .. } | Call::Fetch { .. } => {
+                let mut out = vec![0; FRAME + random.of(&[0, 0, 0, 1, 7, 60])];
+                let fill = random.octet();
+                out.fill(fill);
+                out
+            }
+            _ => Vec::new(),
+        };
+        Request { call, table: self.table.clone(), out }
+    }
+
+    fn all_up(&mut self) {
+        self.plans.extend((1..=self.world.count).map(|port| Plan::Link(port, true)));
+        self.plans.extend((1..=self.world.count).map(Plan::Hear));
+    }
+
+    fn planned(&mut self, random: &mut Random, plan: Plan) -> Call {
+        match plan {
+            Plan::Tick => Call::Tick,
+            Plan::Hear(port) => Call::Receive { port, frame: self.world.lacpdu(random, &self.table, port) },
+            Plan::HearCollecting(port, collecting) => {
+                self.world.set_collecting(port, collecting);
+                Call::Receive { port, frame: self.world.lacpdu(random, &self.table, port) }
+            }
+            Plan::Link(port, up) => Call::Link { port, up },
+            Plan::Duplex(port, full) => Call::Duplex { port, full },
+            Plan::Settings(port) => {
+                Call::Settings { port, settings: self.world.next_settings(random, &self.table, port) }
+            }
+            Plan::Fetch(port) => Call::Fetch { port },
+        }
+    }
+
+    fn ticks(&mut self, count: u32) {
+        self.plans.extend((0..count).map(|_| Plan::Tick));
+    }
+
+    fn hear_all(&mut self) {
+        self.plans.extend((1..=self.world.count).map(Plan::Hear));
+    }
+
+    /// Chooses until there is a call to make.
+    fn act(&mut self, random: &mut Random) -> Request {
+        let port = self.world.port(random);
+        let actions = if self.kind == Kind::AnyMemory { BALANCED } else { REALISTIC };
+        match random.weighted(actions) {
+            Action::Tick => self.ticks(1),
+            Action::Ticks => self.ticks(random.between(1, 25)),
+            Action::Silence => {
+                let ticks = random.between(1, 1000);
+                self.left += ticks;
+                self.ticks(ticks);
+            }
+            Action::LiveOn => {
+                for _ in 0..random.between(1, 6) {
+                    self.ticks(random.between(1, 12));
+                    self.hear_all();
+                }
+            }
+            Action::Hear => self.plans.push_back(Plan::Hear(port)),
+            Action::HearAll => self.hear_all(),
+            Action::Handshake => {
+                self.plans.push_back(Plan::Link(port, true));
+                self.plans.push_back(Plan::HearCollecting(port, false));
+                self.ticks(random.of(&[0, 1, 19, 20, 21]));
+                for collecting in [false, true, false] {
+                    self.plans.push_back(Plan::HearCollecting(port, collecting));
+                    self.plans.push_back(Plan::Fetch(port));
+                }
+            }
+            Action::Link => self.plans.push_back(Plan::Link(port, random.percent(60))),
+            Action::LinkFlap => {
+                self.plans.push_back(Plan::Link(port, false));
+                self.ticks(random.of(&[0, 0, 1, 5, 15]));
+                self.plans.push_back(Plan::Link(port, true));
+            }
+            Action::AllUp => self.all_up(),
+            Action::Duplex => {
+                self.plans.push_back(Plan::Duplex(port, random.percent(50)));
+                self.ticks(random.of(&[0, 1, 5, 15]));
+                if random.percent(60) {
+                    self.plans.push_back(Plan::Duplex(port, true));
+                }
+            }
+            Action::Settings => self.plans.push_back(Plan::Settings(port)),
+            Action::Fetch => self.plans.push_back(Plan::Fetch(port)),
+            Action::FetchAll => self.plans.extend((1..=self.world.count).map(Plan::Fetch)),
+            Action::FetchTooMuch => {
+                for _ in 0..random.between(3, 8) {
+                    self.plans.push_back(Plan::Settings(port));
+                    self.plans.push_back(Plan::Fetch(port));
+                    self.ticks(random.of(&[0, 0, 1, 4]));
+                }
+            }
+            Action::Marker => {
+                let frame = world::marker(random, 1);
+                return self.request(random, Call::Receive { port, frame });
+            }
+            Action::Response => {
+                let frame = world::marker(random, 2);
+                return self.request(random, Call::Receive { port, frame });
+            }
+            Action::Port => return self.request(random, Call::Port { port }),
+            Action::Aggregator => return self.request(random, Call::Aggregator { aggregator: port }),
+            Action::MoveCable => self.world.move_cable(random),
+            Action::FarEnd => self.world.change_far_end(random),
+            Action::Restart => {
+                let call = self.world.start(random);
+                return self.request(random, call);
+            }
+            Action::Refused => return self.refused(random),
+            Action::Damaged => {
+                let call = self.damaged(random);
+                return self.request(random, call);
+            }
+        }
+        let plan = self.plans.pop_front().unwrap_or(Plan::Tick);
+        let call = self.planned(random, plan);
+        self.request(random, call)
+    }
+
+    /// A frame of any length from 0 to 200, or with an octet or a few changed.
+    fn damaged(&mut self, random: &mut Random) -> Call {
+        let port = self.world.port(random);
+        let mut frame = match random.below(4) {
+            0 => world::marker(random, 1),
+            1 => world::marker(random, 2),
+            _ => self.world.lacpdu(random, &self.table, port),
+        };
+        if random.percent(50) {
+            let length =
+                if random.percent(50) { random.of(&[13, 14, 15, 18, 123, 124, 125]) } else { random.below(201) };
+            frame.resize_with(length as usize, || random.octet());
+        }
+        if random.percent(70) && !frame.is_empty() {
+            for _ in 0..random.of(&[1, 1, 1, 2, 5]) {
+                let tested = random.of(&[0, 5, 12, 13, 14, 14, 14, 15, 16, 16, 17, 17, 36, 37, 56, 57, 72, 73]);
+                let at = if random.percent(50) { tested } else { random.place(frame.len()) };
+                let octet = if random.percent(60) { random.below(22) as u8 } else { random.octet() };
+                if let Some(place) = frame.get_mut(at) {
+                    *place = octet;
+                }
+            }
+        }
+        Call::Receive { port, frame }
+    }
+
+    /// A call with a port that there is not, a short buffer, a wrong default, a table of another size, or several of these.
+    fn refused(&mut self, random: &mut Random) -> Request {
+        let count = self.world.count;
+        let mut port = self.world.port(random);
+        if random.percent(40) {
+            port =
+                random.weighted(&[(3, 0), (3, count + 1), (1, 33), (1, u32::MAX), (1, 256 + port), (1, 65_536 + port)]);
+        }
+        let mut settings = self.world.next_settings(random, &self.table, port);
+        if random.percent(60) {
+            settings.partner[14] ^= random.of(&[0x08, 0x10, 0x18]);
+        }
+        let call = match random.below(10) {
+            0 if random.percent(80) => Call::TableSize { ports: random.below(40) },
+            0 => Call::TableSize { ports: random.bits() as u32 },
+            1 => match self.world.start(random) {
+                Call::Start { system_priority, system, collector_max_delay, .. } => {
+                    let ports = random.weighted(&[(4, count), (1, 0), (1, 33), (1, count + 1), (1, 256 + count)]);
+                    Call::Start { ports, system_priority, system, collector_max_delay, settings }
+                }
+                call => call,
+            },
+            2 => Call::Tick,
+            3 => Call::Link { port, up: random.flag() },
+            4 => Call::Duplex { port, full: random.flag() },
+            5 => Call::Settings { port, settings },
+            6 => Call::Fetch { port },
+            7 => Call::Port { port },
+            8 => Call::Aggregator { aggregator: port },
+            _ if random.flag() => Call::Receive { port, frame: self.world.lacpdu(random, &self.table, port) },
+            _ => match self.damaged(random) {
+                Call::Receive { frame, .. } => Call::Receive { port, frame },
+                call => call,
+            },
+        };
+        let mut request = self.request(random, call);
+        if random.percent(40) {
+            request.out.truncate(random.of(&[0, 1, 14, 60, 122, 123, 124]));
+        }
+        if random.percent(20) {
+            let size = request.table.len() as u32;
+            let other = model::table_size(random.between(1, 32));
+            let length = random.of(&[0, 1, 10, 11, 12, size.saturating_sub(1), size + 1, other, other]);
+            request.table.resize(length as usize, 0);
+        }
+        request
+    }
+}

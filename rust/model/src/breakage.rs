@@ -1,0 +1,96 @@
+//! Deliberate errors of the model. A comparison that is worth its name catches each of them.
+
+use std::cell::Cell;
+
+/// An error that the model makes on demand.
+#[derive(Clone, Copy, Debug, PartialEq, Eq)]
+pub enum Breakage {
+    /// The current-while timer is started by the partner's Timeout bit instead of ours.
+    PartnersTimeout,
+    /// `update_Selected` compares after `recordPDU`, and so sees no change.
+    ComparesAfterRecording,
+    /// EXPIRED records the default block.
+    ExpiredRecordsDefault,
+    /// DEFAULTED forces the partner's Synchronization.
+    DefaultedForcesSynchronization,
+    /// `update_NTT` compares the whole state octet.
+    NttByWholeState,
+    /// PORT_DISABLED clears Expired.
+    PortDisabledClearsExpired,
+    /// Displaced ports are found by the system address alone.
+    DisplacedBySystemAlone,
+    /// A changed partner Timeout is taken before a timer that ran out.
+    TimeoutBeforeTimer,
+    /// A record that rests in INITIALIZE or PERIODIC_TX takes the actions of that state once more before it goes on.
+    RestingStatesAct,
+    /// A timer above 0 does not fall at a tick in a state that does not use it.
+    UnusedTimersStand,
+    /// A waiting port attaches on its own timer, whatever the others of its aggregator do.
+    OwnTimerForReady,
+    /// Ports that hold another aggregator than the rule gives stay there.
+    BystandersForgotten,
+    /// A port takes its new aggregator without going down first.
+    SelectsBeforeDetaching,
+    /// DISTRIBUTING sets NTT.
+    DistributingSetsNtt,
+    /// A port whose own or whose partner's Aggregation is clear joins a group all the same.
+    IndividualsAbsorbed,
+    /// A port whose partner is this system joins a group.
+    LoopbackForgotten,
+    /// NTT is not cleared where both ends are passive.
+    PassiveKeepsNtt,
+    /// A send is forgotten when its age would reach 9.
+    AgeForgottenAtNine,
+    /// Answer 3 comes after the tests of the frame.
+    BufferTestedAfterFrame,
+    /// New settings record their default block at once.
+    DefaultAppliedAtOnce,
+    /// A Marker Response repeats the octets of the Marker from 30 on.
+    ResponseRepeatsPadding,
+}
+
+impl Breakage {
+    /// Every breakage, with the name by which it is asked for.
+    pub const ALL: [(&'static str, Breakage); 21] = [
+        ("partners-timeout", Breakage::PartnersTimeout),
+        ("compares-after-recording", Breakage::ComparesAfterRecording),
+        ("expired-records-default", Breakage::ExpiredRecordsDefault),
+        ("defaulted-forces-synchronization", Breakage::DefaultedForcesSynchronization),
+        ("ntt-by-whole-state", Breakage::NttByWholeState),
+        ("port-disabled-clears-expired", Breakage::PortDisabledClearsExpired),
+        ("displaced-by-system-alone", Breakage::DisplacedBySystemAlone),
+        ("timeout-before-timer", Breakage::TimeoutBeforeTimer),
+        ("resting-states-act", Breakage::RestingStatesAct),
+        ("unused-timers-stand", Breakage::UnusedTimersStand),
+        ("own-timer-for-ready", Breakage::OwnTimerForReady),
+        ("bystanders-forgotten", Breakage::BystandersForgotten),
+        ("selects-before-detaching", Breakage::SelectsBeforeDetaching),
+        ("distributing-sets-ntt", Breakage::DistributingSetsNtt),
+        ("individuals-absorbed", Breakage::IndividualsAbsorbed),
+        ("loopback-forgotten", Breakage::LoopbackForgotten),
+        ("passive-keeps-ntt", Breakage::PassiveKeepsNtt),
+        ("age-forgotten-at-nine", Breakage::AgeForgottenAtNine),
+        ("buffer-tested-after-frame", Breakage::BufferTestedAfterFrame),
+        ("default-applied-at-once", Breakage::DefaultAppliedAtOnce),
+        ("response-repeats-padding", Breakage::ResponseRepeatsPadding),
+    ];
+
+    /// The breakage of that name.
+    pub fn named(name: &str) -> Option<Breakage> {
+        Breakage::ALL.iter().find(|(n, _)| *n == name).map(|(_, breakage)| *breakage)
+    }
+}
+
+thread_local! {
+    static IN_FORCE: Cell<Option<Breakage>> = const { Cell::new(None) };
+}
+
+/// From now on this thread's model makes that error, or none.
+pub fn set(breakage: Option<Breakage>) {
+    IN_FORCE.set(breakage);
+}
+
+/// Whether the model is to make that error.
+pub(crate) fn is(breakage: Breakage) -> bool {
+    IN_FORCE.get() == Some(breakage)
+}

@@ -1,0 +1,343 @@
+//! The calls of `include/myrkosti.h`, with slices for pointers and lengths: refusals in document 01's order, then the
+//! order of work. Each answers document 01's number.
+
+use crate::breakage::{self, Breakage};
+use crate::receive::displace;
+use crate::record::{self, Mux, Periodic, Port, Receive, Settings, Table, HEADER, OLDEST_AGE, OWN_BITS, RECORD};
+use crate::wire::{self, Block, Frame, State, BLOCK, FRAME};
+
+/// Why a call was refused; the discriminants are document 01's numbers.
+#[derive(Clone, Copy, Debug, PartialEq, Eq)]
+#[allow(missing_docs)]
+pub enum Refusal {
+    TableWrong = 1,
+    NoSuchPort = 2,
+    BufferShort = 3,
+    DefaultWrong = 4,
+    LacpOff = 5,
+    Foreign = 6,
+    Unknown = 7,
+    Illegal = 8,
+    NotCollecting = 9,
+    NothingToSend = 10,
+    TooManySends = 11,
+    Response = 12,
+}
+
+fn number<T>(result: Result<T, Refusal>) -> u32 {
+    match result {
+        Ok(_) => 0,
+        Err(refusal) => refusal as u32,
+    }
+}
+
+/// Tests 1 and 2.
+fn open(memory: &[u8], n: u32) -> Result<Table, Refusal> {
+    let table = Table::read(memory).ok_or(Refusal::TableWrong)?;
+    if n == 0 || n as usize > table.ports.len() {
+        return Err(Refusal::NoSuchPort);
+    }
+    Ok(table)
+}
+
+/// Test 3.
+fn long_enough(out: &mut [u8]) -> Result<&mut [u8; FRAME], Refusal> {
+    out.first_chunk_mut().ok_or(Refusal::BufferShort)
+}
+
+/// Test 4.
+fn right_default(settings: &Settings) -> Result<(), Refusal> {
+    let state = settings.default.state;
+    if state.has(State::COLLECTING) == state.has(State::SYNCHRONIZATION) {
+        Ok(())
+    } else {
+        Err(Refusal::DefaultWrong)
+    }
+}
+
+fn own_bits(activity: bool, timeout: bool, aggregation: bool) -> u8 {
+    let mut state = State(0);
+    state.put(State::ACTIVITY, activity);
+    state.put(State::TIMEOUT, timeout);
+    state.put(State::AGGREGATION, aggregation);
+    state.0
+}
+
+/// The end of an accepted call that changes something: periodic machines, then steps 3 to 6, over all ports.
+fn finish(mut table: Table, memory: &mut [u8]) {
+    for port in &mut table.ports {
+        port.periodic_machine();
+    }
+    table.settle();
+    table.write(memory);
+}
+
+/// The octets of a table's memory; 0 for a count outside 1 to 32.
+pub fn table_size(ports: u32) -> u32 {
+    record::size(ports).map_or(0, |size| size as u32)
+}
+
+/// Starts a table.
+#[allow(clippy::too_many_arguments)] // the signature is that of the C interface
+pub fn start(
+    table: &mut [u8],
+    ports: u32,
+    system_priority: u16,
+    system: &[u8; 6],
+    collector_max_delay: u16,
+    address: &[u8; 6],
+    key: u16,
+    port_priority: u16,
+    activity: bool,
+    timeout: bool,
+    aggregation: bool,
+    partner: &[u8; BLOCK],
+) -> u32 {
+    let settings = Settings {
+        address: *address,
+        key,
+        port_priority,
+        own_bits: own_bits(activity, timeout, aggregation),
+        default: Block::read(partner),
+    };
+    if record::size(ports) != Some(table.len()) {
+        return Refusal::TableWrong as u32;
+    }
+    if let Err(refusal) = right_default(&settings) {
+        return refusal as u32;
+    }
+    let port = begun(&settings);
+    let mut begun = Table { system_priority, system: *system, collector_max_delay, ports: vec![port; ports as usize] };
+    begun.settle();
+    begun.write(table);
+    0
+}
+
+/// A port after INITIALIZE and PORT_DISABLED: link down, duplex full, NTT set, no send remembered.
+fn begun(settings: &Settings) -> Port {
+    let mut port = Port {
+        receive: Receive::Initialize,
+        periodic: Periodic::NoPeriodic,
+        mux: Mux::Detached,
+        selected: false,
+        aggregator: 1,
+        ntt: true,
+        link: false,
+        full_duplex: true,
+        actor_state: State(settings.own_bits & OWN_BITS),
+        current_while: 0,
+        periodic_timer: 0,
+        wait_while: 0,
+        ages: [None; 3],
+        address: settings.address,
+        key: settings.key,
+        port_priority: settings.port_priority,
+        default: settings.default,
+        partner: settings.default,
+    };
+    port.initialize();
+    port
+}
+
+/// A frame came in on a port.
+pub fn receive(table: &mut [u8], port: u32, frame: &[u8], out: &mut [u8], sent: &mut u32) -> u32 {
+    *sent = 0;
+    let result = received(table, port, frame, out);
+    if let Ok(length) = result {
+        *sent = length;
+    }
+    number(result)
+}
+
+fn received(memory: &mut [u8], n: u32, frame: &[u8], out: &mut [u8]) -> Result<u32, Refusal> {
+    let mut table = open(memory, n)?;
+    if breakage::is(Breakage::BufferTestedAfterFrame) {
+        wire::read(frame)?;
+    }
+    let out = long_enough(out)?;
+    let actor_of_n = table.actor(n);
+    let port = &mut table.ports[n as usize - 1];
+    match wire::read(frame)? {
+        Frame::Lacpdu { .. } if !port.link || !port.full_duplex => Err(Refusal::LacpOff),
+        Frame::Lacpdu { actor, partner } => {
+            port.current(&actor_of_n, &actor, &partner);
+            displace(&mut table, n, &actor);
+            finish(table, memory);
+            Ok(0)
+        }
+        Frame::Marker(_) if !port.mux.collects() => Err(Refusal::NotCollecting),
+        Frame::Marker(octets) => {
+            *out = wire::marker_response(&port.address, octets);
+            Ok(FRAME as u32)
+        }
+        Frame::Response => Err(Refusal::Response),
+    }
+}
+
+/// A tenth of a second has passed.
+pub fn tick(table: &mut [u8]) -> u32 {
+    let Some(mut read) = Table::read(table) else {
+        return Refusal::TableWrong as u32;
+    };
+    for port in &mut read.ports {
+        port.ticked();
+        port.receive_machine();
+    }
+    finish(read, table);
+    0
+}
+
+impl Port {
+    /// Step 1 of a tick: running timers fall by one; an age rises by one, and one that would reach 10 is forgotten.
+    fn ticked(&mut self) {
+        let stand = breakage::is(Breakage::UnusedTimersStand);
+        if !stand || matches!(self.receive, Receive::Current | Receive::Expired) {
+            self.current_while = self.current_while.saturating_sub(1);
+        }
+        if !stand || matches!(self.periodic, Periodic::FastPeriodic | Periodic::SlowPeriodic) {
+            self.periodic_timer = self.periodic_timer.saturating_sub(1);
+        }
+        if !stand || self.mux == Mux::Waiting {
+            self.wait_while = self.wait_while.saturating_sub(1);
+        }
+        let oldest = if breakage::is(Breakage::AgeForgottenAtNine) { OLDEST_AGE - 1 } else { OLDEST_AGE };
+        self.ages = self.ages.map(|age| age.map(|age| age + 1).filter(|age| *age <= oldest));
+    }
+
+    /// The link falls, and then link and duplex are these: the Receive machine sees both.
+    fn relinked(&mut self, up: bool, full: bool) {
+        self.link = false;
+        self.receive_machine();
+        self.link = up;
+        self.full_duplex = full;
+        self.receive_machine();
+    }
+}
+
+/// The link of a port is up or down now.
+pub fn link(table: &mut [u8], port: u32, up: bool) -> u32 {
+    number(open(table, port).map(|mut read| {
+        let record = &mut read.ports[port as usize - 1];
+        if record.link != up {
+            record.relinked(up, record.full_duplex);
+            finish(read, table);
+        }
+    }))
+}
+
+/// The duplex of a port is full or half now.
+pub fn duplex(table: &mut [u8], port: u32, full: bool) -> u32 {
+    number(open(table, port).map(|mut read| {
+        let record = &mut read.ports[port as usize - 1];
+        if record.full_duplex != full {
+            record.relinked(record.link, full);
+            finish(read, table);
+        }
+    }))
+}
+
+/// A port has these settings from now on.
+#[allow(clippy::too_many_arguments)] // the signature is that of the C interface
+pub fn settings(
+    table: &mut [u8],
+    port: u32,
+    address: &[u8; 6],
+    key: u16,
+    port_priority: u16,
+    activity: bool,
+    timeout: bool,
+    aggregation: bool,
+    partner: &[u8; BLOCK],
+) -> u32 {
+    let settings = Settings {
+        address: *address,
+        key,
+        port_priority,
+        own_bits: own_bits(activity, timeout, aggregation),
+        default: Block::read(partner),
+    };
+    number(set(table, port, &settings))
+}
+
+fn set(memory: &mut [u8], n: u32, new: &Settings) -> Result<(), Refusal> {
+    let mut table = open(memory, n)?;
+    right_default(new)?;
+    let port = &mut table.ports[n as usize - 1];
+    let old = port.settings();
+    if old == *new {
+        return Ok(());
+    }
+    let aggregation = (old.own_bits ^ new.own_bits) & State::AGGREGATION != 0;
+    if old.key != new.key || old.port_priority != new.port_priority || aggregation {
+        port.selected = false;
+    }
+    port.put_settings(new);
+    port.ntt = true;
+    if breakage::is(Breakage::DefaultAppliedAtOnce) && port.actor_state.has(State::DEFAULTED) {
+        port.partner = new.default;
+    }
+    finish(table, memory);
+    Ok(())
+}
+
+/// The next LACPDU of a port: changes only NTT and the ages of that port.
+pub fn fetch(table: &mut [u8], port: u32, out: &mut [u8]) -> u32 {
+    number(fetched(table, port, out))
+}
+
+fn fetched(memory: &mut [u8], n: u32, out: &mut [u8]) -> Result<(), Refusal> {
+    let mut table = open(memory, n)?;
+    let out = long_enough(out)?;
+    let actor = table.actor(n);
+    let port = &mut table.ports[n as usize - 1];
+    if !port.ntt || !port.link || !port.full_duplex {
+        return Err(Refusal::NothingToSend);
+    }
+    let free = port.ages.iter().position(Option::is_none).ok_or(Refusal::TooManySends)?;
+    *out = wire::lacpdu(&port.address, &actor, &port.partner, table.collector_max_delay);
+    port.ages.copy_within(0..free, 1);
+    port.ages[0] = Some(0);
+    port.ntt = false;
+    table.write(memory);
+    Ok(())
+}
+
+/// The record of a port, zeros beside a refusal.
+pub fn port(table: &[u8], port: u32, record: &mut [u8; RECORD]) -> u32 {
+    *record = [0; RECORD];
+    number(open(table, port).map(|_| {
+        let at = HEADER + RECORD * (port as usize - 1);
+        record.copy_from_slice(&table[at..at + RECORD]);
+    }))
+}
+
+/// The ports that hold an aggregator, are attached to it and distribute; how many distribute, and the lowest of them.
+pub fn aggregator(
+    table: &[u8],
+    aggregator: u32,
+    holding: &mut u32,
+    attached: &mut u32,
+    distributing: &mut u32,
+    count: &mut u32,
+    lowest: &mut u32,
+) -> u32 {
+    for figure in [&mut *holding, attached, distributing, count, lowest] {
+        *figure = 0;
+    }
+    number(open(table, aggregator).map(|read| {
+        for (n, port) in (1..).zip(&read.ports).filter(|(_, port)| u32::from(port.aggregator) == aggregator) {
+            let bit = 1 << (n - 1);
+            *holding |= bit;
+            if port.mux.attached() {
+                *attached |= bit;
+            }
+            if port.mux.distributes() {
+                *distributing |= bit;
+                *count += 1;
+                if *lowest == 0 {
+                    *lowest = n;
+                }
+            }
+        }
+    }))
+}

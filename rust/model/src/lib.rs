@@ -1,0 +1,29 @@
+//! An independent model of document 01 over IEEE Std 802.3ad-2000, Clause 43.
+//!
+//! It takes the calls of `include/myrkosti.h` over the same octets, with slices for pointers and lengths, and was
+//! written from the papers without sight of the library's source, so that each can check the other. It reads the
+//! whole table into values, works on those, and writes the whole table back: plain before fast.
+//!
+//! | File | Subject |
+//! |---|---|
+//! | [`wire`] | octets of frames, the information block, the state octet |
+//! | [`record`] | a port's record, the table in memory and its ranges |
+//! | [`mod@receive`] | Receive machine and the functions of 43.4.9; displaced ports |
+//! | [`periodic`] | Periodic Transmission machine |
+//! | [`mux`] | Mux machine, independent control |
+//! | [`select`] | the selection rule, Ready, steps 3 to 6 of the order of work |
+//! | [`calls`] | the calls, their refusals in document 01's order |
+//! | [`breakage`] | deliberate errors, to see that a comparison catches them |
+
+#![forbid(unsafe_code)]
+
+pub mod breakage;
+pub mod calls;
+pub mod mux;
+pub mod periodic;
+pub mod receive;
+pub mod record;
+pub mod select;
+pub mod wire;
+
+pub use calls::{aggregator, duplex, fetch, link, port, receive, settings, start, table_size, tick};

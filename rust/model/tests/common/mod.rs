@@ -1,0 +1,127 @@
+//! A bench for the tests: one system (priority 1, address 9), settings key 1,
+//! priority 1, own bits active 1, short 2, aggregatable 4.
+#![allow(dead_code, missing_docs)]
+
+use model::record::{Port, Table};
+use model::wire::{self, Block, State, FRAME};
+
+pub const ADDRESS: [u8; 6] = [0x02, 0x00, 0x5E, 0x10, 0x20, 0x30];
+pub const OURS: [u8; 6] = [0, 0, 0, 0, 0, 9];
+pub const DELAY: u16 = 0x1234;
+
+/// Settings as arguments.
+#[derive(Clone, Copy)]
+pub struct Set {
+    pub address: [u8; 6],
+    pub key: u16,
+    pub priority: u16,
+    pub bits: u8,
+    pub default: Block,
+}
+
+/// Key 1, priority 1, these own bits, a default block of zeros with that state.
+pub fn set(bits: u8, default_state: u8) -> Set {
+    let default = Block { state: State(default_state), ..Block::default() };
+    Set { address: ADDRESS, key: 1, priority: 1, bits, default }
+}
+
+/// System priority 1, key 1, port priority 1.
+pub fn far(system: u8, port: u16, state: u8) -> Block {
+    Block { system_priority: 1, system: [0, 0, 0, 0, 0, system], key: 1, port_priority: 1, port, state: State(state) }
+}
+
+pub struct Bench {
+    pub memory: Vec<u8>,
+}
+
+impl Bench {
+    pub fn start(count: u32, bits: u8, default_state: u8) -> Bench {
+        Bench::start_with(count, set(bits, default_state))
+    }
+
+    pub fn start_with(count: u32, set: Set) -> Bench {
+        let mut bench = Bench { memory: vec![0xA5; model::table_size(count) as usize] };
+        assert_eq!(bench.restart(count, set), 0);
+        bench
+    }
+
+    pub fn restart(&mut self, count: u32, set: Set) -> u32 {
+        let Set { address, key, priority, bits, default } = set;
+        let (a, t, g) = (bits & 1 != 0, bits & 2 != 0, bits & 4 != 0);
+        model::start(&mut self.memory, count, 1, &OURS, DELAY, &address, key, priority, a, t, g, &default.octets())
+    }
+
+    pub fn table(&self) -> Table {
+        Table::read(&self.memory).expect("in range")
+    }
+
+    pub fn port(&self, n: usize) -> Port {
+        self.table().ports[n - 1].clone()
+    }
+
+    /// Changes the record of a port in memory.
+    pub fn poke(&mut self, n: usize, change: impl FnOnce(&mut Port)) {
+        let mut table = self.table();
+        change(&mut table.ports[n - 1]);
+        table.write(&mut self.memory);
+    }
+
+    pub fn ticks(&mut self, count: u32) {
+        for _ in 0..count {
+            assert_eq!(model::tick(&mut self.memory), 0);
+        }
+    }
+
+    pub fn link(&mut self, n: u32, up: bool) {
+        assert_eq!(model::link(&mut self.memory, n, up), 0);
+    }
+
+    pub fn duplex(&mut self, n: u32, full: bool) {
+        assert_eq!(model::duplex(&mut self.memory, n, full), 0);
+    }
+
+    pub fn settings(&mut self, n: u32, set: Set) -> u32 {
+        let Set { address, key, priority, bits, default } = set;
+        let (a, t, g) = (bits & 1 != 0, bits & 2 != 0, bits & 4 != 0);
+        model::settings(&mut self.memory, n, &address, key, priority, a, t, g, &default.octets())
+    }
+
+    pub fn fetch(&mut self, n: u32) -> u32 {
+        model::fetch(&mut self.memory, n, &mut [0xFF; FRAME])
+    }
+
+    /// Hands over a frame with a buffer of 124 octets.
+    pub fn hand(&mut self, n: u32, frame: &[u8]) -> u32 {
+        let mut sent = 9;
+        let answer = model::receive(&mut self.memory, n, frame, &mut [0xFF; FRAME], &mut sent);
+        assert!(sent == 0 || sent == 124 && answer == 0);
+        answer
+    }
+
+    /// Receives an LACPDU with these blocks.
+    pub fn rx_both(&mut self, n: u32, actor: Block, partner: Block) -> u32 {
+        self.hand(n, &wire::lacpdu(&actor.system, &actor, &partner, 0))
+    }
+
+    /// Receives an LACPDU of that actor which repeats what the port says of itself.
+    pub fn rx(&mut self, n: u32, actor: Block) {
+        let partner = self.table().actor(n);
+        assert_eq!(self.rx_both(n, actor, partner), 0);
+    }
+
+    /// The aggregators held.
+    pub fn held(&self) -> Vec<u8> {
+        self.table().ports.iter().map(|port| port.aggregator).collect()
+    }
+}
+
+pub fn lacpdu() -> [u8; FRAME] {
+    wire::lacpdu(&[2, 0, 0, 0, 0, 5], &far(5, 1, 0x3F), &far(9, 1, 0x07), 0)
+}
+
+pub fn marker(kind: u8) -> [u8; FRAME] {
+    let mut frame = lacpdu();
+    frame[14..].fill(0x77);
+    frame[14..18].copy_from_slice(&[2, 1, kind, 16]);
+    frame
+}

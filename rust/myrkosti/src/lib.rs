@@ -1,0 +1,62 @@
+//! The control side of link aggregation (LACP and Marker, IEEE Std 802.3ad-2000, Clause 43) for an access switch: a safe
+//! interface to `libmyrkosti`, whose calls are proved to meet their contracts.
+//!
+//! A [`Table`] is one Aggregation System of 1 to 32 ports. You tell it what happens (frames, ticks, links, duplex,
+//! settings), send what it gives you to send, and read from its reports which ports form one trunk:
+//!
+//! ```
+//! use myrkosti::{Block, Received, Refusal, Settings, SystemId, Table, FRAME};
+//!
+//! # fn main() -> Result<(), Refusal> {
+//! let ours = SystemId { priority: 0x8000, address: [0x02, 0, 0, 0, 0, 9] };
+//! let settings = Settings {
+//!     address: [0x02, 0, 0, 0, 0, 1],
+//!     key: 1,
+//!     port_priority: 0x8000,
+//!     activity: true,
+//!     short_timeout: true,
+//!     aggregation: true,
+//!     default_partner: Block::default(),
+//! };
+//! let mut table = Table::start(2, ours, 0, &settings)?;
+//! table.link(1, true)?;
+//!
+//! let mut out = [0; FRAME];
+//! assert_eq!(table.fetch(1, &mut out)?.len(), FRAME); // send it on port 1
+//! assert_eq!(table.fetch(1, &mut out), Err(Refusal::NothingToSend));
+//! assert_eq!(table.receive(1, b"no frame of ours", &mut out), Err(Refusal::Foreign));
+//!
+//! for _ in 0..20 {
+//!     table.tick()?; // ten times a second
+//! }
+//! assert!(table.port(1)?.mux.attached());
+//! assert_eq!(table.aggregator(1)?.distributing.iter().count(), 0);
+//! # Ok(())
+//! # }
+//! ```
+//!
+//! No call panics, whatever it is given. A refused call leaves the table and the outgoing buffer as they came.
+//!
+//! The library is an archive for x86-64. On that architecture it is linked, and a call is a call. Elsewhere the same
+//! interface hands each call to a small program that links the archive and runs under an emulator: good for tests, too slow
+//! for a switch. Should that program not run, calls are refused with [`Refusal::Unreachable`].
+//!
+//! [`raw`] has the calls as in `include/myrkosti.h`, with numbers and lent octets, and a way to perform many at once.
+
+mod answer;
+pub mod raw;
+mod record;
+mod table;
+
+pub use answer::{Answer, Refusal};
+pub use record::{Block, MuxState, PeriodicState, PortState, ReceiveState, Record, Settings, SystemId};
+pub use table::{AggregatorReport, PortSet, Received, Table, TableRef};
+
+/// The most ports that a table has.
+pub const PORTS: u32 = 32;
+/// Octets of every frame that the library writes, without FCS; an outgoing buffer has at least as many.
+pub const FRAME: usize = 124;
+/// Octets of an information block.
+pub const BLOCK: usize = 15;
+/// Octets of a port's record.
+pub const RECORD: usize = 57;

@@ -1,0 +1,280 @@
+//! Tables and their reports.
+
+use crate::answer::{Answer, Refusal};
+use crate::record::{Record, Settings, SystemId};
+use crate::{raw, FRAME, RECORD};
+
+/// A table of 1 to 32 ports: one Aggregation System, in the memory `M`.
+///
+/// `Table` alone owns its memory; [`TableRef`] works in memory that it was lent. The methods are the same. Ports and aggregators
+/// are numbered from 1.
+#[derive(Clone, Debug, PartialEq, Eq)]
+pub struct Table<M = Box<[u8]>> {
+    memory: M,
+}
+
+/// A table in lent memory.
+///
+/// ```
+/// # use myrkosti::{Block, Refusal, Settings, SystemId, Table, TableRef};
+/// # fn main() -> Result<(), Refusal> {
+/// # let settings = Settings { address: [0; 6], key: 1, port_priority: 1, activity: true, short_timeout: true,
+/// #     aggregation: true, default_partner: Block::default() };
+/// let mut memory = [0; 68]; // Table::size(1)
+/// TableRef::start_in(&mut memory[..], 1, SystemId::default(), 0, &settings)?;
+/// let mut table = Table::from_memory(&mut memory[..]);
+/// table.link(1, true)?;
+/// assert!(table.port(1)?.link_up);
+/// # Ok(())
+/// # }
+/// ```
+pub type TableRef<'a> = Table<&'a mut [u8]>;
+
+/// What came of a frame that was taken.
+#[derive(Clone, Copy, Debug, PartialEq, Eq)]
+pub enum Received<'a> {
+    /// An LACPDU. Nothing is to be sent, and the outgoing buffer is as it came; other ports may have changed too.
+    Lacpdu,
+    /// A Marker. This Response, which stands at the beginning of the outgoing buffer, is to be sent on that port.
+    Marker(&'a [u8]),
+}
+
+/// A set of ports.
+#[derive(Clone, Copy, Debug, Default, PartialEq, Eq, Hash)]
+pub struct PortSet(pub u32);
+
+impl PortSet {
+    /// Whether the port, numbered from 1, is in the set.
+    pub fn contains(self, port: u32) -> bool {
+        port.checked_sub(1).and_then(|bit| self.0.checked_shr(bit)).is_some_and(|rest| rest & 1 == 1)
+    }
+
+    /// The ports of the set, the lowest first.
+    pub fn iter(self) -> impl Iterator<Item = u32> {
+        (1..=u32::BITS).filter(move |port| self.contains(*port))
+    }
+}
+
+/// The ports of an aggregator.
+#[derive(Clone, Copy, Debug, Default, PartialEq, Eq, Hash)]
+pub struct AggregatorReport {
+    /// Those that hold it.
+    pub holding: PortSet,
+    /// Those of them that are attached.
+    pub attached: PortSet,
+    /// Those of them that distribute: only these carry traffic.
+    pub distributing: PortSet,
+    /// How many distribute.
+    pub count: u32,
+    /// The lowest port that distributes.
+    pub lowest: Option<u32>,
+}
+
+impl Table {
+    /// A table of that many ports, each with these settings. Links are down and duplexes full: tell it of each link that is up.
+    /// `system` names this switch and must be its own; `collector_max_delay` counts tens of microseconds.
+    ///
+    /// # Errors
+    /// [`Refusal::TableWrong`] for a count outside 1 to 32, [`Refusal::DefaultWrong`].
+    pub fn start(
+        ports: u32,
+        system: SystemId,
+        collector_max_delay: u16,
+        settings: &Settings,
+    ) -> Result<Table, Refusal> {
+        let memory = vec![0; Table::size(ports).unwrap_or(0)].into_boxed_slice();
+        Table::start_in(memory, ports, system, collector_max_delay, settings)
+    }
+
+    /// The octets that the memory of a table of that many ports has, no more and no less; none for a count outside 1 to 32.
+    pub fn size(ports: u32) -> Option<usize> {
+        /// No table is larger.
+        const LARGEST: u32 = 32_768;
+        let octets = raw::table_size(ports);
+        (1..=LARGEST).contains(&octets).then_some(octets as usize)
+    }
+}
+
+impl<M: AsRef<[u8]> + AsMut<[u8]>> Table<M> {
+    /// Starts a table in this memory, of [`Table::size`] octets; what it held before does not matter. Else as [`Table::start`].
+    ///
+    /// # Errors
+    /// [`Refusal::TableWrong`] for a count outside 1 to 32 or memory of another size, [`Refusal::DefaultWrong`].
+    pub fn start_in(
+        memory: M,
+        ports: u32,
+        system: SystemId,
+        collector_max_delay: u16,
+        settings: &Settings,
+    ) -> Result<Table<M>, Refusal> {
+        let mut table = Table { memory };
+        table.restart(ports, system, collector_max_delay, settings)?;
+        Ok(table)
+    }
+
+    /// Takes memory for a table as it is. Every call looks whether it is one.
+    pub fn from_memory(memory: M) -> Table<M> {
+        Table { memory }
+    }
+
+    /// Hands the memory back.
+    pub fn into_memory(self) -> M {
+        self.memory
+    }
+
+    /// The octets of the table.
+    pub fn as_octets(&self) -> &[u8] {
+        self.memory.as_ref()
+    }
+
+    /// The same table, for a part of the program that works in lent memory.
+    pub fn lend(&mut self) -> TableRef<'_> {
+        Table { memory: self.memory.as_mut() }
+    }
+
+    /// Begins anew in the same memory. As [`Table::start_in`].
+    ///
+    /// # Errors
+    /// As [`Table::start_in`]; then the table is as it was.
+    pub fn restart(
+        &mut self,
+        ports: u32,
+        system: SystemId,
+        collector_max_delay: u16,
+        settings: &Settings,
+    ) -> Result<(), Refusal> {
+        answered(raw::start(
+            self.memory.as_mut(),
+            ports,
+            system.priority,
+            &system.address,
+            collector_max_delay,
+            &settings.address,
+            settings.key,
+            settings.port_priority,
+            settings.activity,
+            settings.short_timeout,
+            settings.aggregation,
+            &settings.default_partner.to_octets(),
+        ))
+    }
+
+    /// A frame came in on a port: hand over every frame to 01-80-C2-00-00-02, without FCS, as it came. The outgoing buffer has at
+    /// least [`FRAME`] octets, whatever the frame is.
+    ///
+    /// # Errors
+    /// Refusals 1 to 3, 5 to 9 and 12.
+    pub fn receive<'o>(&mut self, port: u32, frame: &[u8], out: &'o mut [u8]) -> Result<Received<'o>, Refusal> {
+        let mut sent = 0;
+        answered(raw::receive(self.memory.as_mut(), port, frame, out, &mut sent))?;
+        let out: &'o [u8] = out;
+        Ok(match (sent as usize, out.get(..FRAME)) {
+            (FRAME, Some(response)) => Received::Marker(response),
+            _ => Received::Lacpdu,
+        })
+    }
+
+    /// A tenth of a second has passed. Call it ten times a second, for all ports at once.
+    ///
+    /// # Errors
+    /// [`Refusal::TableWrong`].
+    pub fn tick(&mut self) -> Result<(), Refusal> {
+        answered(raw::tick(self.memory.as_mut()))
+    }
+
+    /// The link of a port is up or down now. A value as it is changes nothing.
+    ///
+    /// # Errors
+    /// [`Refusal::TableWrong`], [`Refusal::NoSuchPort`].
+    pub fn link(&mut self, port: u32, up: bool) -> Result<(), Refusal> {
+        answered(raw::link(self.memory.as_mut(), port, up))
+    }
+
+    /// The duplex of a port is full or half now; at half duplex LACP is off. A value as it is changes nothing.
+    ///
+    /// # Errors
+    /// [`Refusal::TableWrong`], [`Refusal::NoSuchPort`].
+    pub fn duplex(&mut self, port: u32, full: bool) -> Result<(), Refusal> {
+        answered(raw::duplex(self.memory.as_mut(), port, full))
+    }
+
+    /// A port has these settings from now on. Equal settings change nothing. Another key, port priority or Aggregation takes the
+    /// port out of its trunk for at least two seconds. A new default block counts from the next time that the partner is given up.
+    ///
+    /// # Errors
+    /// [`Refusal::TableWrong`], [`Refusal::NoSuchPort`], [`Refusal::DefaultWrong`].
+    pub fn settings(&mut self, port: u32, settings: &Settings) -> Result<(), Refusal> {
+        answered(raw::settings(
+            self.memory.as_mut(),
+            port,
+            &settings.address,
+            settings.key,
+            settings.port_priority,
+            settings.activity,
+            settings.short_timeout,
+            settings.aggregation,
+            &settings.default_partner.to_octets(),
+        ))
+    }
+
+    /// The next LACPDU of a port, to be sent on it: the first [`FRAME`] octets of the outgoing buffer. Ask every port after every
+    /// call that was not refused, and after every tick.
+    ///
+    /// # Errors
+    /// Refusals 1 to 3, [`Refusal::NothingToSend`], [`Refusal::TooManySends`].
+    pub fn fetch<'o>(&mut self, port: u32, out: &'o mut [u8]) -> Result<&'o [u8], Refusal> {
+        answered(raw::fetch(self.memory.as_mut(), port, out))?;
+        let out: &'o [u8] = out;
+        out.get(..FRAME).ok_or(Refusal::BufferShort)
+    }
+
+    /// The record of a port.
+    ///
+    /// # Errors
+    /// [`Refusal::TableWrong`], [`Refusal::NoSuchPort`].
+    pub fn port(&self, port: u32) -> Result<Record, Refusal> {
+        let mut record = [0; RECORD];
+        answered(raw::port(self.memory.as_ref(), port, &mut record))?;
+        Record::from_octets(&record).ok_or(Refusal::TableWrong)
+    }
+
+    /// The ports of an aggregator.
+    ///
+    /// # Errors
+    /// [`Refusal::TableWrong`], [`Refusal::NoSuchPort`].
+    pub fn aggregator(&self, aggregator: u32) -> Result<AggregatorReport, Refusal> {
+        let [mut holding, mut attached, mut distributing, mut count, mut lowest] = [0; 5];
+        answered(raw::aggregator(
+            self.memory.as_ref(),
+            aggregator,
+            &mut holding,
+            &mut attached,
+            &mut distributing,
+            &mut count,
+            &mut lowest,
+        ))?;
+        Ok(AggregatorReport {
+            holding: PortSet(holding),
+            attached: PortSet(attached),
+            distributing: PortSet(distributing),
+            count,
+            lowest: (lowest != 0).then_some(lowest),
+        })
+    }
+}
+
+fn answered(number: u32) -> Result<(), Refusal> {
+    Answer::from_number(number).result()
+}
+
+#[cfg(test)]
+mod tests {
+    use super::PortSet;
+
+    #[test]
+    fn sets() {
+        let set = PortSet(1 | 1 << 31);
+        assert_eq!(set.iter().collect::<Vec<_>>(), [1, 32]);
+        assert!(![0, 2, 31, 33, 64, 65, u32::MAX].into_iter().any(|port| set.contains(port)));
+    }
+}

@@ -1,0 +1,183 @@
+//! Every method of a table, with its refusals.
+
+use myrkosti::{
+    raw, Block, MuxState, PortState, ReceiveState, Received, Refusal, Settings, SystemId, Table, TableRef, FRAME,
+};
+
+const OURS: SystemId = SystemId { priority: 1, address: [0, 0, 0, 0, 0, 9] };
+const THEIRS: SystemId = SystemId { priority: 1, address: [0, 0, 0, 0, 0, 5] };
+
+fn settings() -> Settings {
+    Settings {
+        address: [0x02, 0x00, 0x5E, 0x10, 0x20, 0x30],
+        key: 1,
+        port_priority: 1,
+        activity: true,
+        short_timeout: true,
+        aggregation: true,
+        default_partner: Block::default(),
+    }
+}
+
+fn wrong_default() -> Settings {
+    Settings { default_partner: Block { state: PortState::COLLECTING, ..Block::default() }, ..settings() }
+}
+
+fn lacpdu(port: u16, partner: &Block) -> [u8; FRAME] {
+    let actor = Block { system: THEIRS, key: 1, port_priority: 1, port, state: PortState(0x3F) };
+    let mut frame = [0; FRAME];
+    frame[..18].copy_from_slice(&[1, 0x80, 0xC2, 0, 0, 2, 2, 0, 0, 0, 0, 5, 0x88, 9, 1, 1, 1, 20]);
+    frame[18..33].copy_from_slice(&actor.to_octets());
+    frame[36..38].copy_from_slice(&[2, 20]);
+    frame[38..53].copy_from_slice(&partner.to_octets());
+    frame[56..58].copy_from_slice(&[3, 16]);
+    frame
+}
+
+fn marker(kind: u8) -> [u8; FRAME] {
+    let mut frame = [0; FRAME];
+    frame[..18].copy_from_slice(&[1, 0x80, 0xC2, 0, 0, 2, 2, 0, 0, 0, 0, 5, 0x88, 9, 2, 1, kind, 16]);
+    frame[29] = 7;
+    frame
+}
+
+/// What a port says of itself.
+fn actor(table: &Table, port: u32) -> Block {
+    let record = table.port(port).unwrap();
+    Block { system: OURS, key: 1, port_priority: 1, port: port as u16, state: record.actor_state }
+}
+
+#[test]
+fn two_links_become_a_trunk() {
+    let mut table = Table::start(2, OURS, 0, &settings()).unwrap();
+    let mut out = [0xFF; FRAME + 1];
+    for port in [1, 2] {
+        table.link(port, true).unwrap();
+        let frame = lacpdu(port as u16, &actor(&table, port));
+        assert_eq!(table.receive(port, &frame, &mut out), Ok(Received::Lacpdu));
+        assert_eq!(out, [0xFF; FRAME + 1]);
+    }
+    for _ in 0..20 {
+        assert_eq!(table.port(2).unwrap().mux, MuxState::Waiting);
+        table.tick().unwrap();
+    }
+    let report = table.aggregator(1).unwrap();
+    assert_eq!(report.distributing.iter().collect::<Vec<_>>(), [1, 2]);
+    assert_eq!((report.count, report.lowest, report.holding.0, report.attached.0), (2, Some(1), 3, 3));
+    assert_eq!(table.port(1).unwrap().actor_state, PortState(0x3F));
+
+    let Ok(Received::Marker(response)) = table.receive(1, &marker(1), &mut out) else { panic!("no Response") };
+    assert_eq!((response.len(), response[16], response[29]), (FRAME, 2, 7));
+    assert_eq!(table.receive(1, &marker(2), &mut out), Err(Refusal::Response));
+
+    for key in 2..5 {
+        table.settings(2, &Settings { key, ..settings() }).unwrap();
+        assert_eq!(table.fetch(2, &mut out).unwrap()[26..28], key.to_be_bytes());
+    }
+    assert_eq!(table.fetch(2, &mut out), Err(Refusal::NothingToSend));
+    table.settings(2, &settings()).unwrap();
+    assert_eq!(table.fetch(2, &mut out), Err(Refusal::TooManySends));
+    table.duplex(1, false).unwrap();
+    let record = table.port(1).unwrap();
+    assert_eq!((record.receive, record.full_duplex), (ReceiveState::LacpDisabled, false));
+    assert_eq!(table.aggregator(1).unwrap().lowest, None);
+    assert_eq!(table.port(2).unwrap().settings, settings());
+}
+
+#[test]
+fn refusals() {
+    assert_eq!(Table::start(0, OURS, 0, &settings()), Err(Refusal::TableWrong));
+    assert_eq!(Table::start(33, OURS, 0, &settings()), Err(Refusal::TableWrong));
+    assert_eq!(Table::start(1, OURS, 0, &wrong_default()), Err(Refusal::DefaultWrong));
+    let mut table = Table::start(2, OURS, 0, &settings()).unwrap();
+    let before = table.clone();
+    let mut out = [0xFF; FRAME];
+    let frame = lacpdu(1, &Block::default());
+    for port in [0, 3, u32::MAX] {
+        assert_eq!(table.link(port, true), Err(Refusal::NoSuchPort));
+        assert_eq!(table.duplex(port, false), Err(Refusal::NoSuchPort));
+        assert_eq!(table.settings(port, &wrong_default()), Err(Refusal::NoSuchPort));
+        assert_eq!(table.fetch(port, &mut out), Err(Refusal::NoSuchPort));
+        assert_eq!(table.receive(port, &frame, &mut out), Err(Refusal::NoSuchPort));
+        assert_eq!(table.port(port), Err(Refusal::NoSuchPort));
+        assert_eq!(table.aggregator(port), Err(Refusal::NoSuchPort));
+    }
+    assert_eq!(table.settings(1, &wrong_default()), Err(Refusal::DefaultWrong));
+    assert_eq!(table.fetch(1, &mut out[1..]), Err(Refusal::BufferShort));
+    assert_eq!(table.fetch(1, &mut []), Err(Refusal::BufferShort));
+    assert_eq!(table.fetch(1, &mut out), Err(Refusal::NothingToSend));
+    assert_eq!(table.receive(1, &[], &mut []), Err(Refusal::BufferShort));
+    assert_eq!(table.receive(1, &[], &mut out), Err(Refusal::Foreign));
+    assert_eq!(table.receive(1, &frame[..123], &mut out), Err(Refusal::Illegal));
+    assert_eq!(table.receive(1, &frame, &mut out), Err(Refusal::LacpOff));
+    assert_eq!(table.receive(1, &marker(1), &mut out), Err(Refusal::NotCollecting));
+    let mut other = frame;
+    other[14] = 3;
+    assert_eq!(table.receive(1, &other, &mut out), Err(Refusal::Unknown));
+    assert_eq!(table.restart(3, OURS, 0, &settings()), Err(Refusal::TableWrong));
+    assert_eq!((table, out), (before, [0xFF; FRAME]));
+}
+
+#[test]
+fn any_memory() {
+    for length in [0, 1, 10, 11, 12, 67, 68, 69, 1835, 1836, 32_768, 300_000] {
+        for octet in [0, 1, 255] {
+            let mut memory = vec![octet; length];
+            let mut table: TableRef<'_> = Table::from_memory(&mut memory[..]);
+            let mut out = [0; FRAME];
+            let all_ones = length == 68 && octet == 1;
+            let wrong = |result: Result<(), Refusal>| {
+                assert!(all_ones || result == Err(Refusal::TableWrong), "{length} of {octet}: {result:?}");
+            };
+            wrong(table.tick());
+            wrong(table.link(1, true));
+            wrong(table.duplex(1, true));
+            wrong(table.settings(1, &settings()));
+            wrong(table.fetch(1, &mut out).map(|_| ()));
+            wrong(table.receive(1, &[], &mut out).map(|_| ()));
+            wrong(table.port(1).map(|_| ()));
+            wrong(table.aggregator(1).map(|_| ()));
+            assert!(all_ones || table.as_octets().iter().all(|at| *at == octet));
+        }
+    }
+}
+
+#[test]
+fn lent_memory() {
+    let mut memory = [0xA5; 68];
+    assert_eq!(Table::size(1), Some(memory.len()));
+    let mut table = TableRef::start_in(&mut memory[..], 1, OURS, 0, &settings()).unwrap();
+    table.lend().link(1, true).unwrap();
+    assert!(table.port(1).unwrap().link_up);
+    let memory = table.into_memory();
+    assert_eq!(memory.len(), 68);
+    let again = Table::from_memory(memory);
+    assert!(again.port(1).unwrap().link_up);
+}
+
+#[test]
+fn long_areas() {
+    let mut table = Table::start(1, OURS, 0, &settings()).unwrap();
+    table.link(1, true).unwrap();
+    let mut out = vec![0xFF; 1_000_000];
+    assert_eq!(table.fetch(1, &mut out).map(<[u8]>::len), Ok(FRAME));
+    assert!(out[FRAME..].iter().all(|octet| *octet == 0xFF));
+    let mut frame = lacpdu(1, &actor(&table, 1)).to_vec();
+    frame.resize(1_000_000, 0xAA);
+    assert_eq!(table.receive(1, &frame, &mut out), Ok(Received::Lacpdu));
+}
+
+#[test]
+fn many_at_once_and_from_many_threads() {
+    let table = Table::start(4, OURS, 0, &settings()).unwrap().into_memory().into_vec();
+    let request = raw::Request { call: raw::Call::Tick, table, out: Vec::new() };
+    std::thread::scope(|scope| {
+        for _ in 0..4 {
+            scope.spawn(|| {
+                let replies = raw::perform(&vec![request.clone(); 5000]).unwrap();
+                assert_eq!(replies.len(), 5000);
+                assert!(replies.iter().all(|reply| reply.answer == 0 && *reply == replies[0]));
+            });
+        }
+    });
+}
