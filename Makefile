@@ -1,4 +1,11 @@
-.PHONY: cases test c-test compare mutants
+.PHONY: demo cases test c-test compare mutants
+
+# Proves the library and runs two switches of it, joined by four links: a timeline, and the same as a picture in target/demo.svg.
+# make demo SCRIPT=FILE replays a list of events; rust/demo/help.txt says what may stand in it.
+demo:
+	rt staticlib myrkosti
+	tools/x86.sh
+	cargo run --quiet --release --manifest-path rust/Cargo.toml -p demo -- $(if $(SCRIPT),--script $(SCRIPT)) --svg target/demo.svg
 
 # Proves the libraries and the program, runs it (rt does, under an emulator where the machine is no x86-64) and holds what it writes
 # to crates/cases/stdout; then shows that file: what the frame tests say of 170 frames that scapy wrote, one port's story, and

@@ -1,0 +1,217 @@
+//! Two tables of the library, and the cables that carry their frames.
+
+use crate::cabling::{all_ports, Cabling, Port, Switch};
+use crate::script::{Command, LinkChange, Setting};
+use myrkosti::{Block, MuxState, PortState, ReceiveState, Record, Refusal, Settings, SystemId, Table, FRAME};
+
+/// How a port stands, as the timeline shows it.
+#[derive(Clone, Copy, Debug, PartialEq, Eq)]
+pub enum State {
+    Down,
+    /// Half duplex.
+    LacpOff,
+    /// The partner is expired or defaulted, and the port does not carry.
+    Unheard,
+    Waiting,
+    Attached,
+    Collecting,
+    Distributing,
+    /// Distributing too, but what the port sends does not reach a collecting port.
+    Lost,
+}
+
+/// A port as its report shows it.
+#[derive(Clone, Copy, PartialEq, Eq)]
+pub struct PortLook {
+    pub state: State,
+    /// The partner that it learned: system and port. None if it goes by the default.
+    pub partner: Option<(SystemId, u16)>,
+}
+
+/// An aggregator that carries traffic, and its ports that distribute.
+#[derive(PartialEq, Eq)]
+pub struct Trunk {
+    pub aggregator: u32,
+    pub ports: Vec<u32>,
+}
+
+/// What the reports of A and of B show at one time.
+#[derive(Default, PartialEq, Eq)]
+pub struct Look {
+    pub ports: [Vec<PortLook>; 2],
+    pub trunks: [Vec<Trunk>; 2],
+}
+
+impl Look {
+    pub fn port(&self, port: Port) -> &PortLook {
+        &self.ports[port.switch.index()][port.index()]
+    }
+
+    /// The most ports on which one aggregator of this switch carries.
+    pub fn width(&self, switch: Switch) -> usize {
+        self.trunks[switch.index()].iter().map(|trunk| trunk.ports.len()).max().unwrap_or(0)
+    }
+}
+
+/// Two switches and their cables. A refusal of the library that is no part of the game ends it.
+pub struct Network {
+    tables: [Table; 2],
+    cabling: Cabling,
+    silent: Vec<bool>,
+    ports: u32,
+}
+
+impl Network {
+    /// Two switches of that many ports, joined port by port, every link down.
+    pub fn start(ports: u32) -> Result<Network, Refusal> {
+        let tables = [start_switch(ports, 0x0A)?, start_switch(ports, 0x0B)?];
+        Ok(Network { tables, cabling: Cabling::straight(ports), silent: vec![false; ports as usize], ports })
+    }
+
+    /// A tick passes at both switches, and what is due goes over the cables.
+    pub fn tick(&mut self) -> Result<(), Refusal> {
+        for table in &mut self.tables {
+            table.tick()?;
+        }
+        self.exchange()
+    }
+
+    /// Performs a command other than a tick, and what is due goes over the cables.
+    pub fn perform(&mut self, command: &Command) -> Result<(), Refusal> {
+        match command {
+            Command::Link(change, link) => self.change_link(*change, Port::a(*link))?,
+            Command::Set(setting, port) => self.set(*setting, *port)?,
+            Command::Move(port, to) => self.move_cable(port.cable_to(*to))?,
+            Command::Tick(_) | Command::Note(_) => return Ok(()),
+        }
+        self.exchange()
+    }
+
+    /// What the reports show now.
+    pub fn look(&self) -> Result<Look, Refusal> {
+        let mut look = Look::default();
+        for port in all_ports(self.ports) {
+            let record = self.table(port).port(port.number)?;
+            let partner = (record.partner.system, record.partner.port);
+            let learned = !record.actor_state.has(PortState::DEFAULTED);
+            let looks = PortLook { state: state_of(&record), partner: learned.then_some(partner) };
+            look.ports[port.switch.index()].push(looks);
+            let report = self.table(port).aggregator(port.number)?;
+            if report.count > 0 {
+                let ports = report.distributing.iter().collect();
+                look.trunks[port.switch.index()].push(Trunk { aggregator: port.number, ports });
+            }
+        }
+        self.mark_lost(&mut look);
+        Ok(look)
+    }
+
+    fn mark_lost(&self, look: &mut Look) {
+        let collects = |state| matches!(state, State::Collecting | State::Distributing);
+        let seen = look.ports.clone();
+        for port in all_ports(self.ports) {
+            let far = self.way_from(port).map(|far| seen[far.switch.index()][far.index()].state);
+            let state = &mut look.ports[port.switch.index()][port.index()].state;
+            if *state == State::Distributing && !far.is_some_and(collects) {
+                *state = State::Lost;
+            }
+        }
+    }
+
+    fn table(&self, port: Port) -> &Table {
+        &self.tables[port.switch.index()]
+    }
+
+    fn table_mut(&mut self, port: Port) -> &mut Table {
+        &mut self.tables[port.switch.index()]
+    }
+
+    /// Where a frame of this port arrives; none without a cable or on a silent link.
+    fn way_from(&self, port: Port) -> Option<Port> {
+        let far = self.cabling.far(port)?;
+        let (a, _) = port.cable_to(far.number);
+        (!self.silent[a.index()]).then_some(far)
+    }
+
+    /// Every port is fetched once; then the frames arrive.
+    fn exchange(&mut self) -> Result<(), Refusal> {
+        let mut frames = Vec::new();
+        for port in all_ports(self.ports) {
+            let mut out = [0; FRAME];
+            match self.table_mut(port).fetch(port.number, &mut out) {
+                Ok(_) => frames.push((port, out)),
+                Err(Refusal::NothingToSend | Refusal::TooManySends) => {}
+                Err(refusal) => return Err(refusal),
+            }
+        }
+        for (port, frame) in frames {
+            if let Some(far) = self.way_from(port) {
+                match self.table_mut(far).receive(far.number, &frame, &mut [0; FRAME]) {
+                    Ok(_) | Err(Refusal::LacpOff) => {}
+                    Err(refusal) => return Err(refusal),
+                }
+            }
+        }
+        Ok(())
+    }
+
+    fn change_link(&mut self, change: LinkChange, port: Port) -> Result<(), Refusal> {
+        match change {
+            LinkChange::Silence | LinkChange::Speak => self.silent[port.index()] = change == LinkChange::Silence,
+            LinkChange::Up | LinkChange::Down => {
+                for end in [Some(port), self.cabling.far(port)].into_iter().flatten() {
+                    self.table_mut(end).link(end.number, change == LinkChange::Up)?;
+                }
+            }
+        }
+        Ok(())
+    }
+
+    fn set(&mut self, setting: Setting, port: Port) -> Result<(), Refusal> {
+        let table = self.table_mut(port);
+        let mut settings = table.port(port.number)?.settings;
+        match setting {
+            Setting::FullDuplex(full) => return table.duplex(port.number, full),
+            Setting::Key(key) => settings.key = key,
+            Setting::ShortTimeout(short) => settings.short_timeout = short,
+            Setting::Active(active) => settings.activity = active,
+        }
+        table.settings(port.number, &settings)
+    }
+
+    fn move_cable(&mut self, (a, b): (Port, Port)) -> Result<(), Refusal> {
+        for end in [Some(a), self.cabling.far(a), Some(b), self.cabling.far(b)].into_iter().flatten() {
+            self.table_mut(end).link(end.number, false)?;
+        }
+        self.cabling.join(a, b);
+        self.silent[a.index()] = false;
+        self.change_link(LinkChange::Up, a)
+    }
+}
+
+/// A switch whose ports are active, aggregatable, with short timeout and key 1, and speak once a second while nobody answers.
+fn start_switch(ports: u32, last_octet: u8) -> Result<Table, Refusal> {
+    let system = SystemId { priority: 1, address: [0, 0, 0, 0, 0, last_octet] };
+    let settings = Settings {
+        address: system.address,
+        key: 1,
+        port_priority: 1,
+        activity: true,
+        short_timeout: true,
+        aggregation: true,
+        default_partner: Block { state: PortState::TIMEOUT, ..Block::default() },
+    };
+    Table::start(ports, system, 0, &settings)
+}
+
+fn state_of(record: &Record) -> State {
+    match (record.receive, record.mux) {
+        _ if !record.link_up => State::Down,
+        _ if !record.full_duplex => State::LacpOff,
+        (_, MuxState::Distributing) => State::Distributing,
+        (ReceiveState::Expired | ReceiveState::Defaulted, _) => State::Unheard,
+        (_, MuxState::Detached | MuxState::Waiting) => State::Waiting,
+        (_, MuxState::Attached) => State::Attached,
+        (_, MuxState::Collecting) => State::Collecting,
+    }
+}

@@ -1,0 +1,87 @@
+//! What became of the trunk, in words, from the reports.
+
+use crate::cabling::{all_ports, Port, Switch};
+use crate::network::{Look, State, Trunk};
+use crate::story::Story;
+use std::rc::Rc;
+
+/// What became of the trunk from the event at this place to the next.
+pub fn outcome(story: &Story, event: usize) -> String {
+    let span = story.span(event);
+    let before = story.events[event].tick.checked_sub(1).map(|last| &*story.looks[last]);
+    let [a, b] = Switch::BOTH.map(|switch| carrying(span, before, switch));
+    let mut sentences = vec![if a == b { format!("A and B: {a}.") } else { format!("A: {a}; B: {b}.") }];
+    sentences.extend(standstill(span));
+    sentences.extend(lost(story.ports, span));
+    sentences.extend(displaced(story.ports, span, before));
+    sentences.join(" ")
+}
+
+/// On which ports a switch carries in the end, and since when.
+fn carrying(span: &[Rc<Look>], before: Option<&Look>, switch: Switch) -> String {
+    let trunks = |look| trunks_words(look, switch);
+    let last = span.last().map_or_else(String::new, |look| trunks(look));
+    let settled = span.iter().rposition(|look| trunks(look) != last).map_or(0, |other| other + 1);
+    match settled {
+        0 if before.is_none_or(|before| trunks(before) == last) => format!("{last} all the while"),
+        0 => format!("{last} at once"),
+        later => format!("{last} after {}", ticks(later)),
+    }
+}
+
+fn trunks_words(look: &Look, switch: Switch) -> String {
+    let words = |trunk: &Trunk| format!("aggregator {} carries on {}", trunk.aggregator, ports_words(&trunk.ports));
+    match look.trunks[switch.index()].as_slice() {
+        [] => "no port carries".into(),
+        trunks => trunks.iter().map(words).collect::<Vec<_>>().join(" and "),
+    }
+}
+
+fn ports_words(ports: &[u32]) -> String {
+    let numbers: Vec<String> = ports.iter().map(u32::to_string).collect();
+    format!("port{} {}", plural(ports.len()), numbers.join(" "))
+}
+
+/// `1 tick`, `2 ticks`.
+pub fn ticks(count: usize) -> String {
+    format!("{count} tick{}", plural(count))
+}
+
+fn plural(count: usize) -> &'static str {
+    match count {
+        1 => "",
+        _ => "s",
+    }
+}
+
+fn standstill(span: &[Rc<Look>]) -> Option<String> {
+    match Switch::BOTH.map(|switch| span.iter().filter(|look| look.width(switch) == 0).count()) {
+        [0, 0] => None,
+        [a, b] if a == b => Some(format!("No traffic for {}.", ticks(a))),
+        [a, b] => Some(format!("A sends no traffic for {}, B for {}.", ticks(a), ticks(b))),
+    }
+}
+
+fn lost(ports: u32, span: &[Rc<Look>]) -> Option<String> {
+    let count = |port: Port| span.iter().filter(|look| look.port(port).state == State::Lost).count();
+    let losing = all_ports(ports).map(|port| (port, count(port))).filter(|(_, count)| *count > 0);
+    let words: Vec<String> = losing.map(|(port, count)| format!("{} on {port}", ticks(count))).collect();
+    (!words.is_empty()).then(|| format!("Traffic sent and lost: {}.", words.join(", ")))
+}
+
+/// A port without link forgets its partner when another port hears that partner.
+fn displaced(ports: u32, span: &[Rc<Look>], before: Option<&Look>) -> Vec<String> {
+    let looks: Vec<&Look> = before.into_iter().chain(span.iter().map(|look| &**look)).collect();
+    let steps = looks.windows(2);
+    steps.flat_map(|step| all_ports(ports).filter_map(|port| displaced_in(port, step[0], step[1]))).collect()
+}
+
+fn displaced_in(port: Port, before: &Look, now: &Look) -> Option<String> {
+    let known = before.port(port).partner?;
+    if now.port(port).state != State::Down || now.port(port).partner.is_some() {
+        return None;
+    }
+    let place = now.ports[port.switch.index()].iter().position(|other| other.partner == Some(known))?;
+    let hears = Port { number: place as u32 + 1, ..port };
+    Some(format!("{port} forgets its partner {}, which {hears} hears now.", port.opposite(known.1.into())))
+}

@@ -1,0 +1,118 @@
+//! A script as it was played: what the reports showed in every tick, and the events.
+
+use crate::network::{Look, Network};
+use crate::script::{Command, LinkChange, Script, Setting};
+use myrkosti::Refusal;
+use std::rc::Rc;
+
+/// A script that was played.
+pub struct Story {
+    pub(crate) ports: u32,
+    /// What the reports showed after tick n and the events that came with it, n from 0.
+    pub(crate) looks: Vec<Rc<Look>>,
+    pub(crate) events: Vec<Event>,
+}
+
+/// What happened between two ticks.
+#[derive(Default)]
+pub struct Event {
+    /// After which tick.
+    pub tick: usize,
+    notes: Vec<String>,
+    /// To what something happened, and what.
+    acts: Vec<(String, String)>,
+}
+
+/// Plays a script.
+///
+/// # Errors
+/// What the library refuses. It has no reason to, unless it cannot be reached.
+pub fn play(script: &Script) -> Result<Story, Refusal> {
+    let mut network = Network::start(script.ports)?;
+    let mut story = Story { ports: script.ports, looks: Vec::new(), events: Vec::new() };
+    for command in &script.commands {
+        if let Command::Tick(ticks) = command {
+            for _ in 0..*ticks {
+                story.keep(network.look()?);
+                network.tick()?;
+            }
+        } else {
+            network.perform(command)?;
+            story.event_now().add(command);
+        }
+    }
+    if !matches!(script.commands.last(), Some(Command::Tick(_))) {
+        story.keep(network.look()?);
+    }
+    Ok(story)
+}
+
+impl Story {
+    /// What the reports showed from the event at this place to the next.
+    pub(crate) fn span(&self, event: usize) -> &[Rc<Look>] {
+        let from = self.events[event].tick;
+        let to = self.events.get(event + 1).map_or(self.looks.len(), |next| next.tick);
+        &self.looks[from..to]
+    }
+
+    fn keep(&mut self, look: Look) {
+        let same = self.looks.last().filter(|last| ***last == look).cloned();
+        self.looks.push(same.unwrap_or_else(|| Rc::new(look)));
+    }
+
+    fn event_now(&mut self) -> &mut Event {
+        let tick = self.looks.len();
+        if self.events.last().is_none_or(|last| last.tick < tick) {
+            self.events.push(Event { tick, ..Event::default() });
+        }
+        let last = self.events.len() - 1;
+        &mut self.events[last]
+    }
+}
+
+impl Event {
+    fn add(&mut self, command: &Command) {
+        let act = match command {
+            Command::Tick(_) => return,
+            Command::Note(text) => return self.notes.push(text.clone()),
+            Command::Link(change, link) => (format!("link {link}"), change_words(*change).into()),
+            Command::Set(setting, port) => (port.to_string(), setting_words(*setting)),
+            Command::Move(port, to) => (format!("cable of {port}"), format!("now ends at {}", port.opposite(*to))),
+        };
+        self.acts.push(act);
+    }
+
+    /// The notes, and in brackets what was done; or only that.
+    pub fn words(&self) -> String {
+        let alike = self.acts.chunk_by(|(_, one), (_, next)| one == next);
+        let done: Vec<String> = alike.map(done_alike).collect();
+        match (self.notes.join(" "), done.join("; ")) {
+            (notes, done) if notes.is_empty() => done,
+            (notes, done) if done.is_empty() => notes,
+            (notes, done) => format!("{notes} [{done}]"),
+        }
+    }
+}
+
+fn done_alike(acts: &[(String, String)]) -> String {
+    let subjects: Vec<&str> = acts.iter().map(|(subject, _)| subject.as_str()).collect();
+    format!("{} {}", subjects.join(", "), acts[0].1)
+}
+
+fn change_words(change: LinkChange) -> &'static str {
+    match change {
+        LinkChange::Up => "up",
+        LinkChange::Down => "down",
+        LinkChange::Silence => "silent",
+        LinkChange::Speak => "no longer silent",
+    }
+}
+
+fn setting_words(setting: Setting) -> String {
+    match setting {
+        Setting::FullDuplex(full) => format!("at {} duplex", if full { "full" } else { "half" }),
+        Setting::Key(key) => format!("with key {key}"),
+        Setting::ShortTimeout(short) => format!("with {} timeout", if short { "short" } else { "long" }),
+        Setting::Active(active) => if active { "active" } else { "passive" }.into(),
+    }
+}
