@@ -2,7 +2,8 @@
 """The story of six ports, worked out by a model that was written from the papers alone.
 
 The upper part models document 01 over IEEE Std 802.3ad-2000, Clause 43: a record for each port, the machines by the
-standard's names, the nine calls. Where the papers leave a choice it follows docs/DECISIONS.md;
+standard's names, the nine calls. Where the papers leave a choice it takes the reading that was
+recommended for the project, which docs/DECISIONS.md gives in its own words; its author saw neither that file nor the code;
 the memory is laid out as the design fixes it. The lower part performs the calls of the story and prints its lines.
 Nothing here is taken from the code that is compared with these lines.
 """
