@@ -1,22 +1,41 @@
 #!/usr/bin/env python3
-"""Do the theorems bite? Changes one definition at a time and shows that a law or a claim refuses it.
+"""Do the theorems bite? Changes a definition and the code that meets it together, and shows that `claims` or `runs` refuses the pair.
 
-A contract is met by code and definition that are wrong together; only a theorem refuses that. So this works on a copy of the repository
-from which the code is gone (its types stay): whatever a definition says, the code is taken to follow it. What is left of each crate is its
-definitions and laws, and of `claims` and `runs` their theorems. The copy as it is must be proved; then each mutant below must be refused. A mutant that
-breaks a law of a lower crate is refused there, and with it every claim that rests on the law.
+A contract is met by a definition and code that are wrong together; only a theorem refuses them. Each mutant below is such a pair, and is
+tried in two copies of the repository:
 
-    tools/mutants.py [NAME..]     all mutants, or those whose name contains one of the words; the copy is target/mutants
+  code    everything as it is. The changed function must be proved to meet its changed definition, so the pair is consistent. Laws of its
+          crate that refuse the definition are named.
+  facts   definitions and types without code and laws, which would refuse it first; `claims` keeps its computed witness (what each theorem
+          says of one run), and `runs` its computed cases. One of the facts that the mutant aims at must be refused.
+
+A mutant without a function changes a definition alone: the code that would follow it has another shape.
+
+    tools/mutants.py [WORD..]     all mutants, or those in whose line one of the words stands; the copies are in target/mutants
 """
 import re
 import shutil
 import subprocess
 import sys
 import time
+from dataclasses import dataclass
 from pathlib import Path
 
 ROOT = Path(__file__).resolve().parent.parent
-COPY = ROOT / "target" / "mutants"
+CODE, FACTS = ROOT / "target" / "mutants" / "code", ROOT / "target" / "mutants" / "facts"
+
+
+@dataclass
+class Mutant:
+    aim: str  # the theorem or case that it is to break
+    name: str
+    facts: tuple  # of `claims`' witness or `runs`' cases, one of which must be refused
+    function: str  # whose code follows the definition; '' for none
+    edits: tuple  # (file under crates/, old, new)..
+
+
+def crate_lines():
+    return [line for line in (ROOT / "crates.txt").read_text().split("\n") if ":" in line and not line.startswith("#")]
 
 
 def types_alone(source):
@@ -36,147 +55,256 @@ def types_alone(source):
     return re.sub(r"(?m)^use \S*?(\w+);\n", lambda m: m.group(0) if re.search(rf"\b{m.group(1)}\b", used) else "", text)
 
 
-def crates():
-    lines = (ROOT / "crates.txt").read_text().split("\n")
-    return [line.split(":")[0] for line in lines if ":" in line and not line.startswith("#")]
+def make_code():
+    """The whole repository, with what is proved already."""
+    if not (ROOT / "target" / "stamp").exists():
+        subprocess.run(["rt", "check", "control"], cwd=ROOT, check=True, stdout=subprocess.DEVNULL)
+    CODE.mkdir(parents=True)
+    for name in ("crates", "crates.txt"):
+        source = ROOT / name
+        (shutil.copytree if source.is_dir() else shutil.copy)(source, CODE / name)
+    for name in ("stamp", "rlib", "log"):
+        if (ROOT / "target" / name).exists():
+            shutil.copytree(ROOT / "target" / name, CODE / "target" / name)
 
 
-def make_copy():
-    shutil.rmtree(COPY, ignore_errors=True)
-    for name in crates():
-        if name == "cases":
+def make_facts():
+    """Types and definitions; of proofs the computed ones alone."""
+    for line in crate_lines():
+        name = line.split(":")[0]
+        if name in ("cases", "myrkosti"):
             continue
         for file in (ROOT / "crates" / name).rglob("*"):
             inner = file.relative_to(ROOT / "crates" / name)
-            if not file.is_file() or inner.parts[0] not in ("src", "specs", "proofs") or (inner.parts[0] == "proofs" and len(inner.parts) > 2):
-                continue
-            target = COPY / "crates" / name / inner
-            target.parent.mkdir(parents=True, exist_ok=True)
-            text = file.read_text()
-            target.write_text(types_alone(text) if file.suffix == ".rt" else text)
-    lines = (ROOT / "crates.txt").read_text().split("\n")
-    (COPY / "crates.txt").write_text("\n".join(line for line in lines if not line.startswith("cases:")))
+            keep = inner.parts[0] in ("src", "specs") or (name == "runs" and inner.parts[0] == "proofs")
+            if file.is_file() and keep:
+                target = FACTS / "crates" / name / inner
+                target.parent.mkdir(parents=True, exist_ok=True)
+                target.write_text(types_alone(file.read_text()) if file.suffix == ".rt" else file.read_text())
+    (FACTS / "crates.txt").write_text("\n".join(line for line in crate_lines() if line.split(":")[0] not in ("cases", "myrkosti")) + "\n")
 
 
-def check():
-    """What refuses the copy, as (crate, declaration), or None if all is proved."""
-    done = subprocess.run(["rt", "check", "runs"], cwd=COPY, capture_output=True, text=True)
-    if done.returncode == 0:
-        return None
-    for line in (done.stdout + done.stderr).split("\n"):
-        m = re.search(r"crates/(\w+)/(specs|proofs)/(\S+?)\.antt:\d+:\d+: error: `([^`]*)`", line)
-        if m and m.group(2) == "specs":
-            raise SystemExit(f"no definition: {line}")
-        if m:
-            return m.group(1), f"{m.group(3)}: {m.group(4)}"
-    raise SystemExit((done.stdout + done.stderr)[-3000:])
+def set_witness(there):
+    """With it `claims` refuses what breaks a theorem; without it `runs` is reached."""
+    proofs = FACTS / "crates" / "claims" / "proofs"
+    shutil.rmtree(proofs, ignore_errors=True)
+    if there:
+        proofs.mkdir()
+        shutil.copy(ROOT / "crates" / "claims" / "proofs" / "Witness.antt", proofs)
+        (proofs / "Lib.antt").write_text("pub mod Witness\n")
+
+
+def check(copy, crate):
+    done = subprocess.run(["rt", "check", crate], cwd=copy, capture_output=True, text=True)
+    return done.returncode == 0, done.stdout + done.stderr
+
+
+def refused_facts(output):
+    """(crate, fact) for each field of the witness or the cases at which the prover stopped."""
+    found = []
+    for crate, file, line in re.findall(r"crates/(claims|runs)/proofs/(\w+)\.antt:(\d+):\d+: error", output):
+        text = (FACTS / "crates" / crate / "proofs" / f"{file}.antt").read_text().split("\n")[int(line) - 1]
+        m = re.match(r"\s*([\w-]+) = ", text)
+        if m and (crate, m.group(1)) not in found:
+            found.append((crate, m.group(1)))
+    return found
+
+
+def refused_laws(crate, output):
+    """Laws of a crate, not function proofs, that the prover found false or whose proof no longer fits."""
+    laws = re.findall(rf"crates/{crate}/proofs/\w+\.antt:\d+:\d+: error: `([^`]+)`(?!: `[^`]+` was not admitted)", output)
+    return list(dict.fromkeys(laws))
+
+
+def edit(copy, edits):
+    """Makes the edits; gives what undoes them."""
+    before = {}
+    for file, old, new in edits:
+        path = copy / "crates" / file
+        text = path.read_text()
+        before.setdefault(path, text)
+        if text.count(old) != 1:
+            raise SystemExit(f"{text.count(old)} places for an edit in {file}: {old}")
+        path.write_text(text.replace(old, new))
+    return before
+
+
+def undo(before):
+    for path, text in before.items():
+        path.write_text(text)
+
+
+def follows(mutant):
+    """Whether the changed function is proved, and which laws of its crate refuse the definition."""
+    crate = mutant.function.split("::")[0]
+    before = edit(CODE, mutant.edits)
+    _, output = check(CODE, crate)
+    undo(before)
+    return f"fn {mutant.function}: proved" in output, refused_laws(crate, output)
+
+
+def breaks(mutant):
+    """The facts that are refused."""
+    definitions = [e for e in mutant.edits if "/specs/" in e[0]]
+    crate = "runs" if mutant.aim.startswith("case") else "claims"
+    set_witness(crate == "claims")
+    before = edit(FACTS, definitions)
+    proved, output = check(FACTS, crate)
+    undo(before)
+    wrong = re.findall(r"crates/\w+/specs/\S+: error.*", output)
+    if wrong:
+        raise SystemExit(f"{mutant.name}: no definition: {wrong[0]}")
+    return [] if proved else refused_facts(output)
+
+
+def tried(mutant):
+    """One line, and whether the mutant is refused as it should be."""
+    began = time.time()
+    held, code = True, "the definition alone"
+    if mutant.function:
+        held, laws = follows(mutant)
+        code = f"{mutant.function} {'meets it' if held else 'DOES NOT MEET IT'}"
+        code += f"; laws that refuse it: {', '.join(laws)}" if laws else "; no law of its crate refuses it"
+    facts = breaks(mutant)
+    hit = any(fact in mutant.facts for _, fact in facts)
+    named = ", ".join(f"{crate} {fact}" for crate, fact in facts) or "NOTHING"
+    return f"{mutant.aim}: {mutant.name}\n    refused by {named}\n    {code} ({time.time() - began:.0f} s)", held and hit
 
 
 def main(words):
-    mutants = [m for m in MUTANTS if not words or any(w in m[1] for w in words)]
-    make_copy()
-    began = time.time()
-    if (why := check()) is not None:
-        raise SystemExit(f"the copy itself is not proved: {why}")
-    print(f"the definitions as they are: proved ({time.time() - began:.0f} s)", flush=True)
-    survived = 0
-    for claim, name, file, *pairs in mutants:
-        path = COPY / "crates" / file
-        text = changed = path.read_text()
-        for old, new in pairs:
-            if changed.count(old) != 1:
-                raise SystemExit(f"{name}: {changed.count(old)} places in {file}")
-            changed = changed.replace(old, new)
-        path.write_text(changed)
-        began = time.time()
-        why = check()
-        path.write_text(text)
-        survived += why is None
-        verdict = f"refused by {why[0]}, {why[1]}" if why else "SURVIVED"
-        print(f"{claim}: {name}: {verdict} ({time.time() - began:.0f} s)", flush=True)
-    print(f"{len(mutants)} mutants, {survived} survived")
-    sys.exit(survived > 0)
+    mutants = [m for m in MUTANTS if not words or any(w in f"{m.aim}: {m.name}" for w in words)]
+    shutil.rmtree(CODE.parent, ignore_errors=True)
+    make_code()
+    make_facts()
+    for there, crate in ((True, "claims"), (False, "runs")):
+        set_witness(there)
+        proved, output = check(FACTS, crate)
+        if not proved:
+            raise SystemExit(f"the definitions as they are: {crate} is not proved\n{output[-3000:]}")
+    print("the definitions as they are: every fact holds", flush=True)
+    wrong = 0
+    for mutant in mutants:
+        line, refused = tried(mutant)
+        wrong += not refused
+        print(line + ("" if refused else "\n    NOT AS IT SHOULD BE"), flush=True)
+    print(f"{len(mutants)} mutants, {wrong} not refused as they should be")
+    sys.exit(wrong > 0)
 
 
-# (what it is to try, name, file, (old, new)..)
 MUTANTS = [
-    ("0 never stuck", "current-while started at 901", "machine/specs/Time.antt",
-     ("timeoutTime short = cond short shortTimeoutTime longTimeoutTime", "timeoutTime short = cond short shortTimeoutTime 901")),
-    ("0 never stuck", "a start with aggregator 0", "settings/specs/Settings.antt",
-     ("port (phase Initialize NoPeriodic Detached Unselected) 1 true", "port (phase Initialize NoPeriodic Detached Unselected) 0 true")),
-    ("0 refusals are silent", "a refusal that writes", "control/specs/After.antt",
-     ("unless (Refused r) before then = before", "unless (Refused r) before then = then")),
-    ("0 refusals are silent", "a refusal that clears the buffer", "control/specs/After.antt",
-     ("outgoing c t = unless (answer c t) (bufferOf c) (writtenBy c t)", "outgoing c t = unless (answer c t) [] (writtenBy c t)")),
-    ("1 the rule afresh", "bystanders forgotten", "trunk/specs/Settled.antt",
-     ("mustMove k p = isUnselected (p .phase .selected) || not (eqb (p .aggregator) k)", "mustMove k p = isUnselected (p .phase .selected)")),
-    ("1 the rule afresh", "a call without steps 3 to 6", "work/specs/Work.antt",
-     ("worked s ps = settled s (map periodicRun ps)", "worked s ps = map periodicRun ps")),
-    ("2 distributing is earned", "up without the partner collecting", "machine/specs/Mux.antt",
-     ("muxNext Collecting Selected ready true false = Stay", "muxNext Collecting Selected ready true false = Enter Distributing"),
-     ("muxNext Distributing Selected ready true false = Enter Collecting", "muxNext Distributing Selected ready true false = Stay")),
-    ("2 distributing is earned", "a down port whose partner stays in sync", "port/specs/Receive.antt",
-     ("portDisabled p = withReceive (withCurrent (withPartnerState p (withSynchronization (p .partner .state) false)) 0) PortDisabled",
-      "portDisabled p = withReceive (withCurrent (withPartnerState p (p .partner .state)) 0) PortDisabled")),
-    ("2 distributing is earned", "DISTRIBUTING that sets no bit", "machine/specs/Mux.antt",
-     ("muxBits Distributing s = withDistributing s true", "muxBits Distributing s = s")),
-    ("2 one group", "the own key left out of the LAG ID's group", "trunk/specs/Selection.antt",
-     ("sameKeys c d = eqb (c .key) (d .key) && (sameSystem (c .system) (d .system) && eqb (c .partnerKey) (d .partnerKey))",
-      "sameKeys c d = sameSystem (c .system) (d .system) && eqb (c .partnerKey) (d .partnerKey)")),
-    ("3 locality", "every port with that partner displaced, disabled or not", "trunk/specs/Displaced.antt",
-     ("displacedIf r a i p = cond (not (eqb i r) && isDisplaced a p) (moved p) p",
-      "displacedIf r a i p = cond (not (eqb i r) && sameAddress (p .partner .system .address) (a .system .address)) (moved p) p")),
-    ("3 locality", "a Ready that another group's timer holds back", "trunk/specs/Ready.antt",
-     ("holdsBack k p = waitsFor k p && not (ranOut (p .timers .wait))", "holdsBack k p = waits (p .phase .mux) && not (ranOut (p .timers .wait))")),
-    ("3 locality", "every call ages every port", "work/specs/Work.antt",
-     ("worked s ps = settled s (map periodicRun ps)", "worked s ps = settled s (map (λ (p : Port). periodicRun (Rattle.port.specs.Transmit.ticked p)) ps)")),
-    ("4 at rest", "one step of the periodic machine", "port/specs/Periodic.antt",
-     ("periodicRun p = periodicStep (periodicStep p)", "periodicRun p = periodicStep p")),
-    ("4 at rest", "one step of the mux", "port/specs/Mux.antt",
-     ("muxRun p = muxStep false (muxStep false p)", "muxRun p = muxStep false p")),
-    ("5 read-back", "the two blocks exchanged", "work/specs/Work.antt",
-     ("lacpduOf t i = lacpdu (portAt t i .own .address) (actorBlock (ours t) (i + 1) (portAt t i)) (portAt t i .partner) (headerOf t .delay)",
-      "lacpduOf t i = lacpdu (portAt t i .own .address) (portAt t i .partner) (actorBlock (ours t) (i + 1) (portAt t i)) (headerOf t .delay)")),
-    ("5 read-back", "port numbers from 0", "work/specs/Work.antt",
-     ("lacpduOf t i = lacpdu (portAt t i .own .address) (actorBlock (ours t) (i + 1) (portAt t i))",
-      "lacpduOf t i = lacpdu (portAt t i .own .address) (actorBlock (ours t) i (portAt t i))")),
-    ("6 the live partner", "EXPIRED that records defaults", "port/specs/Receive.antt",
-     ("(withPartnerState p (withTimeout (withSynchronization (p .partner .state) false) true)) shortTimeoutTime) true) Expired",
-      "(withPartnerState (recordDefault p) (withTimeout (withSynchronization (p .own .default .state) false) true)) shortTimeoutTime) true) Expired")),
-    ("6 the live partner", "settings that put the default block in force", "settings/specs/Settings.antt",
-     ("changed s p = withNtt (withActor (withOwn (regrouped s p) (ownOf s)) (ownBits s (p .actor))) true",
-      "changed s p = withNtt (withActor (Rattle.port.specs.Record.withPartner (withOwn (regrouped s p) (ownOf s)) (s .default)) (ownBits s (p .actor))) true")),
-    ("6 the live partner", "a link that falls clears the partner's Collecting", "port/specs/Receive.antt",
-     ("portDisabled p = withReceive (withCurrent (withPartnerState p (withSynchronization (p .partner .state) false)) 0) PortDisabled",
-      "portDisabled p = withReceive (withCurrent (withPartnerState p (Rattle.machine.specs.Bits.withCollecting (withSynchronization (p .partner .state) false) false)) 0) PortDisabled")),
-    ("7 reports", "COLLECTING counted as distributing", "report/specs/Sets.antt",
-     ("stands Distributes k p = eqb (p .aggregator) k && distributes (p .phase .mux)", "stands Distributes k p = eqb (p .aggregator) k && Rattle.machine.specs.Mux.collects (p .phase .mux)")),
-    ("7 reports", "the count of the attached ports", "report/specs/Sets.antt",
-     ("count = ones (setOf (stands Distributes k) ps);", "count = ones (setOf (stands Attached k) ps);")),
-    ("7 reports", "the record of the next port", "control/specs/Report.antt",
-     ("port = unless (answer (report n) t) noPort (portAt t (n - 1))", "port = unless (answer (report n) t) noPort (portAt t n)")),
-    ("case 07, 3F, 3D", "Synchronization and Collecting exchanged", "frame/specs/State.antt",
-     ("weighed (s .synchronization) 8\n    + weighed (s .collecting) 16", "weighed (s .collecting) 8\n    + weighed (s .synchronization) 16"),
-     ("synchronization = bit o 8;", "synchronization = bit o 16;"), ("collecting = bit o 16;", "collecting = bit o 8;")),
-    ("case 45, C5", "recordDefault that does not set Defaulted", "port/specs/Receive.antt",
-     ("recordDefault p = withActor (withPartner p (p .own .default)) (withDefaulted (p .actor) true)", "recordDefault p = withPartner p (p .own .default)")),
-    ("case alone", "a wait of 19 ticks", "machine/specs/Time.antt", ("aggregateWaitTime = 20", "aggregateWaitTime = 19")),
-    ("case 4 and 6", "each port attached on its own timer", "trunk/specs/Settled.antt",
-     ("attachedAll ps = map (λ p. attachedIf (ready (p .aggregator) ps) p) ps", "attachedAll ps = map (λ p. attachedIf (eqb (p .timers .wait .0) 0) p) ps")),
-    ("case 3, 5 and 2", "a group keeps its aggregator when a lower port joins", "trunk/specs/Selection.antt",
-     ("ruleOf ours cs i = lowest ours cs i + 1", "ruleOf ours cs i = i + 1")),
-    ("case 2, 4 and 3, 5", "partner systems not compared", "trunk/specs/Selection.antt",
-     ("sameKeys c d = eqb (c .key) (d .key) && (sameSystem (c .system) (d .system) && eqb (c .partnerKey) (d .partnerKey))",
-      "sameKeys c d = eqb (c .key) (d .key) && eqb (c .partnerKey) (d .partnerKey)")),
-    ("case silence", "a long timeout of 899 ticks", "machine/specs/Time.antt", ("longTimeoutTime = 900", "longTimeoutTime = 899")),
-    ("case silence", "EXPIRED for 29 ticks", "machine/specs/Time.antt", ("shortTimeoutTime = 30", "shortTimeoutTime = 29")),
-    ("case 123, 124, 125", "125 octets refused", "frame/specs/Class.antt",
-     ("short l = ltb (length l) 124", "short l = ltb (length l) 124 || eqb (length l) 125")),
-    ("case subtypes", "subtype 10 illegal", "frame/specs/Class.antt",
-     ("(leb 3 (octet l 14) && leb (octet l 14) 10)", "(leb 3 (octet l 14) && leb (octet l 14) 9)"),
-     ("oddSubtype l = eqb (octet l 14) 0 || leb 11 (octet l 14)", "oddSubtype l = eqb (octet l 14) 0 || leb 10 (octet l 14)")),
-    ("case passive sender", "a passive pair in sync", "machine/specs/Compare.antt",
-     ("maintained us a b = a .state .activity || (us .state .activity && b .state .activity)", "maintained us a b = a .state .activity || us .state .activity")),
+    Mutant("0 never stuck", "a long timeout that starts the timer at 901", ("never-stuck",), "machine::receive::timeout_time", (
+        ("machine/specs/Time.antt", "timeoutTime short = cond short shortTimeoutTime longTimeoutTime", "timeoutTime short = cond short shortTimeoutTime 901"),
+        ("machine/src/receive.rt", "        LONG_TIMEOUT_TIME\n", "        901\n"))),
+    Mutant("0 refusals are silent", "a refusal that writes the table", ("refused-link", "refused-fetch"), "", (
+        ("control/specs/After.antt", "after c t = unless (answer c t) t (changedBy c t)", "after c t = unless (answer c t) (changedBy c t) (changedBy c t)"),)),
+    Mutant("0 refusals are silent", "a refusal that clears the buffer", ("refused-link", "refused-fetch"), "", (
+        ("control/specs/After.antt", "outgoing c t = unless (answer c t) (bufferOf c) (writtenBy c t)", "outgoing c t = unless (answer c t) [] (writtenBy c t)"),)),
+    Mutant("1 the rule afresh", "bystanders forgotten", ("rule-afresh",), "trunk::select::must_move", (
+        ("trunk/specs/Settled.antt", "|| not (eqb (p .aggregator) k)", "|| not (eqb (p .aggregator) (p .aggregator))"),
+        ("trunk/src/select.rt", "is_unselected(s) | !(p.aggregator == k)", "is_unselected(s) | !(p.aggregator == p.aggregator)"))),
+    Mutant("2 distributing is earned", "DISTRIBUTING without a partner that collects", ("distributing-earned",), "machine::mux::next", (
+        ("machine/specs/Mux.antt", "muxNext Distributing Selected ready true false = Enter Collecting", "muxNext Distributing Selected ready true false = Stay"),
+        ("machine/src/mux.rt", "                    return MuxStep::Enter(Mux::Collecting);\n                }\n                MuxStep::Enter(Mux::Collecting)",
+         "                    return MuxStep::Stay;\n                }\n                MuxStep::Enter(Mux::Collecting)"))),
+    Mutant("2 distributing is earned", "a port without a link whose partner is in sync", ("distributing-earned",), "port::record::Port::port_disabled", (
+        ("port/specs/Receive.antt", "portDisabled p = withReceive (withCurrent (withPartnerState p (withSynchronization (p .partner .state) false)) 0) PortDisabled",
+         "portDisabled p = withReceive (withCurrent (withPartnerState p (withSynchronization (p .partner .state) true)) 0) PortDisabled"),
+        ("port/src/receive.rt", "        self.partner.state.synchronization = false;\n        self.in_state(Receive::PortDisabled, 0)",
+         "        self.partner.state.synchronization = true;\n        self.in_state(Receive::PortDisabled, 0)"))),
+    Mutant("2 the actor's bits", "DISTRIBUTING that clears its bit", ("bits-true",), "machine::states::Mux::bits", (
+        ("machine/specs/Mux.antt", "muxBits Distributing s = withDistributing s true", "muxBits Distributing s = withDistributing s false"),
+        ("machine/src/entry.rt", "            Mux::Distributing => {\n                s.distributing = true;", "            Mux::Distributing => {\n                s.distributing = false;"))),
+    Mutant("2 one group", "own keys not compared", ("two-groups",), "trunk::select::same_group", (
+        ("trunk/specs/Selection.antt", "sameKeys c d = eqb (c .key) (d .key) &&", "sameKeys c d = eqb (c .key) (c .key) &&"),
+        ("trunk/src/select.rt", "(p.own.key == q.own.key)", "(p.own.key == p.own.key)"))),
+    Mutant("3 locality", "every port displaced that is not the receiving one", ("locality-heard",), "trunk::displace::displace", (
+        ("trunk/specs/Displaced.antt", "displacedIf r a i p = cond (not (eqb i r) && isDisplaced a p) (moved p) p",
+         "displacedIf r a i p = cond (not (eqb i r) || isDisplaced a p) (moved p) p"),
+        ("trunk/src/displace.rt", "if !(i == r) & is_displaced(p, a)", "if !(i == r) | is_displaced(p, a)"))),
+    Mutant("3 locality", "every call ages every port", ("locality-heard", "locality-fallen"), "", (
+        ("work/specs/Work.antt", "worked s ps = settled s (map periodicRun ps)",
+         "worked s ps = settled s (map (λ (p : Port). periodicRun (Rattle.port.specs.Transmit.ticked p)) ps)"),)),
+    Mutant("3 a group's own timers", "a Ready that another group's timer holds back", ("distributing",), "trunk::ready::holds_back", (
+        ("trunk/specs/Ready.antt", "waitsFor k p = eqb (p .aggregator) k &&", "waitsFor k p = eqb (p .aggregator) (p .aggregator) &&"),
+        ("trunk/src/ready.rt", "((p.aggregator == k) & m.waits())", "((p.aggregator == p.aggregator) & m.waits())"))),
+    Mutant("4 at rest", "PERIODIC_TX that leads to NO_PERIODIC", ("at-rest",), "machine::periodic::next", (
+        ("machine/specs/Periodic.antt", "periodicNext PeriodicTx false out true = Enter FastPeriodic", "periodicNext PeriodicTx false out true = Enter NoPeriodic"),
+        ("machine/src/periodic.rt", "                return PeriodicStep::Enter(Periodic::FastPeriodic);", "                return PeriodicStep::Enter(Periodic::NoPeriodic);"))),
+    Mutant("4 at rest", "one step of the mux", ("at-rest",), "", (
+        ("port/specs/Mux.antt", "muxRun p = muxStep false (muxStep false p)", "muxRun p = muxStep false p"),)),
+    Mutant("5 read-back", "the two blocks exchanged", ("read-back",), "work::write_due", (
+        ("work/specs/Work.antt", "lacpduOf t i = lacpdu (portAt t i .own .address) (actorBlock (ours t) (i + 1) (portAt t i)) (portAt t i .partner) (headerOf t .delay)",
+         "lacpduOf t i = lacpdu (portAt t i .own .address) (portAt t i .partner) (actorBlock (ours t) (i + 1) (portAt t i)) (headerOf t .delay)"),
+        ("work/src/lib.rt", "frame::wire::write_lacpdu(out, address, actor, partner, delay);", "frame::wire::write_lacpdu(out, address, partner, actor, delay);"))),
+    Mutant("6 the live partner", "EXPIRED that records the default block", ("live-though-silent",), "port::record::Port::expire", (
+        ("port/specs/Receive.antt", "expired p =\n    withReceive (expiredBit (withCurrent (withPartnerState p (withTimeout (withSynchronization (p .partner .state) false) true)) shortTimeoutTime) true) Expired",
+         "expired p =\n    let d = recordDefault p in\n    withReceive (expiredBit (withCurrent (withPartnerState d (withTimeout (withSynchronization (d .partner .state) false) true)) shortTimeoutTime) true) Expired"),
+        ("port/src/receive.rt", "fn expire(mut self)", "fn expire(self)"),
+        ("port/src/receive.rt", "        self.partner.state.synchronization = false;\n        self.partner.state.timeout = true;\n        self.actor.expired = true;\n        self.in_state(Receive::Expired,",
+         "        let mut p = self.record_default();\n        p.partner.state.synchronization = false;\n        p.partner.state.timeout = true;\n        p.actor.expired = true;\n        p.in_state(Receive::Expired,"),
+        ("port/proofs/record/Port/expire/Proof.antt", "in-state-requires : tie.Need-in-state-requires",
+         "record-default-requires : tie.Need-record-default-requires\nrecord-default-requires c κs = search needs\n\nin-state-requires : tie.Need-in-state-requires"),
+        ("port/proofs/record/Port/expire/Proof.antt", "unfolding expired\nreturns c = simp (c .in-state .ensures)", "unfolding expired recordDefault\nreturns c = simp (c .in-state .ensures, c .before .before .before .before .record-default .ensures)"),
+        ("port/proofs/record/Port/expire/Proof.antt", "{expired}", "{expired, recordDefault}"),
+        ("port/proofs/record/Port/expire/Proof.antt", "tie.spec in-state-requires", "tie.spec record-default-requires in-state-requires"))),
+    Mutant("6 the live partner", "EXPIRED that clears the partner's Aggregation", ("live-though-silent",), "port::record::Port::expire", (
+        ("port/specs/Receive.antt", "(withTimeout (withSynchronization (p .partner .state) false) true)) shortTimeoutTime) true) Expired",
+         "(withAggregation (withSynchronization (p .partner .state) false) false)) shortTimeoutTime) true) Expired"),
+        ("port/src/receive.rt", "        self.partner.state.timeout = true;\n", "        self.partner.state.aggregation = false;\n"))),
+    Mutant("6 the live partner", "a link that falls clears the partner's Collecting", ("live-though-fallen",), "port::record::Port::port_disabled", (
+        ("port/specs/Receive.antt", "portDisabled p = withReceive (withCurrent (withPartnerState p (withSynchronization (p .partner .state) false)) 0) PortDisabled",
+         "portDisabled p = withReceive (withCurrent (withPartnerState p (Rattle.machine.specs.Bits.withCollecting (p .partner .state) false)) 0) PortDisabled"),
+        ("port/src/receive.rt", "        self.partner.state.synchronization = false;\n        self.in_state(Receive::PortDisabled, 0)",
+         "        self.partner.state.collecting = false;\n        self.in_state(Receive::PortDisabled, 0)"))),
+    Mutant("6 the live partner", "settings that put the default block in force", ("live-though-set",), "", (
+        ("settings/specs/Settings.antt", "changed s p = withNtt (withActor (withOwn (regrouped s p) (ownOf s)) (ownBits s (p .actor))) true",
+         "changed s p = withNtt (withActor (Rattle.port.specs.Record.withPartner (withOwn (regrouped s p) (ownOf s)) (s .default)) (ownBits s (p .actor))) true"),)),
+    Mutant("7 reports", "COLLECTING counted as distributing", ("narrowed-true",), "report::stands_to", (
+        ("report/specs/Sets.antt", "stands Distributes k p = eqb (p .aggregator) k && distributes (p .phase .mux)",
+         "stands Distributes k p = eqb (p .aggregator) k && Rattle.machine.specs.Mux.collects (p .phase .mux)"),
+        ("report/src/lib.rt", "Standing::Distributes => (p.aggregator == k) & m.distributes()", "Standing::Distributes => (p.aggregator == k) & m.collects()"))),
+    Mutant("7 reports", "the count of the attached ports", ("narrowed-true",), "report::aggregator_of", (
+        ("report/specs/Sets.antt", "count = ones (setOf (stands Distributes k) ps);", "count = ones (setOf (stands Attached k) ps);"),
+        ("report/src/lib.rt", "count: u32::count_ones(distributing),", "count: u32::count_ones(attached),"))),
+    Mutant("case 07, 3F, 3D", "Aggregation and Defaulted exchanged", ("active-short", "in-trunk", "in-trunk-long"), "frame::state::PortState::octet", (
+        ("frame/specs/State.antt", "weighed (s .aggregation) 4", "weighed (s .defaulted) 4"),
+        ("frame/specs/State.antt", "weighed (s .defaulted) 64", "weighed (s .aggregation) 64"),
+        ("frame/specs/State.antt", "aggregation = bit o 4;", "aggregation = bit o 64;"),
+        ("frame/specs/State.antt", "defaulted = bit o 64;", "defaulted = bit o 4;"),
+        ("frame/src/state.rt", "weigh(self.aggregation, 4)", "weigh(self.defaulted, 4)"),
+        ("frame/src/state.rt", "weigh(self.defaulted, 64)", "weigh(self.aggregation, 64)"),
+        ("frame/src/state.rt", "aggregation: o / 4 % 2", "aggregation: o / 64 % 2"),
+        ("frame/src/state.rt", "defaulted: o / 64 % 2", "defaulted: o / 4 % 2"))),
+    Mutant("case 45, C5", "recordDefault that clears Defaulted", ("after-start", "after-link-up"), "port::record::Port::record_default", (
+        ("port/specs/Receive.antt", "(withPartner p (p .own .default)) (withDefaulted (p .actor) true)", "(withPartner p (p .own .default)) (withDefaulted (p .actor) false)"),
+        ("port/src/receive.rt", "self.actor.defaulted = true;", "self.actor.defaulted = false;"))),
+    Mutant("case alone; case 4 and 6", "a wait of 19 ticks", ("alone-19", "joined-24"), "machine::states::Mux::wait_time", (
+        ("machine/specs/Time.antt", "aggregateWaitTime = 20", "aggregateWaitTime = 19"),
+        ("machine/src/entry.rt", "AGGREGATE_WAIT_TIME: u16 = 20", "AGGREGATE_WAIT_TIME: u16 = 19"))),
+    Mutant("case 4 and 6", "each port attached on its own timer", ("joined-24",), "", (
+        ("trunk/specs/Settled.antt", "attachedAll ps = map (λ p. attachedIf (ready (p .aggregator) ps) p) ps", "attachedAll ps = map (λ p. attachedIf (eqb (p .timers .wait .0) 0) p) ps"),)),
+    Mutant("case 3, 5 and 2", "a partner that aggregates taken for individual", ("sharing", "learned"), "trunk::select::is_individual", (
+        ("trunk/specs/Selection.antt", "not (c .partnerAggregation)", "c .partnerAggregation"),
+        ("trunk/src/select.rt", "(!partner.state.aggregation | same_system(system, ours))", "(partner.state.aggregation | same_system(system, ours))"))),
+    Mutant("case 2, 4 and 3, 5", "partner systems not compared", ("parted", "gone-over"), "trunk::select::same_group", (
+        ("trunk/specs/Selection.antt", "(sameSystem (c .system) (d .system) &&", "(sameSystem (c .system) (c .system) &&"),
+        ("trunk/src/select.rt", "(same_system(s, t) & (a.key == b.key))", "(same_system(s, s) & (a.key == b.key))"))),
+    Mutant("case silence", "a long timeout of 899 ticks", ("silence",), "machine::receive::timeout_time", (
+        ("machine/specs/Time.antt", "longTimeoutTime = 900", "longTimeoutTime = 899"), ("machine/src/receive.rt", "LONG_TIMEOUT_TIME: u16 = 900", "LONG_TIMEOUT_TIME: u16 = 899"))),
+    Mutant("case silence", "EXPIRED for 29 ticks", ("silence",), "machine::receive::timeout_time", (
+        ("machine/specs/Time.antt", "shortTimeoutTime = 30", "shortTimeoutTime = 29"), ("machine/src/receive.rt", "SHORT_TIMEOUT_TIME: u16 = 30", "SHORT_TIMEOUT_TIME: u16 = 29"))),
+    Mutant("case 123, 124, 125", "124 octets refused", ("octets-124",), "frame::class::is_illegal", (
+        ("frame/specs/Class.antt", "short l = ltb (length l) 124", "short l = ltb (length l) 125"),
+        ("frame/src/class.rt", "    if s.len() < 124 {", "    if s.len() < 125 {"))),
+    Mutant("case subtypes", "subtype 10 illegal", ("subtype-10",), "frame::class::is_unknown", (
+        ("frame/specs/Class.antt", "(leb 3 (octet l 14) && leb (octet l 14) 10)", "(leb 3 (octet l 14) && leb (octet l 14) 9)"),
+        ("frame/specs/Class.antt", "oddSubtype l = eqb (octet l 14) 0 || leb 11 (octet l 14)", "oddSubtype l = eqb (octet l 14) 0 || leb 10 (octet l 14)"),
+        ("frame/src/class.rt", "(3 <= s[14]) & (s[14] <= 10)", "(3 <= s[14]) & (s[14] <= 9)"),
+        ("frame/src/class.rt", "(s[14] == 0) | (11 <= s[14])", "(s[14] == 0) | (10 <= s[14])"))),
+    Mutant("case passive sender", "a sender taken to be in sync though both ends may be passive", ("says-passive",), "machine::compare::in_sync", (
+        ("machine/specs/Compare.antt", "maintained us a b = a .state .activity || (us .state .activity && b .state .activity)",
+         "maintained us a b = a .state .activity || (us .state .activity && us .state .activity)"),
+        ("machine/src/compare.rt", "(us.state.activity & b.state.activity)", "(us.state.activity & us.state.activity)"))),
 ]
 
 main(sys.argv[1:])

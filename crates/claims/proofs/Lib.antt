@@ -10,3 +10,4 @@ pub mod Locality
 pub mod LivePartner
 pub mod Reports
 pub mod ReadBack
+pub mod Witness

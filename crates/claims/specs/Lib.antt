@@ -6,3 +6,5 @@ pub mod Locality
 pub mod LivePartner
 pub mod Reports
 pub mod ReadBack
+pub mod Speakers
+pub mod Witness

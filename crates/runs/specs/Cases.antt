@@ -3,68 +3,27 @@ use Prim.Native.Nat.{ℕ, zero, suc, _-_}
 use mathlib.Core.Path.{_≡_}
 use mathlib.Core.Bool.{Bool, true, false}
 use mathlib.Core.List.{List, [], _∷_, _++_, map}
-use lib.ListN.{take, set, replicate}
-use Rattle.frame.specs.declared.block.Address.{Address}
-use Rattle.frame.specs.declared.block.Block.{Block}
-use Rattle.frame.specs.declared.block.SystemId.{SystemId}
-use Rattle.frame.specs.declared.wire.TensOfMicroseconds.{TensOfMicroseconds}
-use Rattle.frame.specs.State.{stateOctet, stateOf}
-use Rattle.frame.specs.Wire.{lacpdu, zeros}
+use lib.ListN.{take, set}
+use Rattle.frame.specs.State.{stateOctet}
+use Rattle.frame.specs.Wire.{zeros}
 use Rattle.machine.specs.declared.states.Receive.{Receive}
 use Rattle.machine.specs.declared.states.Receive.the-variants.{Expired, Defaulted, Current}
 use Rattle.machine.specs.declared.states.Mux.{Mux}
 use Rattle.machine.specs.declared.states.Mux.the-variants.{Waiting, Attached}
 use Rattle.machine.specs.Bits.{state}
-use Rattle.settings.specs.declared.Settings.{Settings}
 use Rattle.table.specs.Layout.{tableSize}
 use Rattle.table.specs.Table.{portAt}
 use Rattle.control.specs.Answer.{answerNumber}
 use Rattle.control.specs.Call.{Call, start, receive, tick, link}
 use Rattle.control.specs.After.{answer, after}
 use Rattle.claims.specs.Run.{run}
+use Rattle.claims.specs.Speakers.{system, noDelay, settings, frame}
 
--- ---- who speaks
-
-abbrev pub address : ℕ → Address
-address n = record { high = 0; middle = 0; low = n }
-
--- system `s` with priority 1
-abbrev pub system : ℕ → SystemId
-system s = record { priority = 1; address = address s }
-
-abbrev pub noDelay : TensOfMicroseconds
-noDelay = record { 0 = 0 }
-
--- port `q` of system `s`, key 1, port priority 1, with the state octet `o`
-abbrev pub block : ℕ → ℕ → ℕ → Block
-block s q o = record { system = system s; key = 1; port = record { priority = 1; number = q }; state = stateOf o }
-
--- active and aggregatable, short or long, with a default partner block that is all zeros but for its state octet
-abbrev pub settings : Bool → ℕ → Settings
-settings short o = record {
-  address = address 9;
-  key = 1;
-  priority = 1;
-  activity = true;
-  timeout = short;
-  aggregation = true;
-  default = record {
-    system = record { priority = 0; address = address 0 };
-    key = 0;
-    port = record { priority = 0; number = 0 };
-    state = stateOf o;
-  };
-}
-
--- ---- calls; we are system 9, and every default partner is individual
+-- ---- calls; every default partner is individual
 
 -- started with n ports, long timeout, in a memory of zeros
 unfoldable pub started : ℕ → List ℕ
 started n = after (start n (system 9) noDelay (settings false 0)) (zeros (tableSize n))
-
--- an LACPDU of port q of system s with the state octet o, to port n, of which it says state octet v
-abbrev pub frame : ℕ → ℕ → ℕ → ℕ → ℕ → List ℕ
-frame s q o n v = lacpdu (address s) (block s q o) (block 9 n v) noDelay
 
 -- port n hears port q of system s, active, aggregatable and not in sync
 abbrev pub hears : ℕ → ℕ → ℕ → Call

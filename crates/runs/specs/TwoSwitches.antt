@@ -19,7 +19,7 @@ use Rattle.control.specs.declared.answer.Answer.the-variants.{Done, Lacpdu, Mar
 use Rattle.control.specs.Call.{Call, start, receive, tick, link, fetch}
 use Rattle.control.specs.After.{answer, after, outgoing}
 use Rattle.claims.specs.Run.{run}
-use Rattle.runs.specs.Cases.{system, settings, noDelay}
+use Rattle.claims.specs.Speakers.{system, noDelay, settings}
 
 -- ---- two tables, and what passes between them
 

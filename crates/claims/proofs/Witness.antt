@@ -1,0 +1,99 @@
+-- The witness, by computation; and that lists of octets are octets, by a test of each. Assumes nothing.
+use Prim.Native.Nat.{ℕ, zero, suc, _<_}
+use mathlib.Core.Path.{_≡_, refl}
+use mathlib.Core.Bool.{Bool, true, and-eq-true-iff}
+use mathlib.Core.List.{List, [], _∷_}
+use native.Mathlib.Omega.{arith}
+use lib.ListN.{getD}
+use lib.Dec.{ltb}
+use lib.Count.{ones, onesIn, trailingZeros}
+use borrow.Author.Tests.{ltb-true}
+use Rattle.machine.specs.Compare.{sameAddress, sameSystem, sameNumbers, sameParty, sameView, maintained, inSync, sameState, sameBlock}
+use Rattle.port.specs.Receive.{recordDefault, recordPdu, updateSelected, updateDefaultSelected, updateNtt, initialized, portDisabled, expired}
+use Rattle.port.specs.Receive.{lacpDisabled, defaulted, heard, current, moved, received, receiveChoice, receiveStep, receiveRun, lined}
+use Rattle.port.specs.Periodic.{periodicChoice, periodicStep, periodicRun}
+use Rattle.port.specs.Transmit.{due, sent, silent as Port·silent, quieted, ticked}
+use Rattle.port.specs.Mux.{muxChoice, muxStep, detached, placed, attachedIf, muxRun}
+use Rattle.settings.specs.Settings.{sameGrouping, sameSettings, regrouped, changed, configured, lawful, blank, started}
+use Rattle.trunk.specs.Advanced.{advanced}
+use Rattle.trunk.specs.Selection.{individual, sameKeys, sameGroup, joins, sharesGroup, firstFrom, lowest, ruleOf}
+use Rattle.trunk.specs.Ready.{waitsFor, hasWaiting, holdsBack, heldBack, ready}
+use Rattle.trunk.specs.Settled.{mapFrom, mustMove, reselected, selectedAll, attachedAll, climbed, settled}
+use Rattle.trunk.specs.Displaced.{isDisplaced, displacedIf, displaced}
+use Rattle.octets.specs.Octets.{sameOctets}
+use Rattle.frame.specs.Class.{foreign, unknown, wrongLength, wrongMarkerType, illegal, classOf}
+use Rattle.frame.specs.Wire.{zeros}
+use Rattle.report.specs.Sets.{stands, setOf, setsOf}
+use Rattle.table.specs.Range.{codesInRange, timersInRange, agesInRange, recordInRange, blockFits, ownFits, headerFits}
+use Rattle.table.specs.Record.{encoded, decoded}
+use Rattle.table.specs.Table.{recordAt, portAt, portsFrom, ports, recordsOctets, tableOctets, firstInRange, tableInRange}
+use Rattle.work.specs.Work.{worked, afterOne, afterStart, heardAt, afterHeard, afterTick, afterLine, afterSettings, afterSend, lacpduOf}
+use Rattle.control.specs.Answer.{found}
+use Rattle.control.specs.After.{answer, changedBy, after, writtenBy, outgoing}
+use Rattle.control.specs.Report.{portReport, aggregatorReport}
+use Rattle.control.specs.Call.{Call}
+use Rattle.claims.specs.Run.{Octets, Takes, AllTake, run}
+use Rattle.claims.specs.Speakers.{system, noDelay, settings}
+use Rattle.claims.specs.Witness.{Witness, said, hears, memory, ticks, later, calls, tables, begun, trunk, parted, narrowed, fallen, rekeyed, silent, every}
+
+abbrev isOctet : ℕ → Bool
+isOctet o = ltb o 256
+
+octets : (l : List ℕ) → every isOctet l ≡ true → Octets l
+unfolding every
+octets [] h i = omega arith
+octets (x ∷ xs) h zero = ltb-true x 256 (and-eq-true-iff (isOctet x) (every isOctet xs) .0 h .0)
+octets (x ∷ xs) h (suc i) = octets xs (and-eq-true-iff (isOctet x) (every isOctet xs) .0 h .1) i
+
+heard-takes : (k n o : ℕ) → every isOctet (said k n o) ≡ true → Takes (hears k n o)
+unfolding every
+heard-takes k n o h = (octets (said k n o) h, octets (zeros 124) refl)
+
+ticks-take : (n : ℕ) (cs : List Call) → AllTake cs → AllTake (ticks n cs)
+unfolding ticks
+ticks-take zero cs a = a
+ticks-take (suc n) cs a = (tt, ticks-take n cs a)
+
+takes : AllTake calls
+unfolding every ownFits blockFits
+takes =
+    let then : AllTake later = (heard-takes 2 3 0x05 refl, ticks-take 10 [] tt) in
+    (tt, (tt, (tt, (refl, (heard-takes 1 1 0x3F refl, (heard-takes 1 2 0x3F refl, ticks-take 10 later then))))))
+
+pub witness : Witness
+unfolding sameAddress sameSystem sameNumbers sameParty sameView maintained inSync sameState sameBlock recordDefault recordPdu updateSelected updateDefaultSelected updateNtt initialized portDisabled expired lacpDisabled defaulted heard current moved received receiveChoice receiveStep receiveRun lined periodicChoice periodicStep periodicRun due sent Port·silent quieted ticked muxChoice muxStep detached placed attachedIf muxRun sameGrouping sameSettings regrouped changed configured lawful blank started advanced individual sameKeys sameGroup joins sharesGroup firstFrom lowest ruleOf waitsFor hasWaiting holdsBack heldBack ready mapFrom mustMove reselected selectedAll attachedAll climbed settled isDisplaced displacedIf displaced sameOctets foreign unknown wrongLength wrongMarkerType illegal classOf stands setOf setsOf codesInRange timersInRange agesInRange recordInRange blockFits ownFits headerFits encoded decoded recordAt portAt portsFrom ports recordsOctets tableOctets firstInRange tableInRange worked afterOne afterStart heardAt afterHeard afterTick afterLine afterSettings afterSend lacpduOf found answer changedBy after writtenBy outgoing portReport aggregatorReport ones onesIn trailingZeros run ticks tables begun trunk parted narrowed fallen rekeyed silent every
+witness = record {
+  made = record {
+    memory = memory;
+    octets = octets memory refl;
+    count = 3;
+    system = system 9;
+    delay = noDelay;
+    settings = settings true 0;
+    takes = (refl, refl);
+    starts = refl;
+    calls = calls;
+    allTake = takes;
+    gives = refl;
+  };
+  never-stuck = refl;
+  refused-link = refl;
+  refused-fetch = refl;
+  rule-afresh = refl;
+  distributing = refl;
+  distributing-earned = refl;
+  bits-true = refl;
+  one-group = refl;
+  two-groups = refl;
+  locality-heard = refl;
+  locality-fallen = refl;
+  at-rest = refl;
+  read-back = refl;
+  live-in-trunk = refl;
+  live-though-fallen = refl;
+  live-though-set = refl;
+  live-though-silent = refl;
+  port-true = refl;
+  trunk-true = refl;
+  narrowed-true = refl;
+}

@@ -1,0 +1,200 @@
+-- One run, computed: a table that calls made, and what each theorem says of it and of what a call makes of it. So no theorem is empty, and a
+-- definition that breaks one shows here, whatever the laws below say of it.
+use Prim.Native.Nat.{ℕ, zero, suc, _-_}
+use mathlib.Core.Path.{_≡_}
+use mathlib.Core.Bool.{Bool, true, false, cond, not, _&&_, _||_}
+use mathlib.Core.List.{List, [], _∷_, map}
+use lib.ListN.{replicate}
+use lib.Dec.{eqb}
+use Rattle.octets.specs.Octets.{sameOctets}
+use Rattle.frame.specs.declared.block.Block.{Block}
+use Rattle.frame.specs.declared.class.Class.{Class}
+use Rattle.frame.specs.declared.class.Class.the-variants as class
+use Rattle.frame.specs.Block.{blockOf, blockOctets}
+use Rattle.frame.specs.Class.{classOf}
+use Rattle.frame.specs.Wire.{zeros, actorPart, partnerPart}
+use Rattle.machine.specs.declared.states.Selection.{Selection}
+use Rattle.machine.specs.declared.states.Selection.the-variants.{Selected, Unselected}
+use Rattle.machine.specs.Mux.{isAttached, collects, distributes}
+use Rattle.port.specs.declared.record.Port.{Port}
+use Rattle.port.specs.Compared.{compared}
+use Rattle.port.specs.Receive.{receiveRun}
+use Rattle.port.specs.Record.{actorBlock}
+use Rattle.report.specs.declared.Sets.{Sets}
+use Rattle.table.specs.Layout.{tableSize}
+use Rattle.table.specs.Record.{encoded}
+use Rattle.table.specs.Table.{countIn, ports, portAt, tableInRange}
+use Rattle.trunk.specs.Selection.{sharesGroup, ruleOf}
+use Rattle.work.specs.Work.{ours, worked, again}
+use Rattle.control.specs.Call.{Call, start, receive, tick, link, configure, fetch}
+use Rattle.control.specs.After.{answer, after, bufferOf, outgoing}
+use Rattle.control.specs.Report.{portReport, aggregatorReport}
+use Rattle.claims.specs.Run.{accepted, run, Made}
+use Rattle.claims.specs.LivePartner.{lasting}
+use Rattle.claims.specs.Speakers.{system, noDelay, keyedBlock, keyedSettings, settings, frameOf}
+
+-- ---- the run: three ports, short timeout. Ports 1 and 2 hear key 1 of system 5, in sync, collecting and distributing; ten ticks later port 3,
+-- which has a long timeout, hears key 2 of it. After ten more, ports 1 and 2 are a trunk, and port 3 waits.
+
+abbrev pub said : ℕ → ℕ → ℕ → List ℕ
+said k n o = frameOf (keyedBlock 5 k n o) n 0x07
+
+abbrev pub hears : ℕ → ℕ → ℕ → Call
+hears k n o = receive n (said k n o) (zeros 124)
+
+abbrev pub memory : List ℕ
+memory = zeros (tableSize 3)
+
+abbrev pub begin : Call
+begin = start 3 (system 9) noDelay (settings true 0)
+
+-- n ticks, and then some calls
+unfoldable pub ticks : ℕ → List Call → List Call
+ticks zero cs = cs
+ticks (suc n) cs = tick ∷ ticks n cs
+
+-- what port 3 hears, and ten ticks more
+abbrev pub later : List Call
+later = hears 2 3 0x05 ∷ ticks 10 []
+
+abbrev pub calls : List Call
+calls = link 1 true ∷ link 2 true ∷ link 3 true ∷ configure 3 (settings false 0) ∷ hears 1 1 0x3F ∷ hears 1 2 0x3F ∷ ticks 10 later
+
+-- every table on the way
+unfoldable pub tables : List ℕ → List Call → List (List ℕ)
+tables t [] = t ∷ []
+tables t (c ∷ cs) = t ∷ tables (after c t) cs
+
+unfoldable pub begun : List ℕ
+begun = after begin memory
+
+unfoldable pub trunk : List ℕ
+trunk = run begun calls
+
+-- ---- and what becomes of it
+
+-- port 1 hears another system
+unfoldable pub parted : List ℕ
+parted = after (receive 1 (frameOf (keyedBlock 6 1 1 0x3F) 1 0x07) (zeros 124)) trunk
+
+-- the partner of port 2 stops collecting
+unfoldable pub narrowed : List ℕ
+narrowed = after (hears 1 2 0x0F) trunk
+
+-- link 1 falls
+unfoldable pub fallen : List ℕ
+fallen = after (link 1 false) trunk
+
+-- port 2 gets another key, and another default block
+unfoldable pub rekeyed : List ℕ
+rekeyed = after (configure 2 (keyedSettings 2 true 0x3C)) trunk
+
+-- ten ticks of silence: ports 1 and 2 are EXPIRED, and port 3 has waited long enough
+unfoldable pub silent : List ℕ
+silent = run trunk (ticks 10 [])
+
+abbrev pub seen : List (List ℕ)
+seen = parted ∷ narrowed ∷ fallen ∷ rekeyed ∷ silent ∷ tables begun calls
+
+-- ---- what the theorems say of a table, as a test
+
+unfoldable pub every : {A : Type 0} → (A → Bool) → List A → Bool
+every f [] = true
+every f (x ∷ xs) = f x && every f xs
+
+abbrev pub isSelected : Selection → Bool
+isSelected Selected = true
+isSelected Unselected = false
+
+abbrev pub same : Bool → Bool → Bool
+same b c = cond b c (not c)
+
+abbrev pub indices : List ℕ
+indices = 0 ∷ 1 ∷ 2 ∷ []
+
+abbrev pub ruledAt : List ℕ → ℕ → Bool
+ruledAt t i = eqb (portAt t i .aggregator) (ruleOf (ours t) (map compared (ports t)) i) && isSelected (portAt t i .phase .selected)
+
+abbrev pub ruled : List ℕ → Bool
+ruled t = every (ruledAt t) indices
+
+abbrev pub earnedBy : Port → Bool
+earnedBy p = not (distributes (p .phase .mux)) || (p .line .up && (p .partner .state .synchronization && p .partner .state .collecting))
+
+abbrev pub earned : List ℕ → Bool
+earned t = every earnedBy (ports t)
+
+abbrev pub saysMux : Port → Bool
+saysMux p =
+    same (p .actor .synchronization) (isAttached (p .phase .mux))
+    && (same (p .actor .collecting) (collects (p .phase .mux)) && same (p .actor .distributing) (distributes (p .phase .mux)))
+
+abbrev pub says : List ℕ → Bool
+says t = every saysMux (ports t)
+
+abbrev pub rests : List ℕ → Bool
+rests t = sameOctets (again t (worked (ours t) (map receiveRun (ports t)))) t
+
+-- a refused call leaves table and buffer
+abbrev pub silently : Call → List ℕ → Bool
+silently c t = not (accepted (answer c t)) && (sameOctets (after c t) t && sameOctets (outgoing c t) (bufferOf c))
+
+-- port i, from 0, has one record in both tables
+abbrev pub keeps : ℕ → List ℕ → List ℕ → Bool
+keeps i t u = sameOctets (encoded (portAt t i)) (encoded (portAt u i))
+
+abbrev pub sameBlocks : Block → Block → Bool
+sameBlocks a b = sameOctets (blockOctets a) (blockOctets b)
+
+abbrev pub isLacpdu : Class → Bool
+isLacpdu class.Lacpdu = true
+isLacpdu class.Marker = false
+isLacpdu class.Response = false
+isLacpdu (class.Refused r) = false
+
+-- an LACPDU that port n sent says of both ends what its record says
+abbrev pub reads : List ℕ → ℕ → List ℕ → Bool
+reads t n f =
+    isLacpdu (classOf f)
+    && (sameBlocks (blockOf (actorPart f)) (actorBlock (ours t) n (portAt t (n - 1))) && sameBlocks (blockOf (partnerPart f)) (portAt t (n - 1) .partner))
+
+abbrev pub live : List ℕ → Port → Bool
+live f p = sameBlocks (lasting (p .partner)) (lasting (blockOf (actorPart f))) && not (p .actor .defaulted)
+
+abbrev pub setsAre : Sets → ℕ → ℕ → ℕ → ℕ → ℕ → Bool
+setsAre s h a d n l = eqb (s .holding) h && (eqb (s .attached) a && (eqb (s .distributing) d && (eqb (s .count) n && eqb (s .lowest) l)))
+
+abbrev pub lent : List ℕ
+lent = replicate 124 7
+
+pub record Witness : Type 0 where
+  pub made : Made trunk
+  -- 0
+  pub never-stuck : every tableInRange seen ≡ true
+  pub refused-link : silently (link 4 true) trunk ≡ true
+  pub refused-fetch : silently (fetch 3 lent) (after (fetch 3 lent) trunk) ≡ true
+  -- 1
+  pub rule-afresh : every ruled seen ≡ true
+  -- 2
+  pub distributing : map (λ p. distributes (p .phase .mux)) (ports trunk) ≡ true ∷ true ∷ false ∷ []
+  pub distributing-earned : every earned seen ≡ true
+  pub bits-true : every says seen ≡ true
+  pub one-group : sharesGroup (ours trunk) (map compared (ports trunk)) 0 1 ≡ true
+  -- ports 1 and 2 have different keys then, and so different LAG IDs
+  pub two-groups : sharesGroup (ours rekeyed) (map compared (ports rekeyed)) 0 1 ≡ false
+  -- 3: port 3 shares no group with port 1, though it has a partner of the same system
+  pub locality-heard : keeps 2 (after (hears 1 1 0x3F) trunk) trunk ≡ true
+  pub locality-fallen : keeps 2 fallen trunk ≡ true
+  -- 4
+  pub at-rest : every rests seen ≡ true
+  -- 5
+  pub read-back : reads trunk 1 (outgoing (fetch 1 lent) trunk) ≡ true
+  -- 6
+  pub live-in-trunk : live (said 1 1 0x3F) (portAt trunk 0) ≡ true
+  pub live-though-fallen : live (said 1 1 0x3F) (portAt fallen 0) ≡ true
+  pub live-though-set : live (said 1 2 0x3F) (portAt rekeyed 1) ≡ true
+  pub live-though-silent : live (said 1 1 0x3F) (portAt silent 0) ≡ true
+  -- 7
+  pub port-true : sameOctets (encoded (portReport 2 trunk .port)) (encoded (portAt trunk 1)) ≡ true
+  pub trunk-true : setsAre (aggregatorReport 1 trunk .sets) 3 3 3 2 1 ≡ true
+  pub narrowed-true : setsAre (aggregatorReport 1 narrowed .sets) 3 3 1 1 1 ≡ true
