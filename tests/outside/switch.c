@@ -1,0 +1,207 @@
+/*
+ * A switch behind a pipe: each line on standard input is one call of include/myrkosti.h on one table, and gets one line on standard
+ * output, the answer number and what belongs to it. Numbers are decimal, octets hexadecimal, no octets '-', flags 0 or 1.
+ *
+ *   start PORTS SYSTEM_PRIORITY SYSTEM DELAY SETTINGS
+ *   settings PORT SETTINGS            SETTINGS: ADDRESS KEY PORT_PRIORITY ACTIVITY TIMEOUT AGGREGATION PARTNER
+ *   link PORT UP
+ *   duplex PORT FULL
+ *   tick
+ *   receive PORT FRAME                answer, Response
+ *   fetch PORT                        answer, LACPDU
+ *   port PORT                         answer, record
+ *   aggregator NUMBER                 answer, holding, attached, distributing, count, lowest
+ *
+ * With the argument --mute it never sends: a fetch finds nothing, and a Marker gets no Response. A line that it cannot read ends it.
+ */
+#include "myrkosti.h"
+
+#include <stdio.h>
+#include <stdlib.h>
+#include <string.h>
+
+enum { LINE = 8192, FRAME = 2048 };
+
+static uint8_t table[MYRKOSTI_TABLE(MYRKOSTI_PORTS)];
+static size_t size;
+static bool mute;
+
+struct settings {
+    uint8_t address[6], partner[MYRKOSTI_BLOCK];
+    uint16_t key, priority;
+    bool activity, timeout, aggregation;
+};
+
+static void wrong(const char *what)
+{
+    fprintf(stderr, "switch: not understood: %s\n", what);
+    exit(2);
+}
+
+static char *word(void)
+{
+    char *next = strtok(NULL, " \n");
+    if (next == NULL)
+        wrong("a line that ends early");
+    return next;
+}
+
+static uint32_t number(uint32_t most)
+{
+    char *text = word(), *end;
+    unsigned long long value = strtoull(text, &end, 10);
+    if (*end != 0 || value > most)
+        wrong(text);
+    return (uint32_t)value;
+}
+
+static bool flag(void)
+{
+    return number(1) == 1;
+}
+
+/* the octets of the next word, at most `most`; how many there are */
+static size_t octets(uint8_t *to, size_t most)
+{
+    const char *text = word();
+    size_t digits = strcmp(text, "-") == 0 ? 0 : strlen(text);
+    if (digits % 2 != 0 || digits / 2 > most)
+        wrong(text);
+    for (size_t i = 0; i < digits / 2; i++) {
+        unsigned octet;
+        if (sscanf(text + 2 * i, "%2x", &octet) != 1)
+            wrong(text);
+        to[i] = (uint8_t)octet;
+    }
+    return digits / 2;
+}
+
+static void exactly(uint8_t *to, size_t count)
+{
+    if (octets(to, count) != count)
+        wrong("too few octets");
+}
+
+static struct settings settings(void)
+{
+    struct settings s;
+    exactly(s.address, sizeof s.address);
+    s.key = (uint16_t)number(UINT16_MAX);
+    s.priority = (uint16_t)number(UINT16_MAX);
+    s.activity = flag();
+    s.timeout = flag();
+    s.aggregation = flag();
+    exactly(s.partner, sizeof s.partner);
+    return s;
+}
+
+static void say(uint32_t answer)
+{
+    printf("%u\n", (unsigned)answer);
+}
+
+static void say_octets(uint32_t answer, const uint8_t *from, size_t count)
+{
+    printf("%u %s", (unsigned)answer, count == 0 ? "-" : "");
+    for (size_t i = 0; i < count; i++)
+        printf("%02x", from[i]);
+    printf("\n");
+}
+
+static void do_start(void)
+{
+    uint8_t system[6];
+    uint32_t ports = number(MYRKOSTI_PORTS);
+    uint16_t priority = (uint16_t)number(UINT16_MAX);
+    exactly(system, sizeof system);
+    uint16_t delay = (uint16_t)number(UINT16_MAX);
+    struct settings s = settings();
+    size = myrkosti_table_size(ports);
+    say(myrkosti_start(table, size, ports, priority, system, delay, s.address, s.key, s.priority, s.activity, s.timeout, s.aggregation,
+                       s.partner));
+}
+
+static void do_settings(void)
+{
+    uint32_t port = number(UINT32_MAX);
+    struct settings s = settings();
+    say(myrkosti_settings(table, size, port, s.address, s.key, s.priority, s.activity, s.timeout, s.aggregation, s.partner));
+}
+
+static void do_link(void)
+{
+    uint32_t port = number(UINT32_MAX);
+    say(myrkosti_link(table, size, port, flag()));
+}
+
+static void do_duplex(void)
+{
+    uint32_t port = number(UINT32_MAX);
+    say(myrkosti_duplex(table, size, port, flag()));
+}
+
+static void do_tick(void)
+{
+    say(myrkosti_tick(table, size));
+}
+
+static void do_receive(void)
+{
+    uint8_t frame[FRAME], out[MYRKOSTI_FRAME];
+    uint32_t sent, port = number(UINT32_MAX);
+    size_t length = octets(frame, sizeof frame);
+    uint32_t answer = myrkosti_receive(table, size, port, frame, length, out, sizeof out, &sent);
+    say_octets(answer, out, mute ? 0 : sent);
+}
+
+static void do_fetch(void)
+{
+    uint8_t out[MYRKOSTI_FRAME];
+    uint32_t port = number(UINT32_MAX);
+    uint32_t answer = mute ? MYRKOSTI_NOTHING_TO_SEND : myrkosti_fetch(table, size, port, out, sizeof out);
+    say_octets(answer, out, answer == MYRKOSTI_DONE ? sizeof out : 0);
+}
+
+static void do_port(void)
+{
+    uint8_t record[MYRKOSTI_RECORD];
+    uint32_t answer = myrkosti_port(table, size, number(UINT32_MAX), record);
+    say_octets(answer, record, sizeof record);
+}
+
+static void do_aggregator(void)
+{
+    uint32_t holding, attached, distributing, count, lowest;
+    uint32_t answer = myrkosti_aggregator(table, size, number(UINT32_MAX), &holding, &attached, &distributing, &count, &lowest);
+    printf("%u %u %u %u %u %u\n", (unsigned)answer, (unsigned)holding, (unsigned)attached, (unsigned)distributing, (unsigned)count,
+           (unsigned)lowest);
+}
+
+static const struct {
+    const char *name;
+    void (*act)(void);
+} COMMANDS[] = {
+    {"start", do_start}, {"settings", do_settings}, {"link", do_link}, {"duplex", do_duplex}, {"tick", do_tick},
+    {"receive", do_receive}, {"fetch", do_fetch}, {"port", do_port}, {"aggregator", do_aggregator},
+};
+
+static void obey(char *line)
+{
+    const char *name = strtok(line, " \n");
+    for (size_t i = 0; name != NULL && i < sizeof COMMANDS / sizeof *COMMANDS; i++)
+        if (strcmp(name, COMMANDS[i].name) == 0) {
+            COMMANDS[i].act();
+            return;
+        }
+    wrong(name == NULL ? "an empty line" : name);
+}
+
+int main(int count, char **arguments)
+{
+    static char line[LINE];
+    mute = count == 2 && strcmp(arguments[1], "--mute") == 0;
+    setvbuf(stdout, NULL, _IOLBF, 0);
+    while (fgets(line, sizeof line, stdin) != NULL)
+        obey(line);
+    return 0;
+}

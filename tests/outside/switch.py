@@ -1,0 +1,212 @@
+"""The library as Python sees it: tests/outside/switch.c behind a pipe, blocks and records by their fields, and a count of checks."""
+
+import struct
+import subprocess
+from typing import NamedTuple
+
+SLOW_ADDRESS = bytes.fromhex("0180c2000002")
+
+# Answers.
+DONE, LACP_OFF, FOREIGN, UNKNOWN, ILLEGAL, NOT_COLLECTING, NOTHING_TO_SEND, TOO_MANY_SENDS, RESPONSE = 0, 5, 6, 7, 8, 9, 10, 11, 12
+# Receive and mux states.
+PORT_DISABLED, EXPIRED, LACP_DISABLED, DEFAULTED, CURRENT = 1, 2, 3, 4, 5
+DETACHED, WAITING, ATTACHED, COLLECTING, DISTRIBUTING = range(5)
+# The bits of a state octet, from bit 0.
+BITS = ("activity", "timeout", "aggregation", "synchronization", "collecting", "distributing", "defaulted", "expired")
+
+
+def bit(name):
+    """The state octet with this bit alone."""
+    return 1 << BITS.index(name)
+
+
+class Block(NamedTuple):
+    """An information block."""
+    system_priority: int
+    system: bytes
+    key: int
+    port_priority: int
+    port: int
+    state: int
+
+    LAYOUT = struct.Struct(">H6sHHHB")
+
+    def __repr__(self):
+        return f"{self.system_priority:04x} {self.system.hex()} {self.key:04x} {self.port_priority:04x} {self.port:04x} {self.state:02x}"
+
+    @classmethod
+    def read(cls, octets):
+        """The block that these 15 octets are."""
+        return cls(*cls.LAYOUT.unpack(octets))
+
+    def octets(self):
+        """The block's 15 octets."""
+        return self.LAYOUT.pack(*self)
+
+    def has(self, name):
+        """Whether the state has this bit."""
+        return bool(self.state & bit(name))
+
+
+NOBODY = Block(0, bytes(6), 0, 0, 0, 0)
+
+
+class System(NamedTuple):
+    """What a start says of the whole switch."""
+    priority: int
+    address: bytes
+    delay: int
+
+
+class Settings(NamedTuple):
+    """A port's settings."""
+    address: bytes
+    key: int
+    port_priority: int
+    activity: bool
+    timeout: bool
+    aggregation: bool
+    partner: Block
+
+    def words(self):
+        """The settings as switch.c reads them."""
+        flags = (int(flag) for flag in (self.activity, self.timeout, self.aggregation))
+        return (self.address.hex(), self.key, self.port_priority, *flags, self.partner.octets().hex())
+
+
+class Record(NamedTuple):
+    """A port's record, field by field as docs/TABLE.md has it."""
+    receive: int
+    periodic: int
+    mux: int
+    selected: int
+    aggregator: int
+    ntt: int
+    link: int
+    duplex: int
+    state: int
+    current_while: int
+    periodic_timer: int
+    wait_timer: int
+    ages: bytes
+    address: bytes
+    key: int
+    port_priority: int
+    default: Block
+    partner: Block
+
+    LAYOUT = struct.Struct(">9BHHB3s6sHH15s15s")
+
+    @classmethod
+    def read(cls, octets):
+        """The record that these 57 octets are."""
+        *fields, default, partner = cls.LAYOUT.unpack(octets)
+        return cls(*fields, Block.read(default), Block.read(partner))
+
+
+class Aggregator(NamedTuple):
+    """An aggregator's report, its sets as sets of port numbers."""
+    holding: set
+    attached: set
+    distributing: set
+    count: int
+    lowest: int
+
+
+def members(number):
+    """The ports of a 32-bit set, bit 0 is port 1."""
+    return {port for port in range(1, 33) if number >> (port - 1) & 1}
+
+
+class Switch:
+    """One table of the library, in a process of its own."""
+
+    def __init__(self, command):
+        self.process = subprocess.Popen(command, stdin=subprocess.PIPE, stdout=subprocess.PIPE, encoding="ascii", bufsize=1)
+        self.system, self.ports = None, range(0)
+
+    def __enter__(self):
+        return self
+
+    def __exit__(self, *_):
+        self.process.stdin.close()
+        self.process.wait(timeout=10)
+        self.process.stdout.close()
+
+    def call(self, *words):
+        """One line to switch.c: the answer, and the words after it."""
+        self.process.stdin.write(" ".join(map(str, words)) + "\n")
+        answer, *rest = self.process.stdout.readline().split()
+        return int(answer), rest
+
+    def done(self, *words):
+        """A call that must be answered 0: the words after it."""
+        answer, rest = self.call(*words)
+        if answer != DONE:
+            raise RuntimeError(f"{words} is answered {answer}")
+        return rest
+
+    def framed(self, *words):
+        """A call that may give a frame: the answer, and the frame's octets."""
+        answer, (text,) = self.call(*words)
+        return answer, b"" if text == "-" else bytes.fromhex(text)
+
+    def start(self, ports, system, settings):
+        """Starts the table."""
+        self.system, self.ports = system, range(1, ports + 1)
+        self.done("start", ports, system.priority, system.address.hex(), system.delay, *settings.words())
+
+    def set(self, port, settings):
+        """Gives a port other settings."""
+        self.done("settings", port, *settings.words())
+
+    def link(self, port, up):
+        """The link of a port is up or down."""
+        self.done("link", port, int(up))
+
+    def duplex(self, port, full):
+        """The duplex of a port is full or half."""
+        self.done("duplex", port, int(full))
+
+    def tick(self):
+        """A tenth of a second passes."""
+        self.done("tick")
+
+    def receive(self, port, frame):
+        """The answer to a received frame, and the Response."""
+        return self.framed("receive", port, frame.hex() or "-")
+
+    def fetch(self, port):
+        """The answer to a fetch, and the LACPDU."""
+        return self.framed("fetch", port)
+
+    def port(self, port):
+        """The record of a port."""
+        return Record.read(bytes.fromhex(self.done("port", port)[0]))
+
+    def actor(self, port):
+        """What a port is to say of itself: the system's and the record's fields as an information block."""
+        record = self.port(port)
+        return Block(self.system.priority, self.system.address, record.key, record.port_priority, port, record.state)
+
+    def aggregator(self, number):
+        """The report of an aggregator."""
+        holding, attached, distributing, count, lowest = map(int, self.done("aggregator", number))
+        return Aggregator(members(holding), members(attached), members(distributing), count, lowest)
+
+
+class Checks:
+    """Counts what holds, and prints what does not unless it is quiet."""
+
+    def __init__(self, quiet=False):
+        self.passed = self.failed = 0
+        self.quiet = quiet
+
+    def equal(self, what, found, expected):
+        """One check: what was found is what was expected."""
+        if found == expected:
+            self.passed += 1
+            return
+        self.failed += 1
+        if self.failed <= 20 and not self.quiet:
+            print(f"failed: {what}: {found}, expected {expected}", flush=True)

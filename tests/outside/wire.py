@@ -1,0 +1,402 @@
+"""Frames of the library as tshark reads them, and frames of scapy as the library reads them.
+
+Tables are led through many situations. Every LACPDU and every Marker Response that the library gives out goes into a capture, beside what
+the port's record and the requester's Marker say it must be; tshark reads the capture, and each field must be that. What the tables hear is
+built by scapy; what the records hold afterwards, and each answer, must be what document 01 says of the numbers that scapy was given.
+
+Then the same check runs on a sender that is wrong: each bit of an LACPDU and of a Response flipped, one at a time. It must find every one.
+"""
+
+import json
+import random
+import struct
+import subprocess
+import sys
+from pathlib import Path
+
+from scapy.contrib.lacp import LACP, MarkerProtocol, SlowProtocol
+from scapy.layers.l2 import Ether
+
+from switch import (BITS, COLLECTING, CURRENT, DISTRIBUTING, DONE, FOREIGN, ILLEGAL, LACP_OFF, NOBODY, NOT_COLLECTING, RESPONSE,
+                    SLOW_ADDRESS, UNKNOWN, Block, Checks, Settings, Switch, System, bit)
+
+CAPTURES = Path("target/outside")
+WHOLE = 124
+PEER_ADDRESS = bytes.fromhex("02b1b2b3b4b5")
+TOURS, STEPS = 60, 25
+
+# No octet comes twice in these, so that a swapped or shifted field shows.
+OURS = System(0x1112, bytes.fromhex("212223242526"), 0x3132)
+SETTINGS = Settings(bytes.fromhex("424344454647"), 0x5152, 0x6162, True, True, True, Block(0x7172, bytes.fromhex("818283848586"), 0x9192,
+                                                                                          0xa1a2, 0xb1b2, 0x46))
+THEIRS = Block(0xc1c2, bytes.fromhex("d1d2d3d4d5d6"), 0xe1e2, 0xf1f2, 0x0102, 0x3f)
+
+
+def colons(octets):
+    """Octets as tshark and scapy write them."""
+    return octets.hex(":")
+
+
+# What tshark must say of a frame.
+
+def layers(source, subtype, name, fields):
+    """The layers of a frame of ours, with nothing beside them: no remark, no malformed part."""
+    return {
+        "frame": {"frame.len": str(WHOLE), "frame.protocols": f"eth:ethertype:slow:{name}"},
+        "eth": {"eth.dst": colons(SLOW_ADDRESS), "eth.src": colons(source), "eth.type": "0x8809"},
+        "slow": {"slow.subtype": f"0x{subtype:02x}"},
+        name: fields,
+    }
+
+
+def block_fields(side, block):
+    """The fields of the actor's or the partner's block."""
+    name = f"lacp.{side}"
+    letters = "".join(letter if block.state >> place & 1 else "*" for place, letter in enumerate("ASGSCDFE"))
+    return {
+        f"{name}.sys_priority": str(block.system_priority), f"{name}.sysid": colons(block.system), f"{name}.key": str(block.key),
+        f"{name}.port_priority": str(block.port_priority), f"{name}.port": str(block.port),
+        f"{name}.state": f"0x{block.state:02x}", f"{name}.state_str": letters[::-1],
+        f"{name}.state_tree": {f"{name}.state.{flag}": str(block.state >> place & 1) for place, flag in enumerate(BITS)},
+        f"{name}.reserved": colons(bytes(3)),
+    }
+
+
+def lacpdu_layers(source, actor, partner, delay):
+    """An LACPDU of ours."""
+    return layers(source, 1, "lacp", {
+        "lacp.version": "0x01", "lacp.tlv_type": ["0x01", "0x02", "0x03", "0x00"], "lacp.tlv_length": ["0x14", "0x14", "0x10", "0x00"],
+        **block_fields("actor", actor), **block_fields("partner", partner),
+        "lacp.collector.max_delay": str(delay), "lacp.coll_reserved": colons(bytes(12)), "lacp.pad": colons(bytes(50)),
+    })
+
+
+def response_layers(source, port, system, transaction):
+    """A Marker Response of ours."""
+    return layers(source, 2, "marker", {
+        "marker.version": "0x01", "marker.tlvType": ["0x02", "0x00"], "marker.tlvLen": ["0x10", "0x00"],
+        "marker.requesterPort": str(port), "marker.requesterSystem": colons(system), "marker.requesterTransId": str(transaction),
+        "marker.requesterPad": "0", "marker.reserved": colons(bytes(90)),
+    })
+
+
+# Reading a capture.
+
+def write_capture(path, frames):
+    """A capture file of Ethernet frames, all at time 0."""
+    records = (struct.pack("<4I", 0, 0, len(frame), len(frame)) + frame for frame in frames)
+    path.write_bytes(struct.pack("<IHHiIII", 0xa1b2c3d4, 2, 4, 0, 0, 65535, 1) + b"".join(records))
+
+
+def flat(tree):
+    """The fields of a tree of fields, without the trees."""
+    for name, value in tree.items():
+        if isinstance(value, dict):
+            yield from flat(value)
+        else:
+            yield name, value
+
+
+def seen(packet):
+    """The fields that tshark shows of a frame: all but the capture's own, and those that repeat an address."""
+    parts = packet["_source"]["layers"]
+    frame = {name: parts["frame"][name] for name in ("frame.len", "frame.protocols")}
+    ethernet = {name: value for name, value in parts.get("eth", {}).items() if not name.endswith("_tree")}
+    return dict(flat(parts | {"frame": frame, "eth": ethernet}))
+
+
+def read_capture(path, frames):
+    """For each frame the fields that tshark shows of it."""
+    write_capture(path, frames)
+    command = ["tshark", "-n", "-r", path, "-T", "json", "--no-duplicate-keys"]
+    output = subprocess.run(command, capture_output=True, check=True, text=True).stdout
+    return [seen(packet) for packet in json.loads(output)]
+
+
+def wrong_fields(found, expected):
+    """The names of the fields in which two frames differ, also those that only one of them has."""
+    return {name for name in found.keys() | expected.keys() if found.get(name) != expected.get(name)}
+
+
+# Frames of scapy.
+
+def scapy_frame(subtype, contents, destination=SLOW_ADDRESS, ethertype=0x8809):
+    """The octets of a frame with these contents."""
+    return bytes(Ether(dst=colons(destination), src=colons(PEER_ADDRESS), type=ethertype) / SlowProtocol(subtype=subtype) / contents)
+
+
+def scapy_block(side, block):
+    """A block as scapy's fields."""
+    names = ("system_priority", "system", "key", "port_priority", "port_number", "state")
+    values = block._replace(system=colons(block.system))
+    return {f"{side}_{name}": value for name, value in zip(names, values, strict=True)}
+
+
+def lacpdu(actor, partner, around=None, **changes):
+    """An LACPDU that scapy builds."""
+    fields = scapy_block("actor", actor) | scapy_block("partner", partner) | {"collector_max_delay": 0x1718} | changes
+    return scapy_frame(contents=LACP(**fields), **({"subtype": 1} | (around or {})))
+
+
+def marker(port=0x2122, system=bytes.fromhex("313233343536"), transaction=0x41424344, around=None, **changes):
+    """A Marker that scapy builds."""
+    fields = {"marker_type": 1, "requester_port": port, "requester_system": colons(system), "requester_transaction_id": transaction}
+    return scapy_frame(contents=MarkerProtocol(**(fields | changes)), **({"subtype": 2} | (around or {})))
+
+
+# What a record must hold of a frame.
+
+def recorded(actor, partner, own):
+    """The partner block after an LACPDU (recordPDU, 43.4.9): its actor block, with Synchronization worked out anew."""
+    agrees = partner[:5] == own[:5] and partner.has("aggregation") == own.has("aggregation")
+    kept_up = actor.has("activity") or (own.has("activity") and partner.has("activity"))
+    in_sync = actor.has("synchronization") and kept_up and (agrees or not actor.has("aggregation"))
+    rest = actor.state & ~bit("synchronization")
+    return actor._replace(state=rest | (bit("synchronization") if in_sync else 0))
+
+
+class Tour:
+    """A switch under test: what it sends is captured beside what it must be, what it hears is checked in its records."""
+
+    def __init__(self, switch, checks):
+        self.switch, self.checks = switch, checks
+        self.frames, self.expected = [], []
+
+    def send(self):
+        """Fetches on every port; the record at the fetch says what the frame must be, and keeps all but NTT and the ages."""
+        for port in self.switch.ports:
+            before, actor = self.switch.port(port), self.switch.actor(port)
+            answer, frame = self.switch.fetch(port)
+            if answer == DONE:
+                self.frames.append(frame)
+                self.expected.append(lacpdu_layers(before.address, actor, before.partner, self.switch.system.delay))
+                after = self.switch.port(port)
+                self.checks.equal("record after a fetch", after, before._replace(ntt=0, ages=after.ages))
+
+    def hear(self, port, actor, partner):
+        """An LACPDU comes in: where the link is up and the duplex full its actor block is recorded, else nothing changes."""
+        before, own = self.switch.port(port), self.switch.actor(port)
+        answer = self.switch.receive(port, lacpdu(actor, partner))
+        after = self.switch.port(port)
+        if not (before.link and before.duplex):
+            self.checks.equal("LACPDU without LACP", (answer, after), ((LACP_OFF, b""), before))
+            return
+        self.checks.equal("answer to an LACPDU", answer, (DONE, b""))
+        for name, found, expected in zip(Block._fields, after.partner, recorded(actor, partner, own), strict=True):
+            self.checks.equal(f"recorded {name}", found, expected)
+        self.checks.equal("receive state", after.receive, CURRENT)
+        self.checks.equal("current-while timer", after.current_while, 30 if own.has("timeout") else 900)
+        self.checks.equal("Defaulted and Expired", after.state & (bit("defaulted") | bit("expired")), 0)
+
+    def ask(self, port, *requester):
+        """A Marker comes in: a port that collects answers it, another does not, and no record changes."""
+        before = self.switch.port(port)
+        answer, response = self.switch.receive(port, marker(*requester))
+        self.checks.equal("answer to a Marker", answer, DONE if before.mux in (COLLECTING, DISTRIBUTING) else NOT_COLLECTING)
+        self.checks.equal("record after a Marker", self.switch.port(port), before)
+        if answer == DONE:
+            self.frames.append(response)
+            self.expected.append(response_layers(before.address, *requester))
+
+    def ticks(self, count):
+        """Time passes; what is due is sent."""
+        for _ in range(count):
+            self.switch.tick()
+            self.send()
+
+
+def bring_up(tour, actor):
+    """One port from the start until it distributes, all fields distinct."""
+    tour.switch.start(1, OURS, SETTINGS)
+    tour.switch.link(1, True)
+    tour.send()
+    for _ in range(5):
+        tour.hear(1, actor, tour.switch.actor(1))
+        tour.ticks(10)
+    tour.checks.equal("mux state", tour.switch.port(1).mux, DISTRIBUTING)
+
+
+def walk(tour):
+    """A port goes up, answers a Marker, hears nothing until it is defaulted."""
+    bring_up(tour, THEIRS)
+    tour.ask(1, 0x2122, bytes.fromhex("313233343536"), 0x41424344)
+    tour.ticks(70)
+    tour.ask(1, 0x2122, bytes.fromhex("313233343536"), 0x41424344)
+
+
+def some_block(chance):
+    """A random block, often with the lowest and highest numbers."""
+    priority, key, port_priority, port = (chance.choice((0, 1, 0xff00, 0xffff, chance.getrandbits(16))) for _ in range(4))
+    return Block(priority, chance.randbytes(6), key, port_priority, port, chance.getrandbits(8))
+
+
+def some_settings(chance):
+    """Random settings that a call accepts: Collecting of the default block is its Synchronization."""
+    default = some_block(chance)
+    both = bit("synchronization") | bit("collecting")
+    default = default._replace(state=default.state | both if default.has("collecting") else default.state & ~both)
+    flags = (chance.random() < 0.7 for _ in range(3))
+    return Settings(chance.randbytes(6), chance.getrandbits(16), chance.getrandbits(16), *flags, default)
+
+
+def random_step(tour, chance, friends):
+    """One random event on a random port, a good LACPDU being the likeliest."""
+    switch, port = tour.switch, chance.choice(tour.switch.ports)
+    event = chance.choices(("good", "any", "marker", "ticks", "long", "link", "duplex", "settings"), (8, 2, 3, 6, 1, 1, 1, 1))[0]
+    if event == "good":
+        state = chance.choice((0x0f, 0x1f, 0x3f, 0x3d, 0x3e, 0x07))
+        tour.hear(port, friends[port]._replace(state=state), switch.actor(port))
+    elif event == "any":
+        tour.hear(port, some_block(chance), some_block(chance))
+    elif event == "marker":
+        collecting = [other for other in switch.ports if switch.port(other).mux in (COLLECTING, DISTRIBUTING)]
+        tour.ask(chance.choice([port, *collecting]), chance.getrandbits(16), chance.randbytes(6), chance.getrandbits(32))
+    elif event == "ticks":
+        tour.ticks(chance.randint(1, 25))
+    elif event == "long":
+        tour.ticks(chance.choice((60, 310)))
+    elif event == "link":
+        switch.link(port, not switch.port(port).link)
+    elif event == "duplex":
+        switch.duplex(port, not switch.port(port).duplex)
+    else:
+        switch.set(port, some_settings(chance))
+    tour.send()
+
+
+def random_tour(tour, chance):
+    """A table with random settings through random events. The neighbour's ports share system and key, so that trunks form."""
+    ports = chance.randint(1, 6)
+    tour.switch.start(ports, System(chance.getrandbits(16), chance.randbytes(6), chance.getrandbits(16)), some_settings(chance))
+    friend = some_block(chance)
+    friends = {port: friend._replace(port=port + 100, port_priority=chance.getrandbits(16)) for port in tour.switch.ports}
+    for port in tour.switch.ports:
+        tour.switch.link(port, True)
+    tour.send()
+    for _ in range(STEPS):
+        random_step(tour, chance, friends)
+
+
+# Frames that are refused, or taken though they are odd.
+
+def odd_frames():
+    """A label, the frame, and document 01's answer on a port that distributes."""
+    good, request = lacpdu(THEIRS, NOBODY), marker()
+    for length in (0, 13):
+        yield f"{length} octets", good[:length], FOREIGN
+    for length in (14, 15, 123):
+        yield f"LACPDU of {length} octets", good[:length], ILLEGAL
+        yield f"Marker of {length} octets", request[:length], ILLEGAL
+    for make in (lambda **how: lacpdu(THEIRS, NOBODY, **how), marker):
+        yield "another destination", make(around={"destination": bytes.fromhex("0180c2000003")}), FOREIGN
+        yield "another type", make(around={"ethertype": 0x8808}), UNKNOWN
+    for subtype in range(256):
+        if subtype not in (1, 2):
+            yield f"subtype {subtype}", lacpdu(THEIRS, NOBODY, around={"subtype": subtype}), UNKNOWN if 3 <= subtype <= 10 else ILLEGAL
+    for name, right in (("actor_length", 20), ("partner_length", 20), ("collector_length", 16)):
+        for length in range(256):
+            yield f"{name} {length}", lacpdu(THEIRS, NOBODY, **{name: length}), DONE if length == right else ILLEGAL
+    for length in range(256):
+        yield f"marker_length {length}", marker(marker_length=length), DONE if length == 16 else ILLEGAL
+    for kind in range(256):
+        yield f"Marker type {kind}", marker(marker_type=kind), {1: DONE, 2: RESPONSE}.get(kind, ILLEGAL)
+    for name in ("version", "actor_type", "partner_type", "collector_type", "terminator_type", "terminator_length"):
+        yield f"{name} 9", lacpdu(THEIRS, NOBODY, **{name: 9}), DONE
+    for name, count in (("actor_reserved", 3), ("partner_reserved", 3), ("collector_reserved", 12), ("reserved", 50)):
+        yield f"{name} not zero", lacpdu(THEIRS, NOBODY, **{name: b"\xff" * count}), DONE
+    yield "LACPDU of 125 octets", good + b"\xff", DONE
+    yield "Marker of 1500 octets", request + b"\xff" * (1500 - WHOLE), DONE
+
+
+def hear_odd_frames(tour):
+    """Each odd frame gets its answer; a refused one changes no record, and only a Marker is answered with a frame."""
+    for label, frame, expected in odd_frames():
+        bring_up_quietly(tour.switch)
+        before = tour.switch.port(1)
+        answer, response = tour.switch.receive(1, frame)
+        tour.checks.equal(label, answer, expected)
+        tour.checks.equal(f"{label}: a Response", len(response), WHOLE if answer == DONE and frame[14] == 2 else 0)
+        if answer != DONE:
+            tour.checks.equal(f"{label}: record", tour.switch.port(1), before)
+        elif frame[14] == 1:
+            tour.checks.equal(f"{label}: partner", tour.switch.port(1).partner, recorded(THEIRS, NOBODY, tour.switch.actor(1)))
+
+
+def bring_up_quietly(switch):
+    """A port that distributes, by way of a partner that is in sync by default."""
+    switch.start(1, OURS, SETTINGS._replace(partner=THEIRS))
+    switch.link(1, True)
+    for _ in range(60):
+        switch.tick()
+
+
+# The check, and the check of the check.
+
+def judge(checks, frames, expected):
+    """Each field of each frame is one check."""
+    found = read_capture(CAPTURES / "sent.pcap", frames)
+    checks.equal("frames that tshark read", len(found), len(frames))
+    for number, (fields, tree) in enumerate(zip(found, expected, strict=True), start=1):
+        wanted = dict(flat(tree))
+        for name in sorted(fields.keys() | wanted.keys()):
+            checks.equal(f"frame {number}: {name}", fields.get(name), wanted.get(name))
+    return found
+
+
+def every_state_bit(checks, found):
+    """Each of the 16 state bits was seen set and clear."""
+    for side in ("actor", "partner"):
+        for name in BITS:
+            values = {fields.get(f"lacp.{side}.state.{name}") for fields in found} - {None}
+            checks.equal(f"values seen of {side} {name}", values, {"0", "1"})
+
+
+def flipped(frame):
+    """The frame with each of its bits flipped in turn."""
+    for place in range(8 * len(frame)):
+        copy = bytearray(frame)
+        copy[place // 8] ^= 1 << place % 8
+        yield bytes(copy)
+
+
+def wrong_senders(frames, expected):
+    """One LACPDU and one Response with every bit flipped in turn: how many there are, and how many the check finds wrong."""
+    wanted = {frame[14]: (frame, dict(flat(tree))) for frame, tree in zip(frames, expected, strict=True)}
+    copies = [(copy, fields) for frame, fields in wanted.values() for copy in flipped(frame)]
+    found = read_capture(CAPTURES / "wrong.pcap", [copy for copy, _ in copies])
+    missed = [number for number, (fields, (_, right)) in enumerate(zip(found, copies, strict=True)) if not wrong_fields(fields, right)]
+    for number in missed:
+        print(f"not found: octet {number // 8 % WHOLE} bit {number % 8} of {'an LACPDU' if number < 8 * WHOLE else 'a Response'}")
+    show_state_bits(found, *wanted[1])
+    return len(copies), len(copies) - len(missed)
+
+
+def show_state_bits(found, frame, right):
+    """What the check says of each flipped bit of the actor's state (octet 32)."""
+    for place, name in enumerate(BITS):
+        differ = wrong_fields(found[8 * 32 + place], right)
+        field = f"lacp.actor.state.{name}"
+        print(f"  {name} flipped: " + (f"found, {field} is not {frame[32] >> place & 1}" if field in differ else "not found there"))
+
+
+def main():
+    """Runs everything on the switch that the command line names."""
+    checks, chance = Checks(), random.Random(43)
+    with Switch(sys.argv[1:]) as switch:
+        tour = Tour(switch, checks)
+        for _ in range(TOURS):
+            random_tour(tour, chance)
+        hear_odd_frames(tour)
+        walk(tour)
+    print(f"received: {checks.passed} checks on frames that scapy built")
+    found = judge(checks, tour.frames, tour.expected)
+    every_state_bit(checks, found)
+    responses = sum(frame[14] == 2 for frame in tour.frames)
+    print(f"sent: {len(found) - responses} LACPDUs and {responses} Marker Responses, every field read by tshark")
+    wrong, caught = wrong_senders(tour.frames, tour.expected)
+    print(f"wire: {checks.passed} checks passed, {checks.failed} failed; of {wrong} frames with one wrong bit {caught} were found out")
+    sys.exit(checks.failed > 0 or caught != wrong)
+
+
+if __name__ == "__main__":
+    main()
