@@ -1,4 +1,4 @@
-.PHONY: demo cases test c-test compare mutants
+.PHONY: demo cases test c-test compare wire peers mutants
 
 # Proves the library and runs two switches of it, joined by four links: a timeline, and the same as a picture in target/demo.svg.
 # make demo SCRIPT=FILE replays a list of events; rust/demo/help.txt says what may stand in it.
@@ -29,6 +29,17 @@ compare:
 	rt staticlib myrkosti
 	tools/x86.sh
 	cd rust && cargo run --release -p compare -- --seconds $(SECONDS_TO_COMPARE)
+
+# Not in the gate: frames of the library as tshark reads them, every field, and frames of scapy as the library reads them; then each bit of a
+# frame flipped, which must be found.
+wire:
+	rt staticlib myrkosti
+	tools/outside.sh wire
+
+# Not in the gate: two links to Open vSwitch, tick by tick: a trunk, cuts, silence, restarts; then a switch that never sends, which must be found.
+peers:
+	rt staticlib myrkosti
+	tools/outside.sh peers
 
 # Not in the gate: changes one definition at a time, as if code and contract followed it, and shows that a law or a claim refuses it.
 mutants:

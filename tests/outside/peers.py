@@ -1,0 +1,356 @@
+"""The library against a real neighbour: two links to Open vSwitch, in step, tick by tick.
+
+A tick of ours is a tenth of a second of the neighbour's clock, which stands still otherwise; so each run is the same, and the ticks at which
+something must happen are exact. Each part below starts from a trunk of both links and leaves one.
+
+Then the first part runs again with a switch that never sends. It must fail: the neighbour must not come to use a link.
+"""
+
+import signal
+import sys
+import tempfile
+
+from neighbour import KEY, MEMBERS, SYSTEM, SYSTEM_PRIORITY, Neighbour
+from switch import (CURRENT, DEFAULTED, DONE, EXPIRED, LACP_OFF, NOBODY, SLOW_ADDRESS, Aggregator, Block, Checks, Settings, Switch, System,
+                    bit)
+
+# Two ports of four; the other two have no cable.
+FIRST, SECOND, PORTS = 2, 4, 4
+BOTH = {FIRST, SECOND}
+OURS = System(0x4321, bytes.fromhex("020000000009"), 7)
+SETTINGS = Settings(bytes.fromhex("02005e102030"), 0x0099, 0x0088, True, True, True, NOBODY._replace(state=bit("timeout")))
+
+# In ticks.
+FAST, SLOW, SHORT, LONG, WAIT = 10, 300, 30, 900, 20
+# In this time two ends that can hear each other have a trunk: one of them sends, and then Ready is waited for.
+SOON = FAST + WAIT
+
+
+def other(port):
+    """The port of ours at the other link."""
+    return FIRST + SECOND - port
+
+
+class World:
+    """Our switch, the neighbour, and the two cables between them."""
+
+    def __init__(self, switch, neighbour, checks):
+        self.switch, self.neighbour, self.checks = switch, neighbour, checks
+        self.cables = dict(zip((FIRST, SECOND), MEMBERS, strict=True))
+        self.now = 0
+        self.heard, self.said = {}, {}  # the tick of the last frame that came to a port, and that it sent
+        self.sent, self.came = dict.fromkeys(BOTH, 0), dict.fromkeys(BOTH, 0)
+        self.deaf, self.lost = set(), set()  # ports whose frames from the neighbour, or to it, get lost
+        switch.start(PORTS, OURS, SETTINGS)
+        neighbour.start()
+
+    def carry(self):
+        """Frames that are ready at either end go to the other; how many there were."""
+        moved = 0
+        for port, name in self.cables.items():
+            while (fetched := self.switch.fetch(port))[0] == DONE:
+                moved += 1
+                self.send(port, name, fetched[1])
+        for port, name in self.cables.items():
+            for frame in self.neighbour.received(name):
+                moved += 1
+                self.hear(port, frame)
+        return moved
+
+    def send(self, port, name, frame):
+        """A frame of ours on its way."""
+        self.sent[port] += 1
+        if port not in self.lost:
+            self.said[port] = self.now
+            self.neighbour.send(name, frame)
+
+    def hear(self, port, frame):
+        """A frame of the neighbour's on its way: an LACPDU, which is taken unless the link is down."""
+        self.checks.equal("destination of a frame", frame[:6], SLOW_ADDRESS)
+        self.came[port] += 1
+        if port in self.deaf:
+            return
+        answer, _ = self.switch.receive(port, frame)
+        self.checks.equal("answer to the neighbour's frame", answer, DONE if self.switch.port(port).link else LACP_OFF)
+        if answer == DONE:
+            self.heard[port] = self.now
+
+    def settle(self):
+        """Frames go both ways until none is left."""
+        while self.carry():
+            pass
+
+    def tick(self):
+        """A tenth of a second passes at both ends."""
+        self.now += 1
+        self.switch.tick()
+        self.neighbour.warp()
+        self.settle()
+
+    def until(self, tick, *what):
+        """Ticks up to the one given; what is to hold is checked after each."""
+        while self.now < tick:
+            self.tick()
+            for check in what:
+                check()
+
+    def equal(self, what, found, expected):
+        """A check that names the tick."""
+        self.checks.equal(f"tick {self.now}: {what}", found, expected)
+
+    def trunks(self):
+        """For each aggregator of ours that has any, the ports that distribute on it."""
+        reports = {number: self.switch.aggregator(number).distributing for number in self.switch.ports}
+        return {number: ports for number, ports in reports.items() if ports}
+
+    def theirs(self):
+        """The ports of ours whose link the neighbour uses."""
+        members = self.neighbour.members()
+        return {port for port, name in self.cables.items() if members[name].carries()}
+
+    def ours_is(self, trunks):
+        """A check: which ports of ours distribute, on which aggregator."""
+        return lambda: self.equal("our distributing ports", self.trunks(), trunks)
+
+    def theirs_is(self, ports):
+        """A check: which links the neighbour uses."""
+        return lambda: self.equal("links that the neighbour uses", self.theirs(), ports)
+
+    def theirs_follows(self):
+        """A check: the neighbour uses the links on which we say Synchronization (it looks at no other bit, and not at what we hold of it)."""
+        said = {port for port in BOTH if self.switch.actor(port).has("synchronization")}
+        self.equal("links that the neighbour uses", self.theirs(), said)
+
+    def carries(self, port):
+        """A check: this link is in use at both ends, whatever the other does."""
+        return lambda: self.equal(f"link of port {port} in use", (port in self.trunks().get(FIRST, set()), port in self.theirs()), (True, True))
+
+    def young(self):
+        """The ports that heard the neighbour within the short timeout."""
+        return {port for port in BOTH if self.now - self.heard[port] < SHORT}
+
+    def receives(self, port, state):
+        """A check: the receive state of a port."""
+        return lambda: self.equal(f"receive state of port {port}", self.switch.port(port).receive, state)
+
+    def status(self, port, word):
+        """A check: what the neighbour says of its member at a port's link."""
+        return lambda: self.equal(f"neighbour's status of port {port}", self.neighbour.members()[self.cables[port]].status.split()[0], word)
+
+
+def missing(world):
+    """What is missing for a trunk of both links, at either end; nothing where it stands."""
+    members = world.neighbour.members()
+    for port, name in world.cables.items():
+        record, member = world.switch.port(port), members[name]
+        if not member.carries():
+            yield f"{name} is {member.status}, may_enable {member.may_enable}, enabled {member.enabled}"
+        if record.partner != member.actor:
+            yield f"port {port} holds {record.partner}, but {name} is {member.actor}"
+        if member.partner != world.switch.actor(port):
+            yield f"{name} holds {member.partner}, but port {port} is {world.switch.actor(port)}"
+        if record.partner != Block(SYSTEM_PRIORITY, SYSTEM, KEY, MEMBERS[name][1], MEMBERS[name][0], 0x3f):
+            yield f"port {port} holds {record.partner}"
+    report = world.switch.aggregator(FIRST)
+    if report != Aggregator(BOTH, BOTH, BOTH, 2, FIRST):
+        yield f"aggregator {FIRST}: {report}"
+
+
+def stands(world):
+    """A check: a trunk of both links, at both ends, and each end holds what the other says of itself."""
+    world.equal("missing for a trunk", list(missing(world)), [])
+
+
+def forms(world):
+    """Both links come up and are heard at once: Ready after the wait, and then a trunk."""
+    for port in BOTH:
+        world.switch.link(port, True)
+    world.settle()
+    world.until(WAIT - 1, world.ours_is({}), world.theirs_is(set()))
+    world.until(WAIT, world.ours_is({FIRST: BOTH}), world.theirs_is(BOTH))
+    world.until(2 * SOON)
+    stands(world)
+
+
+def tally(world):
+    """For each link: frames that we sent, frames that came, and frames that the neighbour took and found bad."""
+    return [(world.sent[port], world.came[port], *world.neighbour.counts(name)) for port, name in world.cables.items()]
+
+
+def lasts(world):
+    """Ten seconds: nothing changes, each end sends once a second, as the other's short Timeout asks, and the neighbour takes every frame."""
+    before = tally(world)
+    world.until(world.now + 100, world.ours_is({FIRST: BOTH}), world.theirs_is(BOTH))
+    each = 100 // FAST
+    for (sent, came, taken, _), counted in zip(before, tally(world), strict=True):
+        world.equal("frames sent, come, taken by the neighbour, found bad by it", counted, (sent + each, came + each, taken + each, 0))
+
+
+def comes_back(world, *what):
+    """A trunk of both links stands again soon; after how many ticks. What is to hold meanwhile is checked after each."""
+    begin = world.now
+    while any(missing(world)) and world.now < begin + SOON:
+        world.until(world.now + 1, *what)
+    stands(world)
+    return world.now - begin
+
+
+def cut(world, port):
+    """A link goes down at both ends: the other carries without a break, also when it comes back."""
+    name, stays = world.cables[port], other(port)
+    world.switch.link(port, False)
+    world.neighbour.up(name, False)
+    world.settle()
+    world.ours_is({FIRST: {stays}})()
+    world.until(world.now + 2 * SHORT + SOON, world.ours_is({FIRST: {stays}}), world.theirs_is({stays}))
+    world.switch.link(port, True)
+    world.neighbour.up(name, True)
+    return comes_back(world, world.carries(stays))
+
+
+def silence_on_second(world):
+    """The second link keeps its line, and nothing comes: EXPIRED, then DEFAULTED, and the first carries without a break."""
+    world.deaf = {SECOND}
+    last = world.heard[SECOND]
+    world.until(last + SHORT - 1, world.receives(SECOND, CURRENT), world.ours_is({FIRST: BOTH}))
+    world.until(last + 2 * SHORT - 1, world.receives(SECOND, EXPIRED), world.ours_is({FIRST: {FIRST}}), world.theirs_follows)
+    world.until(last + 2 * SHORT + SOON, world.receives(SECOND, DEFAULTED), world.ours_is({FIRST: {FIRST}}), world.theirs_follows)
+    world.deaf = set()
+    return comes_back(world)
+
+
+def silence_on_first(world):
+    """The same on the first link: when it is given up, the second moves to its own aggregator and waits (docs/GUIDE.md)."""
+    world.deaf = {FIRST}
+    last = world.heard[FIRST]
+    world.until(last + SHORT - 1, world.receives(FIRST, CURRENT), world.ours_is({FIRST: BOTH}))
+    world.until(last + 2 * SHORT - 1, world.receives(FIRST, EXPIRED), world.ours_is({FIRST: {SECOND}}))
+    world.until(last + 2 * SHORT + WAIT - 1, world.receives(FIRST, DEFAULTED), world.ours_is({}))
+    world.until(last + 2 * SHORT + WAIT + SOON, world.receives(FIRST, DEFAULTED), world.ours_is({SECOND: {SECOND}}), world.theirs_follows)
+    world.deaf = set()
+    return comes_back(world)
+
+
+def unheard(world):
+    """Nothing of ours reaches the neighbour on the second link: it expires and gives us up in the same times."""
+    world.lost = {SECOND}
+    last = world.said[SECOND]
+    world.until(last + SHORT - 1, world.status(SECOND, "current"), world.ours_is({FIRST: BOTH}))
+    world.until(last + 2 * SHORT - 1, world.status(SECOND, "expired"), world.ours_is({FIRST: BOTH}), world.theirs_is({FIRST}))
+    world.until(last + 2 * SHORT + SOON, world.status(SECOND, "defaulted"), world.ours_is({FIRST: {FIRST}}), world.theirs_is({FIRST}))
+    world.lost = set()
+    return comes_back(world)
+
+
+def long_timeout(world):
+    """Our second port takes the long Timeout: the neighbour sends every 30 seconds, and silence counts from 90."""
+    world.switch.set(SECOND, SETTINGS._replace(timeout=False))
+    world.settle()
+    came = []
+    while len(came) < 3 and world.now < world.heard[SECOND] + 2 * SLOW:
+        world.tick()
+        if world.heard[SECOND] == world.now:
+            came.append(world.now)
+    world.equal("pace of the neighbour", came[2] - came[1], SLOW)
+    world.deaf = {SECOND}
+    last = world.heard[SECOND]
+    world.until(last + LONG - 1, world.receives(SECOND, CURRENT), world.ours_is({FIRST: BOTH}))
+    world.until(last + LONG + SHORT - 1, world.receives(SECOND, EXPIRED), world.ours_is({FIRST: {FIRST}}))
+    world.until(last + LONG + SHORT + 1, world.receives(SECOND, DEFAULTED), world.ours_is({FIRST: {FIRST}}))
+    world.deaf = set()
+    world.switch.set(SECOND, SETTINGS)
+    return comes_back(world)
+
+
+def passive(world):
+    """Our ports turn passive: the neighbour is active, so the trunk stands and both go on sending."""
+    for port in BOTH:
+        world.switch.set(port, SETTINGS._replace(activity=False))
+    world.settle()
+    lasts(world)
+    stands(world)
+    for port in BOTH:
+        world.switch.set(port, SETTINGS)
+    return comes_back(world)
+
+
+def swapped(world):
+    """The two cables change places, without a line going down."""
+    world.cables = {port: world.cables[other(port)] for port in world.cables}
+    return comes_back(world)
+
+
+def crash(world):
+    """The neighbour crashes, its lines stay up; it is given up on both ports, starts again much later, and the trunk comes back."""
+    world.neighbour.crash()
+    world.until(world.now + 3 * SHORT, lambda: ages(world))
+    world.neighbour.begin()
+    return comes_back(world)
+
+
+def ages(world):
+    """A check: each port's receive state is that of its silence, and it distributes while that is CURRENT."""
+    for port in BOTH:
+        silent = world.now - world.heard[port]
+        world.receives(port, CURRENT if silent < SHORT else EXPIRED if silent < 2 * SHORT else DEFAULTED)()
+    world.ours_is({FIRST: world.young()} if world.young() else {})()
+
+
+def quick_crash(world):
+    """The neighbour crashes and starts again before we can miss it."""
+    world.neighbour.crash()
+    world.neighbour.begin()
+    return comes_back(world)
+
+
+PARTS = (
+    ("the first link is cut", lambda world: cut(world, FIRST)),
+    ("the second link is cut", lambda world: cut(world, SECOND)),
+    ("the second link is silent", silence_on_second),
+    ("the first link is silent", silence_on_first),
+    ("the neighbour hears nothing on the second link", unheard),
+    ("the second port has the long Timeout", long_timeout),
+    ("our ports are passive", passive),
+    ("the cables are swapped", swapped),
+    ("the neighbour crashes for a while", crash),
+    ("the neighbour crashes and is back at once", quick_crash),
+)
+
+
+def all_parts(world):
+    """Everything, on a switch that answers."""
+    print(f"before any frame the neighbour says {'' if world.neighbour.negotiated() else 'not '}'negotiated', so that word is no evidence")
+    forms(world)
+    print(f"a trunk of both links stands at tick {WAIT}")
+    lasts(world)
+    for name, part in PARTS:
+        failed = world.checks.failed
+        ticks = part(world)
+        print(f"{name}: {'right' if world.checks.failed == failed else 'WRONG'}, and a trunk again {ticks} ticks after it is over", flush=True)
+
+
+def never_answers(command, checks):
+    """The first part on a switch that never sends: whether the check fails, and the neighbour uses no link."""
+    with tempfile.TemporaryDirectory(prefix="peers.") as folder, Neighbour(folder) as neighbour, Switch([*command, "--mute"]) as switch:
+        world = World(switch, neighbour, checks)
+        forms(world)
+        for line in missing(world):
+            print(f"  a switch that never sends: {line}")
+        return checks.failed > 0 and not world.theirs() and not world.trunks()
+
+
+def main():
+    """Runs everything on the switch that the command line names."""
+    signal.signal(signal.SIGTERM, lambda *_: sys.exit(1))
+    command, checks = sys.argv[1:], Checks()
+    with tempfile.TemporaryDirectory(prefix="peers.") as folder, Neighbour(folder) as neighbour, Switch(command) as switch:
+        world = World(switch, neighbour, checks)
+        all_parts(world)
+        print(f"{world.now} ticks, {sum(world.sent.values())} frames of ours, {sum(world.came.values())} of the neighbour's")
+    caught = never_answers(command, Checks(quiet=True))
+    print(f"peers: {checks.passed} checks passed, {checks.failed} failed; a switch that never sends was {'' if caught else 'NOT '}found out")
+    sys.exit(checks.failed > 0 or not caught)
+
+
+if __name__ == "__main__":
+    main()
