@@ -6,13 +6,11 @@ something must happen are exact. Each part below starts from a trunk of both lin
 Then the first part runs again with a switch that never sends. It must fail: the neighbour must not come to use a link.
 """
 
-import signal
-import sys
 import tempfile
 
 from neighbour import KEY, MEMBERS, SYSTEM, SYSTEM_PRIORITY, Neighbour
 from switch import (CURRENT, DEFAULTED, DONE, EXPIRED, LACP_OFF, NOBODY, SLOW_ADDRESS, Aggregator, Block, Checks, Settings, Switch, System,
-                    bit)
+                    bit, run)
 
 # Two ports of four; the other two have no cable.
 FIRST, SECOND, PORTS = 2, 4, 4
@@ -168,8 +166,7 @@ def forms(world):
     world.settle()
     world.until(WAIT - 1, world.ours_is({}), world.theirs_is(set()))
     world.until(WAIT, world.ours_is({FIRST: BOTH}), world.theirs_is(BOTH))
-    world.until(2 * SOON)
-    stands(world)
+    return comes_back(world)
 
 
 def tally(world):
@@ -184,6 +181,7 @@ def lasts(world):
     each = 100 // FAST
     for (sent, came, taken, _), counted in zip(before, tally(world), strict=True):
         world.equal("frames sent, come, taken by the neighbour, found bad by it", counted, (sent + each, came + each, taken + each, 0))
+    return comes_back(world)
 
 
 def comes_back(world, *what):
@@ -268,7 +266,6 @@ def passive(world):
         world.switch.set(port, SETTINGS._replace(activity=False))
     world.settle()
     lasts(world)
-    stands(world)
     for port in BOTH:
         world.switch.set(port, SETTINGS)
     return comes_back(world)
@@ -304,6 +301,8 @@ def quick_crash(world):
 
 
 PARTS = (
+    ("both links come up", forms),
+    ("ten seconds", lasts),
     ("the first link is cut", lambda world: cut(world, FIRST)),
     ("the second link is cut", lambda world: cut(world, SECOND)),
     ("the second link is silent", silence_on_second),
@@ -319,38 +318,36 @@ PARTS = (
 
 def all_parts(world):
     """Everything, on a switch that answers."""
-    print(f"before any frame the neighbour says {'' if world.neighbour.negotiated() else 'not '}'negotiated', so that word is no evidence")
-    forms(world)
-    print(f"a trunk of both links stands at tick {WAIT}")
-    lasts(world)
+    print(f"before any frame: negotiated {world.neighbour.negotiated()}, in use {world.theirs() or 'nothing'}")
     for name, part in PARTS:
         failed = world.checks.failed
         ticks = part(world)
-        print(f"{name}: {'right' if world.checks.failed == failed else 'WRONG'}, and a trunk again {ticks} ticks after it is over", flush=True)
+        print(f"{name}: {'right' if world.checks.failed == failed else 'WRONG'}; ticks from its end to a trunk of both links: {ticks}", flush=True)
 
 
 def never_answers(command, checks):
-    """The first part on a switch that never sends: whether the check fails, and the neighbour uses no link."""
+    """The first part on a switch that never sends: whether the check fails, and no link is in use at either end for ten seconds more."""
     with tempfile.TemporaryDirectory(prefix="peers.") as folder, Neighbour(folder) as neighbour, Switch([*command, "--mute"]) as switch:
         world = World(switch, neighbour, checks)
         forms(world)
         for line in missing(world):
             print(f"  a switch that never sends: {line}")
-        return checks.failed > 0 and not world.theirs() and not world.trunks()
+        in_use = []
+        world.until(world.now + 100, lambda: in_use.append(world.theirs() or world.trunks()))
+        return checks.failed > 0 and not any(in_use)
 
 
-def main():
-    """Runs everything on the switch that the command line names."""
-    signal.signal(signal.SIGTERM, lambda *_: sys.exit(1))
-    command, checks = sys.argv[1:], Checks()
+def peers(command):
+    """Everything, and the last line; whether all is well."""
+    checks = Checks()
     with tempfile.TemporaryDirectory(prefix="peers.") as folder, Neighbour(folder) as neighbour, Switch(command) as switch:
         world = World(switch, neighbour, checks)
         all_parts(world)
         print(f"{world.now} ticks, {sum(world.sent.values())} frames of ours, {sum(world.came.values())} of the neighbour's")
     caught = never_answers(command, Checks(quiet=True))
     print(f"peers: {checks.passed} checks passed, {checks.failed} failed; a switch that never sends was {'' if caught else 'NOT '}found out")
-    sys.exit(checks.failed > 0 or not caught)
+    return checks.failed == 0 and caught
 
 
 if __name__ == "__main__":
-    main()
+    run("peers", peers)

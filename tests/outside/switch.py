@@ -1,7 +1,10 @@
 """The library as Python sees it: tests/outside/switch.c behind a pipe, blocks and records by their fields, and a count of checks."""
 
+import signal
 import struct
 import subprocess
+import sys
+import traceback
 from typing import NamedTuple
 
 SLOW_ADDRESS = bytes.fromhex("0180c2000002")
@@ -136,7 +139,10 @@ class Switch:
     def call(self, *words):
         """One line to switch.c: the answer, and the words after it."""
         self.process.stdin.write(" ".join(map(str, words)) + "\n")
-        answer, *rest = self.process.stdout.readline().split()
+        line = self.process.stdout.readline()
+        if not line:
+            raise RuntimeError(f"the switch ended at {words[0]}")
+        answer, *rest = line.split()
         return int(answer), rest
 
     def done(self, *words):
@@ -210,3 +216,15 @@ class Checks:
         self.failed += 1
         if self.failed <= 20 and not self.quiet:
             print(f"failed: {what}: {found}, expected {expected}", flush=True)
+
+
+def run(name, test):
+    """Runs a test over the command that the command line names and ends with its result; one that breaks off has a last line too."""
+    signal.signal(signal.SIGTERM, lambda *_: sys.exit(1))
+    try:
+        good = test(sys.argv[1:])
+    except Exception as error:  # whatever it is, the test did not pass
+        traceback.print_exc()
+        print(f"{name}: broken off: {error!r}")
+        good = False
+    sys.exit(0 if good else 1)

@@ -11,14 +11,13 @@ import json
 import random
 import struct
 import subprocess
-import sys
 from pathlib import Path
 
 from scapy.contrib.lacp import LACP, MarkerProtocol, SlowProtocol
 from scapy.layers.l2 import Ether
 
 from switch import (BITS, COLLECTING, CURRENT, DISTRIBUTING, DONE, FOREIGN, ILLEGAL, LACP_OFF, NOBODY, NOT_COLLECTING, RESPONSE,
-                    SLOW_ADDRESS, UNKNOWN, Block, Checks, Settings, Switch, System, bit)
+                    SLOW_ADDRESS, UNKNOWN, Block, Checks, Settings, Switch, System, bit, run)
 
 CAPTURES = Path("target/outside")
 WHOLE = 124
@@ -29,6 +28,7 @@ TOURS, STEPS = 60, 25
 OURS = System(0x1112, bytes.fromhex("212223242526"), 0x3132)
 SETTINGS = Settings(bytes.fromhex("424344454647"), 0x5152, 0x6162, True, True, True, Block(0x7172, bytes.fromhex("818283848586"), 0x9192,
                                                                                           0xa1a2, 0xb1b2, 0x46))
+REQUESTERS = ((0, bytes(6), 0), (0xffff, b"\xff" * 6, 0xffffffff), (0x2122, bytes.fromhex("313233343536"), 0x41424344))
 THEIRS = Block(0xc1c2, bytes.fromhex("d1d2d3d4d5d6"), 0xe1e2, 0xf1f2, 0x0102, 0x3f)
 
 
@@ -138,8 +138,9 @@ def lacpdu(actor, partner, around=None, **changes):
     return scapy_frame(contents=LACP(**fields), **({"subtype": 1} | (around or {})))
 
 
-def marker(port=0x2122, system=bytes.fromhex("313233343536"), transaction=0x41424344, around=None, **changes):
-    """A Marker that scapy builds."""
+def marker(*requester, around=None, **changes):
+    """A Marker that scapy builds; of the last of REQUESTERS where none is named."""
+    port, system, transaction = requester or REQUESTERS[-1]
     fields = {"marker_type": 1, "requester_port": port, "requester_system": colons(system), "requester_transaction_id": transaction}
     return scapy_frame(contents=MarkerProtocol(**(fields | changes)), **({"subtype": 2} | (around or {})))
 
@@ -217,11 +218,12 @@ def bring_up(tour, actor):
 
 
 def walk(tour):
-    """A port goes up, answers a Marker, hears nothing until it is defaulted."""
+    """A port goes up, answers Markers, and hears nothing until it is defaulted."""
     bring_up(tour, THEIRS)
-    tour.ask(1, 0x2122, bytes.fromhex("313233343536"), 0x41424344)
+    for requester in REQUESTERS:
+        tour.ask(1, *requester)
     tour.ticks(70)
-    tour.ask(1, 0x2122, bytes.fromhex("313233343536"), 0x41424344)
+    tour.ask(1, *REQUESTERS[-1])
 
 
 def some_block(chance):
@@ -379,10 +381,10 @@ def show_state_bits(found, frame, right):
         print(f"  {name} flipped: " + (f"found, {field} is not {frame[32] >> place & 1}" if field in differ else "not found there"))
 
 
-def main():
-    """Runs everything on the switch that the command line names."""
+def wire(command):
+    """Everything, and the last line; whether all is well."""
     checks, chance = Checks(), random.Random(43)
-    with Switch(sys.argv[1:]) as switch:
+    with Switch(command) as switch:
         tour = Tour(switch, checks)
         for _ in range(TOURS):
             random_tour(tour, chance)
@@ -395,8 +397,8 @@ def main():
     print(f"sent: {len(found) - responses} LACPDUs and {responses} Marker Responses, every field read by tshark")
     wrong, caught = wrong_senders(tour.frames, tour.expected)
     print(f"wire: {checks.passed} checks passed, {checks.failed} failed; of {wrong} frames with one wrong bit {caught} were found out")
-    sys.exit(checks.failed > 0 or caught != wrong)
+    return checks.failed == 0 and caught == wrong
 
 
 if __name__ == "__main__":
-    main()
+    run("wire", wire)
