@@ -27,7 +27,7 @@ TOURS, STEPS = 60, 25
 # No octet comes twice in these, so that a swapped or shifted field shows.
 OURS = System(0x1112, bytes.fromhex("212223242526"), 0x3132)
 SETTINGS = Settings(bytes.fromhex("424344454647"), 0x5152, 0x6162, True, True, True, Block(0x7172, bytes.fromhex("818283848586"), 0x9192,
-                                                                                          0xa1a2, 0xb1b2, 0x46))
+                                                                                          0xa1a2, 0xb1b2, 0x06))
 REQUESTERS = ((0, bytes(6), 0), (0xffff, b"\xff" * 6, 0xffffffff), (0x2122, bytes.fromhex("313233343536"), 0x41424344))
 THEIRS = Block(0xc1c2, bytes.fromhex("d1d2d3d4d5d6"), 0xe1e2, 0xf1f2, 0x0102, 0x3f)
 
