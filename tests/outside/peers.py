@@ -64,7 +64,7 @@ class World:
 
     def hear(self, port, frame):
         """A frame of the neighbour's on its way: an LACPDU, which is taken unless the link is down."""
-        self.checks.equal("destination of a frame", frame[:6], SLOW_ADDRESS)
+        self.checks.equal("destination and subtype of a frame", (frame[:6], frame[14]), (SLOW_ADDRESS, 1))
         self.came[port] += 1
         if port in self.deaf:
             return
@@ -115,7 +115,7 @@ class World:
         return lambda: self.equal("links that the neighbour uses", self.theirs(), ports)
 
     def theirs_follows(self):
-        """A check: the neighbour uses the links on which we say Synchronization (it looks at no other bit, and not at what we hold of it)."""
+        """A check: the neighbour uses the links on which we say Synchronization, also where we do not say Collecting or do not name it."""
         said = {port for port in BOTH if self.switch.actor(port).has("synchronization")}
         self.equal("links that the neighbour uses", self.theirs(), said)
 
