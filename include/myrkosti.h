@@ -116,8 +116,9 @@ uint32_t myrkosti_table_size(uint32_t ports);
 
 /*
  * Starts a table. Call it once before everything else, and again to begin anew; what the memory held before does not matter. Links are
- * down and duplexes full then: tell the library of each link that is up. Every port begins with the settings given here. `system` and
- * `system_priority` name this switch to its neighbours and must be its own; `collector_max_delay` counts tens of microseconds.
+ * down and duplexes full then: tell the library of each link that is up. Every port begins with the settings given here, so all have one
+ * address: give each its own by myrkosti_settings before its link comes up. `system` and `system_priority` name this switch to its
+ * neighbours and must be its own; `collector_max_delay` counts tens of microseconds.
  * Answers 0, 1 (memory size or port count) or 4.
  */
 uint32_t myrkosti_start(uint8_t *table, size_t table_len, uint32_t ports,
@@ -133,7 +134,10 @@ uint32_t myrkosti_start(uint8_t *table, size_t table_len, uint32_t ports,
 uint32_t myrkosti_receive(uint8_t *table, size_t table_len, uint32_t port,
                           const uint8_t *frame, size_t frame_len, uint8_t *out, size_t out_len, uint32_t *sent);
 
-/* A tenth of a second has passed. Call it ten times a second, for all ports at once. Answers 0 or 1. */
+/*
+ * A tenth of a second has passed. Call it ten times a second, for all ports at once. Do not make up for late ticks in a burst: it would shorten
+ * every timer, and more LACPDUs could go than three a second. Answers 0 or 1.
+ */
 uint32_t myrkosti_tick(uint8_t *table, size_t table_len);
 
 /* The link of a port is up (true) or down now. A value as it is changes nothing. Answers 0, 1 or 2. */
@@ -153,7 +157,9 @@ uint32_t myrkosti_settings(uint8_t *table, size_t table_len, uint32_t port,
 
 /*
  * The next LACPDU of a port. On answer 0 `out` begins with a frame of 124 octets, which you send on that port; octets after it are kept.
- * Ask every port after every call that was answered 0, and after every tick. Answers 0 to 3, 10 or 11.
+ * Ask every port after every call that was answered 0, and after every tick; but first let the chip receive on each port whose record has
+ * MYRKOSTI_COLLECTING in its state, since the LACPDU says so, and stop it sending on each port that distributes no longer.
+ * Answers 0 to 3, 10 or 11.
  */
 uint32_t myrkosti_fetch(uint8_t *table, size_t table_len, uint32_t port, uint8_t *out, size_t out_len);
 
@@ -162,8 +168,8 @@ uint32_t myrkosti_port(const uint8_t *table, size_t table_len, uint32_t port, ui
 
 /*
  * The ports of an aggregator as sets, bit 0 is port 1: those that hold it, those of them that are attached, and those that distribute: only
- * these carry traffic. `count` is how many distribute, `lowest` the lowest of them, 0 for none. All five are written at every call, with
- * zeros beside a refusal. Answers 0, 1 or 2.
+ * on these does the chip send traffic. (It receives where a port's record has MYRKOSTI_COLLECTING in its state.) `count` is how many
+ * distribute, `lowest` the lowest of them, 0 for none. All five are written at every call, with zeros beside a refusal. Answers 0, 1 or 2.
  */
 uint32_t myrkosti_aggregator(const uint8_t *table, size_t table_len, uint32_t aggregator,
                              uint32_t *holding, uint32_t *attached, uint32_t *distributing,

@@ -217,10 +217,10 @@ MUTANTS = [
     Mutant("2 one group", "own keys not compared", ("two-groups",), "trunk::select::same_group", (
         ("trunk/specs/Selection.antt", "sameKeys c d = eqb (c .key) (d .key) &&", "sameKeys c d = eqb (c .key) (c .key) &&"),
         ("trunk/src/select.rt", "(p.own.key == q.own.key)", "(p.own.key == p.own.key)"))),
-    Mutant("3 locality", "every port displaced that is not the receiving one", ("locality-heard",), "trunk::displace::displace", (
+    Mutant("3 locality", "a port displaced though its partner has not moved", ("locality-heard",), "trunk::displace::displace", (
         ("trunk/specs/Displaced.antt", "displacedIf r a i p = cond (not (eqb i r) && isDisplaced a p) (moved p) p",
-         "displacedIf r a i p = cond (not (eqb i r) || isDisplaced a p) (moved p) p"),
-        ("trunk/src/displace.rt", "if !(i == r) & is_displaced(p, a)", "if !(i == r) | is_displaced(p, a)"))),
+         "displacedIf r a i p = cond (not (eqb i r) && not (isDisplaced a p)) (moved p) p"),
+        ("trunk/src/displace.rt", "if !(i == r) & is_displaced(p, a)", "if !(i == r) & !is_displaced(p, a)"))),
     Mutant("3 locality", "every call ages every port", ("locality-heard", "locality-fallen"), "", (
         ("work/specs/Work.antt", "worked s ps = settled s (map periodicRun ps)",
          "worked s ps = settled s (map (λ (p : Port). periodicRun (Rattle.port.specs.Transmit.ticked p)) ps)"),)),

@@ -16,7 +16,7 @@ refusalNumber Foreign = 6
 refusalNumber Unknown = 7
 refusalNumber Illegal = 8
 
--- the Slow Protocols multicast address and type (Annex 43B.2, 43B.4)
+-- the Slow Protocols multicast address and type (Annex 43B.3, 43B.4)
 abbrev pub slowAddress : List ℕ
 slowAddress = 0x01 ∷ 0x80 ∷ 0xc2 ∷ 0x00 ∷ 0x00 ∷ 0x02 ∷ []
 
