@@ -92,5 +92,5 @@ pub fn set(breakage: Option<Breakage>) {
 
 /// Whether the model is to make that error.
 pub(crate) fn is(breakage: Breakage) -> bool {
-    IN_FORCE.get() == Some(breakage)
+    cfg!(feature = "breakages") && IN_FORCE.get() == Some(breakage)
 }

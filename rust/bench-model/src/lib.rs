@@ -1,0 +1,126 @@
+//! The model behind the C interface of the library: the functions of `include/myrkosti.h` with `model_` for `myrkosti_`, so that one
+//! C program measures both (`tests/bench/`). The deliberate errors of the model are left out of it.
+//!
+//! The caller does what `include/myrkosti.h` asks: memory that is lent is readable, and where it is written writable, for its whole
+//! length, and the areas that are lent to one call do not overlap.
+
+#![allow(unsafe_code)] // pointers of a C caller
+#![allow(clippy::missing_safety_doc)] // one duty for all functions, above
+#![allow(clippy::too_many_arguments)] // the signatures are those of the C interface
+
+use model::record::RECORD;
+use model::wire::BLOCK;
+use std::slice::{from_raw_parts, from_raw_parts_mut};
+
+/// Starts a table.
+#[no_mangle]
+pub unsafe extern "C" fn model_start(
+    table: *mut u8,
+    table_len: usize,
+    ports: u32,
+    system_priority: u16,
+    system: &[u8; 6],
+    collector_max_delay: u16,
+    address: &[u8; 6],
+    key: u16,
+    port_priority: u16,
+    activity: bool,
+    timeout: bool,
+    aggregation: bool,
+    partner: &[u8; BLOCK],
+) -> u32 {
+    model::start(
+        from_raw_parts_mut(table, table_len),
+        ports,
+        system_priority,
+        system,
+        collector_max_delay,
+        address,
+        key,
+        port_priority,
+        activity,
+        timeout,
+        aggregation,
+        partner,
+    )
+}
+
+/// A frame came in on a port.
+#[no_mangle]
+pub unsafe extern "C" fn model_receive(
+    table: *mut u8,
+    table_len: usize,
+    port: u32,
+    frame: *const u8,
+    frame_len: usize,
+    out: *mut u8,
+    out_len: usize,
+    sent: &mut u32,
+) -> u32 {
+    let table = from_raw_parts_mut(table, table_len);
+    model::receive(table, port, from_raw_parts(frame, frame_len), from_raw_parts_mut(out, out_len), sent)
+}
+
+/// A tenth of a second has passed.
+#[no_mangle]
+pub unsafe extern "C" fn model_tick(table: *mut u8, table_len: usize) -> u32 {
+    model::tick(from_raw_parts_mut(table, table_len))
+}
+
+/// The link of a port is up or down now.
+#[no_mangle]
+pub unsafe extern "C" fn model_link(table: *mut u8, table_len: usize, port: u32, up: bool) -> u32 {
+    model::link(from_raw_parts_mut(table, table_len), port, up)
+}
+
+/// The duplex of a port is full or half now.
+#[no_mangle]
+pub unsafe extern "C" fn model_duplex(table: *mut u8, table_len: usize, port: u32, full: bool) -> u32 {
+    model::duplex(from_raw_parts_mut(table, table_len), port, full)
+}
+
+/// A port has these settings from now on.
+#[no_mangle]
+pub unsafe extern "C" fn model_settings(
+    table: *mut u8,
+    table_len: usize,
+    port: u32,
+    address: &[u8; 6],
+    key: u16,
+    port_priority: u16,
+    activity: bool,
+    timeout: bool,
+    aggregation: bool,
+    partner: &[u8; BLOCK],
+) -> u32 {
+    let table = from_raw_parts_mut(table, table_len);
+    model::settings(table, port, address, key, port_priority, activity, timeout, aggregation, partner)
+}
+
+/// The next LACPDU of a port.
+#[no_mangle]
+pub unsafe extern "C" fn model_fetch(table: *mut u8, table_len: usize, port: u32, out: *mut u8, out_len: usize) -> u32 {
+    model::fetch(from_raw_parts_mut(table, table_len), port, from_raw_parts_mut(out, out_len))
+}
+
+/// The record of a port.
+#[no_mangle]
+pub unsafe extern "C" fn model_port(table: *const u8, table_len: usize, port: u32, record: &mut [u8; RECORD]) -> u32 {
+    model::port(from_raw_parts(table, table_len), port, record)
+}
+
+/// The ports of an aggregator.
+#[no_mangle]
+pub unsafe extern "C" fn model_aggregator(
+    table: *const u8,
+    table_len: usize,
+    aggregator: u32,
+    holding: &mut u32,
+    attached: &mut u32,
+    distributing: &mut u32,
+    count: &mut u32,
+    lowest: &mut u32,
+) -> u32 {
+    let table = from_raw_parts(table, table_len);
+    model::aggregator(table, aggregator, holding, attached, distributing, count, lowest)
+}
