@@ -1,0 +1,91 @@
+; The functions of include/myrkosti.h over the compiler's own form of them, in which a lent slice is a place that holds a pointer and a
+; length. tools/bench-native.sh puts this behind the module of the library where that is compiled for another machine than x86-64.
+
+define internal void @lend(ptr %slice, ptr %octets, i64 %length) alwaysinline {
+  store ptr %octets, ptr %slice, align 8
+  %behind = getelementptr i8, ptr %slice, i64 8
+  store i64 %length, ptr %behind, align 8
+  ret void
+}
+
+define i32 @myrkosti_table_size(i32 %ports) nounwind {
+  %answer = call i32 @"myrkosti::myrkosti_table_size"(i32 %ports)
+  ret i32 %answer
+}
+
+define i32 @myrkosti_start(ptr %table, i64 %length, i32 %ports, i16 %system_priority, ptr %system, i16 %delay, ptr %address, i16 %key, i16 %priority, i8 %activity, i8 %timeout, i8 %aggregation, ptr %partner) nounwind {
+  %lent = alloca [16 x i8], align 8
+  call void @lend(ptr %lent, ptr %table, i64 %length)
+  %a = trunc i8 %activity to i1
+  %t = trunc i8 %timeout to i1
+  %g = trunc i8 %aggregation to i1
+  %answer = call i32 @"myrkosti::myrkosti_start"(ptr %lent, i32 %ports, i16 %system_priority, ptr %system, i16 %delay, ptr %address, i16 %key, i16 %priority, i1 zeroext %a, i1 zeroext %t, i1 zeroext %g, ptr %partner)
+  ret i32 %answer
+}
+
+define i32 @myrkosti_receive(ptr %table, i64 %length, i32 %port, ptr %frame, i64 %frame_length, ptr %out, i64 %out_length, ptr %sent) nounwind {
+  %lent = alloca [16 x i8], align 8
+  %lent_frame = alloca [16 x i8], align 8
+  %lent_out = alloca [16 x i8], align 8
+  call void @lend(ptr %lent, ptr %table, i64 %length)
+  call void @lend(ptr %lent_frame, ptr %frame, i64 %frame_length)
+  call void @lend(ptr %lent_out, ptr %out, i64 %out_length)
+  %answer = call i32 @"myrkosti::myrkosti_receive"(ptr %lent, i32 %port, ptr %lent_frame, ptr %lent_out, ptr %sent)
+  ret i32 %answer
+}
+
+define i32 @myrkosti_tick(ptr %table, i64 %length) nounwind {
+  %lent = alloca [16 x i8], align 8
+  call void @lend(ptr %lent, ptr %table, i64 %length)
+  %answer = call i32 @"myrkosti::myrkosti_tick"(ptr %lent)
+  ret i32 %answer
+}
+
+define i32 @myrkosti_link(ptr %table, i64 %length, i32 %port, i8 %up) nounwind {
+  %lent = alloca [16 x i8], align 8
+  call void @lend(ptr %lent, ptr %table, i64 %length)
+  %u = trunc i8 %up to i1
+  %answer = call i32 @"myrkosti::myrkosti_link"(ptr %lent, i32 %port, i1 zeroext %u)
+  ret i32 %answer
+}
+
+define i32 @myrkosti_duplex(ptr %table, i64 %length, i32 %port, i8 %full) nounwind {
+  %lent = alloca [16 x i8], align 8
+  call void @lend(ptr %lent, ptr %table, i64 %length)
+  %f = trunc i8 %full to i1
+  %answer = call i32 @"myrkosti::myrkosti_duplex"(ptr %lent, i32 %port, i1 zeroext %f)
+  ret i32 %answer
+}
+
+define i32 @myrkosti_settings(ptr %table, i64 %length, i32 %port, ptr %address, i16 %key, i16 %priority, i8 %activity, i8 %timeout, i8 %aggregation, ptr %partner) nounwind {
+  %lent = alloca [16 x i8], align 8
+  call void @lend(ptr %lent, ptr %table, i64 %length)
+  %a = trunc i8 %activity to i1
+  %t = trunc i8 %timeout to i1
+  %g = trunc i8 %aggregation to i1
+  %answer = call i32 @"myrkosti::myrkosti_settings"(ptr %lent, i32 %port, ptr %address, i16 %key, i16 %priority, i1 zeroext %a, i1 zeroext %t, i1 zeroext %g, ptr %partner)
+  ret i32 %answer
+}
+
+define i32 @myrkosti_fetch(ptr %table, i64 %length, i32 %port, ptr %out, i64 %out_length) nounwind {
+  %lent = alloca [16 x i8], align 8
+  %lent_out = alloca [16 x i8], align 8
+  call void @lend(ptr %lent, ptr %table, i64 %length)
+  call void @lend(ptr %lent_out, ptr %out, i64 %out_length)
+  %answer = call i32 @"myrkosti::myrkosti_fetch"(ptr %lent, i32 %port, ptr %lent_out)
+  ret i32 %answer
+}
+
+define i32 @myrkosti_port(ptr %table, i64 %length, i32 %port, ptr %record) nounwind {
+  %lent = alloca [16 x i8], align 8
+  call void @lend(ptr %lent, ptr %table, i64 %length)
+  %answer = call i32 @"myrkosti::myrkosti_port"(ptr %lent, i32 %port, ptr %record)
+  ret i32 %answer
+}
+
+define i32 @myrkosti_aggregator(ptr %table, i64 %length, i32 %aggregator, ptr %holding, ptr %attached, ptr %distributing, ptr %count, ptr %lowest) nounwind {
+  %lent = alloca [16 x i8], align 8
+  call void @lend(ptr %lent, ptr %table, i64 %length)
+  %answer = call i32 @"myrkosti::myrkosti_aggregator"(ptr %lent, i32 %aggregator, ptr %holding, ptr %attached, ptr %distributing, ptr %count, ptr %lowest)
+  ret i32 %answer
+}

@@ -1,0 +1,32 @@
+#include "side.h"
+
+#ifndef WITHOUT_MODEL
+/* rust/bench-model */
+uint32_t model_start(uint8_t *table, size_t table_len, uint32_t ports,
+                     uint16_t system_priority, const uint8_t system[6], uint16_t collector_max_delay,
+                     const uint8_t address[6], uint16_t key, uint16_t port_priority,
+                     bool activity, bool timeout, bool aggregation, const uint8_t partner[MYRKOSTI_BLOCK]);
+uint32_t model_receive(uint8_t *table, size_t table_len, uint32_t port,
+                       const uint8_t *frame, size_t frame_len, uint8_t *out, size_t out_len, uint32_t *sent);
+uint32_t model_tick(uint8_t *table, size_t table_len);
+uint32_t model_link(uint8_t *table, size_t table_len, uint32_t port, bool up);
+uint32_t model_duplex(uint8_t *table, size_t table_len, uint32_t port, bool full);
+uint32_t model_settings(uint8_t *table, size_t table_len, uint32_t port,
+                        const uint8_t address[6], uint16_t key, uint16_t port_priority,
+                        bool activity, bool timeout, bool aggregation, const uint8_t partner[MYRKOSTI_BLOCK]);
+uint32_t model_fetch(uint8_t *table, size_t table_len, uint32_t port, uint8_t *out, size_t out_len);
+uint32_t model_port(const uint8_t *table, size_t table_len, uint32_t port, uint8_t record[MYRKOSTI_RECORD]);
+uint32_t model_aggregator(const uint8_t *table, size_t table_len, uint32_t aggregator,
+                          uint32_t *holding, uint32_t *attached, uint32_t *distributing,
+                          uint32_t *count, uint32_t *lowest);
+#endif
+
+const struct side SIDES[] = {
+    {"library", myrkosti_start, myrkosti_receive, myrkosti_tick, myrkosti_link, myrkosti_duplex, myrkosti_settings, myrkosti_fetch,
+     myrkosti_port, myrkosti_aggregator},
+#ifndef WITHOUT_MODEL
+    {"model", model_start, model_receive, model_tick, model_link, model_duplex, model_settings, model_fetch, model_port,
+     model_aggregator},
+#endif
+};
+const size_t SIDE_COUNT = sizeof SIDES / sizeof SIDES[0];
