@@ -1,4 +1,4 @@
-.PHONY: demo cases test c-test compare wire peers mutants
+.PHONY: demo cases test c-test compare wire peers bench mutants
 
 # Proves the library and runs two switches of it, joined by four links: a timeline, and the same as a picture in target/demo.svg.
 # make demo SCRIPT=FILE replays a list of events; rust/demo/help.txt says what may stand in it.
@@ -44,3 +44,9 @@ peers:
 # Not in the gate: changes one definition at a time, as if code and contract followed it, and shows that a law or a claim refuses it.
 mutants:
 	python3 tools/mutants.py
+
+# Time, instructions, stack and text of each call, beside the model's: writes the tables of docs/BENCHMARKS.md and docs/benchmarks.svg.
+# Installs valgrind and what else is missing, and takes about a minute once the library is proved.
+bench:
+	rt staticlib myrkosti
+	python3 tools/bench/bench.py
