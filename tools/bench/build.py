@@ -51,7 +51,7 @@ def same_code(remade):
     theirs, ours = functions(member()), functions(remade)
     differing = {name for name in theirs | ours if theirs.get(name) != ours.get(name)}
     if differing - TAKE_BOOLS:
-        raise SystemExit(f"the module that was caught is not the archive's: {differing}")
+        raise SystemExit(f"the archive is of other code than crates/ (make it anew: rt staticlib myrkosti): {', '.join(sorted(differing))}")
     print(f"compiled for x86-64: {len(theirs) - len(differing)} of {len(theirs)} functions are the archive's octet for octet;",
           "the others are entries that take a bool:", *sorted(name.removeprefix(".text.") for name in differing))
 
