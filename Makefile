@@ -14,7 +14,7 @@ cases:
 	rt check cases
 	cat crates/cases/stdout
 
-# The whole gate: every proof from nothing, the must-fail edits, the programs.
+# The whole gate: every proof from nothing, the must-fail edits, the programs, the C test, a short comparison.
 test:
 	.ci/run
 
@@ -27,8 +27,7 @@ c-test:
 SECONDS_TO_COMPARE ?= 60
 compare:
 	rt staticlib myrkosti
-	tools/x86.sh
-	cd rust && cargo run --release -p compare -- --seconds $(SECONDS_TO_COMPARE)
+	tools/compare.sh --seconds $(SECONDS_TO_COMPARE)
 
 # Not in the gate: frames of the library as tshark reads them, every field, and frames of scapy as the library reads them; then each bit of a
 # frame flipped, which must be found.
@@ -41,7 +40,8 @@ peers:
 	rt staticlib myrkosti
 	tools/outside.sh peers
 
-# Not in the gate: changes one definition at a time, as if code and contract followed it, and shows that a law or a claim refuses it.
+# Not in the gate: changes a definition and the code that meets it together, one pair at a time, and shows which facts of claims or runs refuse it.
+# Takes about half an hour.
 mutants:
 	python3 tools/mutants.py
 
