@@ -9,7 +9,7 @@ tried in two copies of the repository:
   facts   definitions and types without code and laws, which would refuse it first; `claims` keeps its computed witness (what each theorem
           says of one run), and `runs` its computed cases. One of the facts that the mutant aims at must be refused.
 
-A mutant without a function changes a definition alone: the code that would follow it has another shape.
+Where the changed code has another shape, its proof is changed with it. A mutant without a function changes a definition alone.
 
     tools/mutants.py [WORD..]     all mutants, or those in whose line one of the words stands; the copies are in target/mutants
 """
@@ -262,7 +262,11 @@ MUTANTS = [
     Mutant("7 reports", "COLLECTING counted as distributing", ("narrowed-true",), "report::stands_to", (
         ("report/specs/Sets.antt", "stands Distributes k p = eqb (p .aggregator) k && distributes (p .phase .mux)",
          "stands Distributes k p = eqb (p .aggregator) k && Rattle.machine.specs.Mux.collects (p .phase .mux)"),
-        ("report/src/lib.rt", "Standing::Distributes => (p.aggregator == k) & m.distributes()", "Standing::Distributes => (p.aggregator == k) & m.collects()"))),
+        ("report/src/lib.rt", "Standing::Distributes => (p.aggregator == k) & m.distributes()", "Standing::Distributes => (p.aggregator == k) & m.collects()"),
+        ("report/proofs/stands_to/Proof.antt", "distributes-requires : tie.Need-distributes-requires\ndistributes-requires c",
+         "collects-requires : tie.Need-collects-requires\ncollects-requires c"),
+        ("report/proofs/stands_to/Proof.antt", "c .distributes .ensures", "c .collects .ensures"),
+        ("report/proofs/stands_to/Proof.antt", "    distributes-requires\n    returns\n", "    collects-requires\n    returns\n"))),
     Mutant("7 reports", "the count of the attached ports", ("narrowed-true",), "report::aggregator_of", (
         ("report/specs/Sets.antt", "count = ones (setOf (stands Distributes k) ps);", "count = ones (setOf (stands Attached k) ps);"),
         ("report/src/lib.rt", "count: u32::count_ones(distributing),", "count: u32::count_ones(attached),"))),

@@ -2,7 +2,7 @@
 -- definition that breaks one shows here, whatever the laws below say of it.
 use Prim.Native.Nat.{ℕ, zero, suc, _-_}
 use mathlib.Core.Path.{_≡_}
-use mathlib.Core.Bool.{Bool, true, false, cond, not, _&&_, _||_}
+use mathlib.Core.Bool.{Bool, true, false, not, _&&_, _||_}
 use mathlib.Core.List.{List, [], _∷_, map}
 use lib.ListN.{replicate}
 use lib.Dec.{eqb}
@@ -13,8 +13,7 @@ use Rattle.frame.specs.declared.class.Class.the-variants as class
 use Rattle.frame.specs.Block.{blockOf, blockOctets}
 use Rattle.frame.specs.Class.{classOf}
 use Rattle.frame.specs.Wire.{zeros, actorPart, partnerPart}
-use Rattle.machine.specs.declared.states.Selection.{Selection}
-use Rattle.machine.specs.declared.states.Selection.the-variants.{Selected, Unselected}
+use Rattle.machine.specs.Bits.{alike}
 use Rattle.machine.specs.Mux.{isAttached, collects, distributes}
 use Rattle.port.specs.declared.record.Port.{Port}
 use Rattle.port.specs.Compared.{compared}
@@ -25,6 +24,7 @@ use Rattle.table.specs.Layout.{tableSize}
 use Rattle.table.specs.Record.{encoded}
 use Rattle.table.specs.Table.{countIn, ports, portAt, tableInRange}
 use Rattle.trunk.specs.Selection.{sharesGroup, ruleOf}
+use Rattle.trunk.specs.Settled.{isUnselected}
 use Rattle.work.specs.Work.{ours, worked, again}
 use Rattle.control.specs.Call.{Call, start, receive, tick, link, configure, fetch}
 use Rattle.control.specs.After.{answer, after, bufferOf, outgoing}
@@ -36,6 +36,7 @@ use Rattle.claims.specs.Speakers.{system, noDelay, keyedBlock, keyedSett
 -- ---- the run: three ports, short timeout. Ports 1 and 2 hear key 1 of system 5, in sync, collecting and distributing; ten ticks later port 3,
 -- which has a long timeout, hears key 2 of it. After ten more, ports 1 and 2 are a trunk, and port 3 waits.
 
+-- an LACPDU of port n of system 5, with key k and the state octet o, that came to our port n
 abbrev pub said : ℕ → ℕ → ℕ → List ℕ
 said k n o = frameOf (keyedBlock 5 k n o) n 0x07
 
@@ -73,11 +74,11 @@ trunk = run begun calls
 
 -- ---- and what becomes of it
 
--- port 1 hears another system
+-- port 1 hears system 6
 unfoldable pub parted : List ℕ
 parted = after (receive 1 (frameOf (keyedBlock 6 1 1 0x3F) 1 0x07) (zeros 124)) trunk
 
--- the partner of port 2 stops collecting
+-- the partner of port 2 collects no longer
 unfoldable pub narrowed : List ℕ
 narrowed = after (hears 1 2 0x0F) trunk
 
@@ -102,18 +103,11 @@ unfoldable pub every : {A : Type 0} → (A → Bool) → List A → Bool
 every f [] = true
 every f (x ∷ xs) = f x && every f xs
 
-abbrev pub isSelected : Selection → Bool
-isSelected Selected = true
-isSelected Unselected = false
-
-abbrev pub same : Bool → Bool → Bool
-same b c = cond b c (not c)
-
 abbrev pub indices : List ℕ
 indices = 0 ∷ 1 ∷ 2 ∷ []
 
 abbrev pub ruledAt : List ℕ → ℕ → Bool
-ruledAt t i = eqb (portAt t i .aggregator) (ruleOf (ours t) (map compared (ports t)) i) && isSelected (portAt t i .phase .selected)
+ruledAt t i = eqb (portAt t i .aggregator) (ruleOf (ours t) (map compared (ports t)) i) && not (isUnselected (portAt t i .phase .selected))
 
 abbrev pub ruled : List ℕ → Bool
 ruled t = every (ruledAt t) indices
@@ -126,8 +120,8 @@ earned t = every earnedBy (ports t)
 
 abbrev pub saysMux : Port → Bool
 saysMux p =
-    same (p .actor .synchronization) (isAttached (p .phase .mux))
-    && (same (p .actor .collecting) (collects (p .phase .mux)) && same (p .actor .distributing) (distributes (p .phase .mux)))
+    alike (p .actor .synchronization) (isAttached (p .phase .mux))
+    && (alike (p .actor .collecting) (collects (p .phase .mux)) && alike (p .actor .distributing) (distributes (p .phase .mux)))
 
 abbrev pub says : List ℕ → Bool
 says t = every saysMux (ports t)
