@@ -289,7 +289,8 @@ MUTANTS = [
         ("trunk/specs/Settled.antt", "attachedAll ps = map (λ p. attachedIf (ready (p .aggregator) ps) p) ps", "attachedAll ps = map (λ p. attachedIf (eqb (p .timers .wait .0) 0) p) ps"),)),
     Mutant("case 3, 5 and 2", "a partner that aggregates taken for individual", ("sharing", "learned"), "trunk::select::is_individual", (
         ("trunk/specs/Selection.antt", "not (c .partnerAggregation)", "c .partnerAggregation"),
-        ("trunk/src/select.rt", "(!partner.state.aggregation | same_system(system, ours))", "(partner.state.aggregation | same_system(system, ours))"))),
+        ("trunk/src/select.rt", "(!partner.state.aggregation | same_system(system, ours))", "(partner.state.aggregation | same_system(system, ours))"),
+        ("trunk/proofs/select/is_individual/Proof.antt", "c .same-system .ensures", "c .before .same-system .ensures"))),
     Mutant("case 2, 4 and 3, 5", "partner systems not compared", ("parted", "gone-over"), "trunk::select::same_group", (
         ("trunk/specs/Selection.antt", "(sameSystem (c .system) (d .system) &&", "(sameSystem (c .system) (c .system) &&"),
         ("trunk/src/select.rt", "(same_system(s, t) & (a.key == b.key))", "(same_system(s, s) & (a.key == b.key))"))),
