@@ -5,6 +5,7 @@ use mathlib.Core.Bool.{Bool, true}
 use mathlib.Core.List.{List, [], _∷_, map}
 use native.Mathlib.Omega.{arith}
 use lib.ListN.{length, getD, set}
+use lib.Seq.{set-getD}
 use Rattle.octets.specs.Octets.{putAt}
 use Rattle.frame.proofs.BlockLaws.{Octets}
 use Rattle.port.specs.declared.record.Port.{Port}
@@ -43,6 +44,17 @@ stored t i p e h r =
 -- nothing done
 pub unworked : (t : List ℕ) → tableInRange t ≡ true → Worked t t (ports t)
 unworked t e = record { header = refl; size = refl; ranged = e; records = refl }
+
+-- a record that is left alone, as what it would be set to is what it is
+pub left-alone : (t : List ℕ) (i : ℕ) (q : Port) → tableInRange t ≡ true → i < countIn t → q ≡ portAt t i → Worked t t (set (ports t) i q)
+left-alone t i q e h same =
+    let is : q ≡ getD (ports t) i q = same ∙ sym (ports-at t i q h) in
+    record {
+      header = refl;
+      size = refl;
+      ranged = e;
+      records = sym (set-getD (ports t) i q) ∙ ap (λ (x : Port). set (ports t) i x) (sym is);
+    }
 
 -- one piece of work after another
 pub then : {t u v : List ℕ} {ps qs : List Port} → Worked t u ps → Worked u v qs → Worked t v qs

@@ -35,15 +35,20 @@ fn is_held_back(table: &[u8], k: u8) -> bool
     false
 }
 
-// Step 5 for port i. Where the port waits, its aggregator has a waiting port, so it is Ready unless somebody holds it back.
+// Step 5 for port i. A port that does not wait is left alone. Where it waits, its aggregator has a waiting port, so it is Ready
+// unless somebody holds it back.
 fn attach_one(table: &mut [u8], i: usize)
     requires { ⌜ (tableInRange (now table) ≡ true) × (i < countIn (now table)) ⌝ }
     ensures { λ _. ⌜ Worked (now (table .entry)) (now (table .exit)) (set (ports (now (table .entry))) i (attachedIf (ready (portAt (now (table .entry)) i .aggregator) (ports (now (table .entry)))) (portAt (now (table .entry)) i))) ⌝ }
 {
     let p = table::load(table, i);
-    let held = is_held_back(table, p.aggregator);
-    let q = p.attach(!held);
-    table::store(table, i, q);
+    let h = p.phase;
+    let m = h.mux;
+    if m.waits() {
+        let held = is_held_back(table, p.aggregator);
+        let q = p.attach(!held);
+        table::store(table, i, q);
+    }
 }
 
 // Step 5 for all ports, which step 4 left SELECTED.
