@@ -1,4 +1,4 @@
--- The search for the lowest-numbered port of a group, turn by turn. Assumes nothing.
+-- The search for the lowest-numbered port of a group, turn by turn, and what steps 3 and 4 make of one port. Assumes nothing.
 use Prim.Native.Nat.{ℕ, zero, suc, _+_, _-_, _<_, _≤_}
 use mathlib.Core.Path.{_≡_, refl, sym, ap, _∙_}
 use mathlib.Core.Bool.{Bool, true, false, cond}
@@ -10,8 +10,9 @@ use Rattle.port.specs.Compared.{Compared, compared}
 use Rattle.table.specs.Table.{countIn, ports, portAt}
 use Rattle.trunk.specs.Selection.{sameGroup, nobody, joins, firstFrom, lowest}
 use Rattle.port.specs.declared.record.Port.{Port}
+use Rattle.port.specs.Mux.{detached, placed}
 use Rattle.trunk.specs.Selection.{ruleOf}
-use Rattle.trunk.specs.Settled.{reselected}
+use Rattle.trunk.specs.Settled.{mustMove, reselected}
 use Rattle.trunk.specs.Worked.{Worked}
 use Rattle.trunk.proofs.SweepLaws.{doneTo, done-keeps}
 use Rattle.trunk.proofs.TableWork.{map-port-at, next-is}
@@ -45,6 +46,18 @@ pub joins-at : (ours : SystemId) (t : List ℕ) (i j : ℕ) → i < countIn t �
     → joins ours (map compared (ports t)) i j ≡ sameGroup ours (compared (portAt t i)) (compared (portAt t j))
 unfolding joins
 joins-at ours t i j hi hj = rw (map-port-at compared t i nobody hi, map-port-at compared t j nobody hj)
+
+-- ---- steps 3 and 4 for one port
+
+-- a port that must move goes to DETACHED and then to the rule's aggregator
+pub reselected-moves : (k : ℕ) (p : Port) → mustMove k p ≡ true → reselected k p ≡ placed k (detached p)
+unfolding reselected
+reselected-moves k p e = rw e
+
+-- one that need not is left alone
+pub reselected-unmoved : (k : ℕ) (p : Port) → mustMove k p ≡ false → reselected k p ≡ p
+unfolding reselected
+reselected-unmoved k p e = rw e
 
 -- ---- steps 3 and 4, port after port: the rule reads the same in the partly selected table
 

@@ -69,25 +69,18 @@ fn is_unselected(s: Selection) -> bool
     }
 }
 
-// Down to DETACHED through each state, and only then to aggregator k.
-fn reselect(p: Port, k: u8) -> Port
-    ensures { λ r. ⌜ r ≡ reselected k p ⌝ }
-{
-    if must_move(p, k) {
-        return p.detach().place(k);
-    }
-    p
-}
-
-// Steps 3 and 4 for port i: the rule afresh.
+// Steps 3 and 4 for port i: the rule afresh. A port that must move goes down to DETACHED through each state, and only then to the
+// rule's aggregator; one that need not is left alone.
 fn select_one(table: &mut [u8], i: usize, ours: SystemId)
     requires { ⌜ (tableInRange (now table) ≡ true) × (i < countIn (now table)) ⌝ }
     ensures { λ _. ⌜ Worked (now (table .entry)) (now (table .exit)) (set (ports (now (table .entry))) i (reselected (ruleOf ours (map compared (ports (now (table .entry)))) i) (portAt (now (table .entry)) i))) ⌝ }
 {
-    let k = lowest(table, i, ours) + 1;
+    let k = (lowest(table, i, ours) + 1) as u8;
     let p = table::load(table, i);
-    let q = reselect(p, k as u8);
-    table::store(table, i, q);
+    if must_move(p, k) {
+        let q = p.detach().place(k);
+        table::store(table, i, q);
+    }
 }
 
 // Steps 3 and 4 for all ports.

@@ -1,19 +1,22 @@
--- `trunk::select::select_one` meets its contract: the record is loaded, stepped and stored, and stays in range. Assumes nothing.
+-- `trunk::select::select_one` meets its contract: a record that must move is loaded, stepped and stored, and stays in range; one that
+-- need not is what the rule makes of it. Assumes nothing.
 use Prim.Native.Nat.{_≤_, _+_}
-use mathlib.Core.Path.{_≡_}
-use mathlib.Core.Bool.{true}
+use mathlib.Core.Path.{_≡_, sym, _∙_}
+use mathlib.Core.Bool.{true, false}
 use mathlib.Core.List.{map}
 use native.Mathlib.Omega.{arith}
 use denote.Ref.{now}
 use Rattle.port.specs.Compared.{compared}
+use Rattle.port.specs.Mux.{detached, placed}
 use Rattle.table.specs.Layout.{within}
 use Rattle.table.specs.Table.{countIn, ports, portAt}
 use Rattle.table.proofs.RangeLaws.{within-is}
 use Rattle.table.proofs.TableLaws.{in-range}
 use Rattle.trunk.specs.Selection.{lowest, ruleOf}
-use Rattle.trunk.specs.Settled.{reselected}
+use Rattle.trunk.specs.Settled.{mustMove, reselected}
 use Rattle.trunk.proofs.RangeKept.{reselected-ranged}
-use Rattle.trunk.proofs.TableWork.{room, ranged-at, stored}
+use Rattle.trunk.proofs.SelectLaws.{reselected-moves, reselected-unmoved}
+use Rattle.trunk.proofs.TableWork.{room, ranged-at, stored, left-alone}
 use borrow.Author.Needs.{needs}
 use Rattle.trunk.proofs.select.select_one.Statement.{statement}
 use Rattle.trunk.proofs.select.select_one.Tie as tie
@@ -24,17 +27,23 @@ lowest-requires c κs = search needs
 add-k : tie.Need-add-k
 add-k c = let most = in-range _ (c .before .before .before .pre .0) .most in omega arith
 
+cast-k : tie.Need-cast-k
+cast-k c = let most = in-range _ (c .before .before .before .pre .0) .most in omega arith
+
 load-requires : tie.Need-load-requires
 load-requires c κs = room _ (c .before .before .before .before .pre .0) (c .before .before .before .before .args .i) (c .before .before .before .before .pre .1)
 
-cast-reselect : tie.Need-cast-reselect
-cast-reselect c = let most = in-range _ (c .before .before .before .before .before .pre .0) .most in omega arith
+must-move-requires : tie.Need-must-move-requires
+must-move-requires c κs = search needs
 
-reselect-requires : tie.Need-reselect-requires
-reselect-requires c κs = search needs
+detach-requires : tie.Need-detach-requires
+detach-requires c κs = search needs
+
+place-requires : tie.Need-place-requires
+place-requires c κs = search needs
 
 store-requires : tie.Need-store-requires
-store-requires c κs = room _ (c .before .before .before .before .before .before .before .pre .0) (c .before .before .before .before .before .before .before .args .i) (c .before .before .before .before .before .before .before .pre .1)
+store-requires c κs = room _ (c .before .before .before .before .before .before .before .before .before .before .pre .0) (c .before .before .before .before .before .before .before .before .before .before .args .i) (c .before .before .before .before .before .before .before .before .before .before .pre .1)
 
 same-length : tie.Need-same-length
 same-length c = search needs
@@ -42,16 +51,32 @@ same-length c = search needs
 returns : tie.Need-returns
 unfolding ruleOf
 returns c =
-    let a = (c .before .before .before .before .before .before .before .before .before .before .args) in
+    let a = (c .before .before .before .before .before .before .before .before .before .before .before .before .before .args) in
     let t = now (a .table) in
-    let e = (c .before .before .before .before .before .before .before .before .before .before .pre .0) in
-    let h = (c .before .before .before .before .before .before .before .before .before .before .pre .1) in
+    let e = (c .before .before .before .before .before .before .before .before .before .before .before .before .before .pre .0) in
+    let h = (c .before .before .before .before .before .before .before .before .before .before .before .before .before .pre .1) in
+    let p = portAt t (a .i) in
     let k = lowest (a .ours) (map compared (ports t)) (a .i) + 1 in
-    let le : lowest (a .ours) (map compared (ports t)) (a .i) ≤ a .i = rw ((c .before .before .before .before .before .before .before .lowest .ensures .0)) at (c .before .before .before .before .before .before .before .lowest .ensures .1) in
+    let le : lowest (a .ours) (map compared (ports t)) (a .i) ≤ a .i = rw ((c .before .before .before .before .before .before .before .before .before .before .lowest .ensures .0)) at (c .before .before .before .before .before .before .before .before .before .before .lowest .ensures .1) in
     let in-count : within 1 k (countIn t) ≡ true = within-is 1 k (countIn t) (omega arith) (omega arith) in
-    let q = reselected k (portAt t (a .i)) in
-    let fit = reselected-ranged (countIn t) k (portAt t (a .i)) in-count (ranged-at t e (λ j. (c .before .before .before .before .before .before .before .before .before .slice-known .given) j .fits) (a .i) h) in
-    rw ((c .before .before .store .ensures), (c .before .before .before .before .reselect .ensures), (c .before .before .before .before .before .load .ensures), (c .before .before .before .before .before .before .before .lowest .ensures .0)) (stored t (a .i) q e h fit)
+    let fit = reselected-ranged (countIn t) k p in-count (ranged-at t e (λ j. (c .before .before .before .before .before .before .before .before .before .before .before .before .slice-known .given) j .fits) (a .i) h) in
+    let move : mustMove k p ≡ true = rw ((c .before .before .before .before .before .before .before .before .load .ensures), (c .before .before .before .before .before .before .before .before .before .before .lowest .ensures .0)) at (sym (c .before .before .before .before .before .before .before .must-move .ensures) ∙ c .before .before .before .before .before .before .if1 .taken) in
+    let is : placed k (detached p) ≡ reselected k p = sym (reselected-moves k p move) in
+    rw ((c .before .before .store .ensures), (c .before .before .before .before .place .ensures), (c .before .before .before .before .before .detach .ensures), (c .before .before .before .before .before .before .before .before .load .ensures), (c .before .before .before .before .before .before .before .before .before .before .lowest .ensures .0), is)
+    (stored t (a .i) (reselected k p) e h fit)
+
+same-length-2 : tie.Need-same-length-2
+same-length-2 c = search needs
+
+returns-2 : tie.Need-returns-2
+unfolding ruleOf
+returns-2 c =
+    let a = (c .before .before .before .before .before .before .before .args) in
+    let t = now (a .table) in
+    let p = portAt t (a .i) in
+    let k = lowest (a .ours) (map compared (ports t)) (a .i) + 1 in
+    let stay : mustMove k p ≡ false = rw ((c .before .before .load .ensures), (c .before .before .before .before .lowest .ensures .0)) at (sym (c .before .must-move .ensures) ∙ c .if1 .left) in
+    left-alone t (a .i) (reselected k p) (c .before .before .before .before .before .before .before .pre .0) (c .before .before .before .before .before .before .before .pre .1) (reselected-unmoved k p stay)
 
 pub select-one-spec : {M : Type 1} → statement M
 select-one-spec =
@@ -59,9 +84,13 @@ select-one-spec =
     (tie.spec
     lowest-requires
     add-k
+    cast-k
     load-requires
-    cast-reselect
-    reselect-requires
+    must-move-requires
+    detach-requires
+    place-requires
     store-requires
     same-length
-    returns)
+    returns
+    same-length-2
+    returns-2)
