@@ -35,12 +35,11 @@ fn same_group(p: Port, q: Port, ours: SystemId) -> bool
     !is_individual(p, ours) & (!is_individual(q, ours) & keys)
 }
 
-// The lowest-numbered port of port i's group, from 0.
-fn lowest(table: &[u8], i: usize, ours: SystemId) -> usize
-    requires { ⌜ (tableInRange (now table) ≡ true) × (i < countIn (now table)) ⌝ }
+// The lowest-numbered port of port i's group, from 0; p is the record of port i.
+fn lowest(table: &[u8], i: usize, p: Port, ours: SystemId) -> usize
+    requires { ⌜ (tableInRange (now table) ≡ true) × (i < countIn (now table)) × (p ≡ portAt (now table) i) ⌝ }
     ensures { λ r. ⌜ (r ≡ Selection·lowest ours (map compared (ports (now (table .entry)))) i) × (r ≤ i) ⌝ }
 {
-    let p = table::load(table, i);
     let mut j: usize = 0;
     while j < i {
         if same_group(p, table::load(table, j), ours) {
@@ -75,8 +74,8 @@ fn select_one(table: &mut [u8], i: usize, ours: SystemId)
     requires { ⌜ (tableInRange (now table) ≡ true) × (i < countIn (now table)) ⌝ }
     ensures { λ _. ⌜ Worked (now (table .entry)) (now (table .exit)) (set (ports (now (table .entry))) i (reselected (ruleOf ours (map compared (ports (now (table .entry)))) i) (portAt (now (table .entry)) i))) ⌝ }
 {
-    let k = (lowest(table, i, ours) + 1) as u8;
     let p = table::load(table, i);
+    let k = (lowest(table, i, p, ours) + 1) as u8;
     if must_move(p, k) {
         let q = p.detach().place(k);
         table::store(table, i, q);

@@ -13,33 +13,30 @@ use Rattle.trunk.proofs.select.lowest.Statement.{statement}
 use Rattle.trunk.proofs.select.lowest.Tie as tie
 
 abbrev Inv-loop : tie.InvT-loop
-Inv-loop table i ours p j₀ j =
+Inv-loop table i p ours j₀ j =
     (j ≤ i) × (lowest ours (map compared (ports table)) i ≡ firstFrom (joins ours (map compared (ports table)) i) j (i - j))
 
 abbrev μ-loop : tie.MeasureT-loop
-μ-loop table i ours p j₀ j = i - j
-
-load-requires : tie.Need-load-requires Inv-loop μ-loop
-load-requires c κs = room (now (c .before .args .table)) (c .before .pre .0) (c .before .args .i) (c .before .pre .1)
+μ-loop table i p ours j₀ j = i - j
 
 loop-holds : tie.Need-loop-holds Inv-loop μ-loop
-loop-holds c = (omega arith, lowest-starts (c .before .before .args .ours) (map compared (ports (now (c .before .before .args .table)))) (c .before .before .args .i))
+loop-holds c = (omega arith, lowest-starts (c .before .args .ours) (map compared (ports (now (c .before .args .table)))) (c .before .args .i))
 
-load-requires-2 : tie.Need-load-requires-2 Inv-loop μ-loop
-load-requires-2 c κs = room (now (c .before .before .before .before .args .table)) (c .before .before .before .before .pre .0) (c .before .loop .j) (omega arith)
+load-requires : tie.Need-load-requires Inv-loop μ-loop
+load-requires c κs = room (now (c .before .before .before .args .table)) (c .before .before .before .pre .0) (c .before .loop .j) (omega arith)
 
 same-group-requires : tie.Need-same-group-requires Inv-loop μ-loop
 same-group-requires c κs = tt
 
 returns : tie.Need-returns Inv-loop μ-loop
 returns c =
-    let a = (c .before .before .before .before .before .before .before .args) in
+    let a = (c .before .before .before .before .before .before .args) in
     let t = now (a .table) in
     let j = (c .before .before .before .before .loop .j) in
     let less : j < a .i = (c .before .before .before .loop-test .taken) in
     let within : j < countIn t = omega arith in
-    let told = joins-at (a .ours) t (a .i) j (c .before .before .before .before .before .before .before .pre .1) within
-    ∙ sym (rw ((c .before .before .before .before .before .load .ensures), (c .before .before .load2 .ensures)) at (c .before .same-group .ensures)) in
+    let told = joins-at (a .ours) t (a .i) j (c .before .before .before .before .before .before .pre .1) within
+    ∙ sym (rw ((c .before .before .before .before .before .before .pre .2), (c .before .before .load .ensures)) at (c .before .same-group .ensures)) in
     (sym ((c .before .before .before .before .loop .inv .1) ∙ first-here _ (a .i) j less (told ∙ (c .if1 .taken))), omega arith)
 
 add-j : tie.Need-add-j Inv-loop μ-loop
@@ -50,18 +47,18 @@ loop-less c = omega arith
 
 loop-again : tie.Need-loop-again Inv-loop μ-loop
 loop-again c =
-    let a = (c .before .before .before .before .before .before .before .args) in
+    let a = (c .before .before .before .before .before .before .args) in
     let t = now (a .table) in
     let j = (c .before .before .before .before .loop .j) in
     let less : j < a .i = (c .before .before .before .loop-test .taken) in
     let within : j < countIn t = omega arith in
-    let told = joins-at (a .ours) t (a .i) j (c .before .before .before .before .before .before .before .pre .1) within
-    ∙ sym (rw ((c .before .before .before .before .before .load .ensures), (c .before .before .load2 .ensures)) at (c .before .same-group .ensures)) in
+    let told = joins-at (a .ours) t (a .i) j (c .before .before .before .before .before .before .pre .1) within
+    ∙ sym (rw ((c .before .before .before .before .before .before .pre .2), (c .before .before .load .ensures)) at (c .before .same-group .ensures)) in
     (omega arith, (c .before .before .before .before .loop .inv .1) ∙ first-further _ (a .i) j less (told ∙ (c .if1 .left)))
 
 returns-2 : tie.Need-returns-2 Inv-loop μ-loop
 returns-2 c =
-    let i = (c .before .before .before .before .args .i) in
+    let i = (c .before .before .before .args .i) in
     let j = (c .before .loop .j) in
     let end : j ≡ i = omega arith in
     (sym ((c .before .loop .inv .1) ∙ first-none _ i j end ∙ end), omega arith)
@@ -72,9 +69,8 @@ lowest-spec =
     (tie.spec
     Inv-loop
     μ-loop
-    load-requires
     loop-holds
-    load-requires-2
+    load-requires
     same-group-requires
     returns
     add-j

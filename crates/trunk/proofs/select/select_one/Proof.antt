@@ -21,17 +21,17 @@ use borrow.Author.Needs.{needs}
 use Rattle.trunk.proofs.select.select_one.Statement.{statement}
 use Rattle.trunk.proofs.select.select_one.Tie as tie
 
+load-requires : tie.Need-load-requires
+load-requires c κs = room _ (c .before .before .pre .0) (c .before .before .args .i) (c .before .before .pre .1)
+
 lowest-requires : tie.Need-lowest-requires
-lowest-requires c κs = search needs
+lowest-requires c κs = (c .before .before .before .before .pre .0, c .before .before .before .before .pre .1, c .before .load .ensures)
 
 add-k : tie.Need-add-k
-add-k c = let most = in-range _ (c .before .before .before .pre .0) .most in omega arith
+add-k c = let most = in-range _ (c .before .before .before .before .before .pre .0) .most in omega arith
 
 cast-k : tie.Need-cast-k
-cast-k c = let most = in-range _ (c .before .before .before .pre .0) .most in omega arith
-
-load-requires : tie.Need-load-requires
-load-requires c κs = room _ (c .before .before .before .before .pre .0) (c .before .before .before .before .args .i) (c .before .before .before .before .pre .1)
+cast-k c = let most = in-range _ (c .before .before .before .before .before .pre .0) .most in omega arith
 
 must-move-requires : tie.Need-must-move-requires
 must-move-requires c κs = search needs
@@ -57,12 +57,12 @@ returns c =
     let h = (c .before .before .before .before .before .before .before .before .before .before .before .before .before .pre .1) in
     let p = portAt t (a .i) in
     let k = lowest (a .ours) (map compared (ports t)) (a .i) + 1 in
-    let le : lowest (a .ours) (map compared (ports t)) (a .i) ≤ a .i = rw ((c .before .before .before .before .before .before .before .before .before .before .lowest .ensures .0)) at (c .before .before .before .before .before .before .before .before .before .before .lowest .ensures .1) in
+    let le : lowest (a .ours) (map compared (ports t)) (a .i) ≤ a .i = rw ((c .before .before .before .before .before .before .before .before .lowest .ensures .0)) at (c .before .before .before .before .before .before .before .before .lowest .ensures .1) in
     let in-count : within 1 k (countIn t) ≡ true = within-is 1 k (countIn t) (omega arith) (omega arith) in
     let fit = reselected-ranged (countIn t) k p in-count (ranged-at t e (λ j. (c .before .before .before .before .before .before .before .before .before .before .before .before .slice-known .given) j .fits) (a .i) h) in
-    let move : mustMove k p ≡ true = rw ((c .before .before .before .before .before .before .before .before .load .ensures), (c .before .before .before .before .before .before .before .before .before .before .lowest .ensures .0)) at (sym (c .before .before .before .before .before .before .before .must-move .ensures) ∙ c .before .before .before .before .before .before .if1 .taken) in
+    let move : mustMove k p ≡ true = rw ((c .before .before .before .before .before .before .before .before .before .before .load .ensures), (c .before .before .before .before .before .before .before .before .lowest .ensures .0)) at (sym (c .before .before .before .before .before .before .before .must-move .ensures) ∙ c .before .before .before .before .before .before .if1 .taken) in
     let is : placed k (detached p) ≡ reselected k p = sym (reselected-moves k p move) in
-    rw ((c .before .before .store .ensures), (c .before .before .before .before .place .ensures), (c .before .before .before .before .before .detach .ensures), (c .before .before .before .before .before .before .before .before .load .ensures), (c .before .before .before .before .before .before .before .before .before .before .lowest .ensures .0), is)
+    rw ((c .before .before .store .ensures), (c .before .before .before .before .place .ensures), (c .before .before .before .before .before .detach .ensures), (c .before .before .before .before .before .before .before .before .before .before .load .ensures), (c .before .before .before .before .before .before .before .before .lowest .ensures .0), is)
     (stored t (a .i) (reselected k p) e h fit)
 
 same-length-2 : tie.Need-same-length-2
@@ -75,17 +75,17 @@ returns-2 c =
     let t = now (a .table) in
     let p = portAt t (a .i) in
     let k = lowest (a .ours) (map compared (ports t)) (a .i) + 1 in
-    let stay : mustMove k p ≡ false = rw ((c .before .before .load .ensures), (c .before .before .before .before .lowest .ensures .0)) at (sym (c .before .must-move .ensures) ∙ c .if1 .left) in
+    let stay : mustMove k p ≡ false = rw ((c .before .before .before .before .load .ensures), (c .before .before .lowest .ensures .0)) at (sym (c .before .must-move .ensures) ∙ c .if1 .left) in
     left-alone t (a .i) (reselected k p) (c .before .before .before .before .before .before .before .pre .0) (c .before .before .before .before .before .before .before .pre .1) (reselected-unmoved k p stay)
 
 pub select-one-spec : {M : Type 1} → statement M
 select-one-spec =
     tie.close
     (tie.spec
+    load-requires
     lowest-requires
     add-k
     cast-k
-    load-requires
     must-move-requires
     detach-requires
     place-requires
