@@ -38,23 +38,16 @@ fn is_displaced(p: Port, a: Block) -> bool
     is_disabled(s) & (same_address(x, y) & (m == n))
 }
 
-// What port i does when port r heard the block `a`.
-fn displace(p: Port, i: usize, r: usize, a: Block) -> Port
-    ensures { λ q. ⌜ q ≡ displacedIf r a i p ⌝ }
-{
-    if !(i == r) & is_displaced(p, a) {
-        return p.moved_away();
-    }
-    p
-}
-
+// What port i does when port r heard the block `a`: a port that is not displaced is left alone.
 fn displace_one(table: &mut [u8], i: usize, r: usize, a: Block)
     requires { ⌜ (tableInRange (now table) ≡ true) × (i < countIn (now table)) ⌝ }
     ensures { λ _. ⌜ Worked (now (table .entry)) (now (table .exit)) (set (ports (now (table .entry))) i (displacedIf r a i (portAt (now (table .entry)) i))) ⌝ }
 {
     let p = table::load(table, i);
-    let q = displace(p, i, r, a);
-    table::store(table, i, q);
+    if !(i == r) & is_displaced(p, a) {
+        let q = p.moved_away();
+        table::store(table, i, q);
+    }
 }
 
 // Port r, from 0, heard the block `a`: every other port that is displaced does INITIALIZE, then PORT_DISABLED.
