@@ -14,8 +14,13 @@ use crate::layout::RECORD;
 use crate::layout::place_of;
 use crate::range::is_record;
 use crate::range::within;
+use crate::record::aggregator_in;
+use crate::record::phase_in;
 use crate::record::read_record;
+use crate::record::timers_in;
 use crate::record::write_record;
+use machine::states::Phase;
+use machine::states::Timers;
 use port::record::Port;
 
 pub mod codes;
@@ -30,6 +35,33 @@ pub fn load(table: &[u8], i: usize) -> Port
 {
     let at = place_of(i);
     read_record(&table[at..at + RECORD])
+}
+
+// The states of port `i`, from 0, without the rest of its record.
+pub fn phase(table: &[u8], i: usize) -> Phase
+    requires { ⌜ place i + recordSize ≤ length (now table) ⌝ }
+    ensures { λ r. ⌜ r ≡ portAt (now (table .entry)) i .phase ⌝ }
+{
+    let at = place_of(i);
+    phase_in(&table[at..at + RECORD])
+}
+
+// The aggregator that port `i`, from 0, holds.
+pub fn aggregator(table: &[u8], i: usize) -> u8
+    requires { ⌜ place i + recordSize ≤ length (now table) ⌝ }
+    ensures { λ r. ⌜ r ≡ portAt (now (table .entry)) i .aggregator ⌝ }
+{
+    let at = place_of(i);
+    aggregator_in(&table[at..at + RECORD])
+}
+
+// The timers of port `i`, from 0.
+pub fn timers(table: &[u8], i: usize) -> Timers
+    requires { ⌜ place i + recordSize ≤ length (now table) ⌝ }
+    ensures { λ r. ⌜ r ≡ portAt (now (table .entry)) i .timers ⌝ }
+{
+    let at = place_of(i);
+    timers_in(&table[at..at + RECORD])
 }
 
 // Writes the record of port `i`, from 0; every other octet stays.

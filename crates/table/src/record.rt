@@ -1,6 +1,6 @@
 // A port's record and its 57 octets, group by group.
 ghost use mathlib.Core.Path.{_≡_};
-ghost use lib.ListN.{length};
+ghost use lib.ListN.{length, getD};
 ghost use Rattle.octets.specs.Octets.{putAt};
 ghost use Rattle.table.specs.Layout.{recordSize};
 ghost use Rattle.table.specs.Record.{phaseOctets, phaseIn, statusOctets, lineIn, timersOctets, timersIn, agesOctets, agesIn, ownOctets, ownIn, encoded, decoded};
@@ -47,7 +47,7 @@ fn write_phase(phase: Phase, out: &mut [u8])
 }
 
 // The states in octets 0 to 3.
-fn phase_in(s: &[u8]) -> Phase
+pub fn phase_in(s: &[u8]) -> Phase
     requires { ⌜ length (now s) ≡ recordSize ⌝ }
     ensures { λ r. ⌜ r ≡ phaseIn (now (s .entry)) ⌝ }
 {
@@ -75,6 +75,14 @@ fn write_status(aggregator: u8, ntt: bool, line: Line, actor: PortState, out: &m
             actor.octet(),
         ],
     );
+}
+
+// The aggregator held in octet 4.
+pub fn aggregator_in(s: &[u8]) -> u8
+    requires { ⌜ length (now s) ≡ recordSize ⌝ }
+    ensures { λ r. ⌜ r ≡ getD (now (s .entry)) 4 0 ⌝ }
+{
+    s[4]
 }
 
 // Link and duplex in octets 6 and 7.
