@@ -1,10 +1,12 @@
 // The aggregator report: the ports of a table that hold an aggregator, are attached to it and distribute, as 32-bit sets.
 ghost use mathlib.Core.Path.{_≡_};
 ghost use mathlib.Core.Bool.{true};
+ghost use Prim.Native.Nat.{_+_, _≤_};
+ghost use lib.ListN.{length};
 ghost use Rattle.frame.specs.State.{weighed};
-ghost use Rattle.table.specs.Table.{tableInRange, ports};
+ghost use Rattle.table.specs.Layout.{place, recordSize};
+ghost use Rattle.table.specs.Table.{tableInRange, ports, portAt};
 ghost use Rattle.report.specs.Sets.{stands, setOf, lowestOf, setsOf};
-use port::record::Port;
 
 // How a port stands to an aggregator.
 pub enum Standing {
@@ -22,16 +24,18 @@ pub struct Sets {
     pub lowest: u32,
 }
 
-// Whether a port stands so to aggregator k.
-fn stands_to(p: Port, standing: Standing, k: u8) -> bool
-    ensures { λ r. ⌜ r ≡ stands standing k p ⌝ }
+// Whether port i, from 0, stands so to aggregator k.
+fn stands_to(table: &[u8], i: usize, standing: Standing, k: u8) -> bool
+    requires { ⌜ place i + recordSize ≤ length (now table) ⌝ }
+    ensures { λ r. ⌜ r ≡ stands standing k (portAt (now (table .entry)) i) ⌝ }
 {
-    let h = p.phase;
+    let h = table::phase(table, i);
     let m = h.mux;
+    let held = table::aggregator(table, i);
     match standing {
-        Standing::Holds => p.aggregator == k,
-        Standing::Attached => (p.aggregator == k) & m.is_attached(),
-        Standing::Distributes => (p.aggregator == k) & m.distributes(),
+        Standing::Holds => held == k,
+        Standing::Attached => (held == k) & m.is_attached(),
+        Standing::Distributes => (held == k) & m.distributes(),
     }
 }
 
@@ -51,8 +55,7 @@ fn set_of(table: &[u8], standing: Standing, k: u8) -> u32
     let mut i = table[0] as usize;
     while 0 < i {
         i -= 1;
-        let p = table::load(table, i);
-        set = set * 2 + weigh(stands_to(p, standing, k));
+        set = set * 2 + weigh(stands_to(table, i, standing, k));
     }
     set
 }

@@ -52,27 +52,24 @@ loop-holds c =
 sub-i : tie.Need-sub-i Inv-loop μ-loop
 sub-i c = omega arith
 
-load-requires : tie.Need-load-requires Inv-loop μ-loop
-load-requires c κs = let size = in-range _ (c .before .before .before .before .pre) .size in omega arith
-
 mul-set : tie.Need-mul-set Inv-loop μ-loop
 mul-set c =
-    let a = (c .before .before .before .before .before .args) in
-    let loop = (c .before .before .loop) in
-    let less = fits (stands (a .standing) (a .k)) (now (a .table)) (c .before .before .before .before .before .pre) (loop .i) (omega arith) (loop .inv .1) in
+    let a = (c .before .before .before .before .args) in
+    let loop = (c .before .loop) in
+    let less = fits (stands (a .standing) (a .k)) (now (a .table)) (c .before .before .before .before .pre) (loop .i) (omega arith) (loop .inv .1) in
     omega arith
 
 stands-to-requires : tie.Need-stands-to-requires Inv-loop μ-loop
-stands-to-requires c κs = tt
+stands-to-requires c κs = let size = in-range _ (c .before .before .before .before .pre) .size in omega arith
 
 weigh-requires : tie.Need-weigh-requires Inv-loop μ-loop
 weigh-requires c κs = tt
 
 add-set : tie.Need-add-set Inv-loop μ-loop
 add-set c =
-    let a = (c .before .before .before .before .before .before .before .args) in
-    let pre = (c .before .before .before .before .before .before .before .pre) in
-    let loop = (c .before .before .before .before .loop) in
+    let a = (c .before .before .before .before .before .before .args) in
+    let pre = (c .before .before .before .before .before .before .pre) in
+    let loop = (c .before .before .before .loop) in
     let less = fits (stands (a .standing) (a .k)) (now (a .table)) pre (loop .i) (omega arith) (loop .inv .1) in
     let least = weight-less (c .before .stands-to .result) in
     rw (c .weigh .ensures) (omega arith)
@@ -82,11 +79,11 @@ loop-less c = omega arith
 
 loop-again : tie.Need-loop-again Inv-loop μ-loop
 loop-again c =
-    let a = (c .before .before .before .before .before .before .before .args) in
-    let loop = (c .before .before .before .before .loop) in
+    let a = (c .before .before .before .before .before .before .args) in
+    let loop = (c .before .before .before .loop) in
     let inv = loop .inv in (
       omega arith,
-      rw (c .weigh .ensures, c .before .stands-to .ensures, c .before .before .load .ensures)
+      rw (c .weigh .ensures, c .before .stands-to .ensures)
           (turn (stands (a .standing) (a .k)) (now (a .table)) (loop .i) (omega arith) (inv .0) (inv .1)),
     )
 
@@ -107,7 +104,6 @@ set-of-spec =
     cast-i
     loop-holds
     sub-i
-    load-requires
     mul-set
     stands-to-requires
     weigh-requires

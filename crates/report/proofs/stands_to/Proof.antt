@@ -4,6 +4,12 @@ use Rattle.report.specs.Sets.{stands}
 use Rattle.report.proofs.stands_to.Statement.{statement}
 use Rattle.report.proofs.stands_to.Tie as tie
 
+phase-requires : tie.Need-phase-requires
+phase-requires c κs = search needs
+
+aggregator-requires : tie.Need-aggregator-requires
+aggregator-requires c κs = search needs
+
 enum-told : tie.Need-enum-told
 enum-told c = search needs
 
@@ -21,20 +27,22 @@ distributes-requires c κs = search needs
 
 returns : tie.Need-returns
 unfolding stands
-returns c = rw (c .before .enum-told .given .1)
+returns c = rw (c .enum-told .given .1, c .before .before .aggregator .ensures)
 
 returns-2 : tie.Need-returns-2
 unfolding stands
-returns-2 c = rw (c .is-attached .ensures, c .before .before .enum-told2 .given .1)
+returns-2 c = rw (c .is-attached .ensures, c .before .enum-told2 .given .1, c .before .before .before .aggregator .ensures, c .before .before .before .before .phase .ensures)
 
 returns-3 : tie.Need-returns-3
 unfolding stands
-returns-3 c = rw (c .distributes .ensures, c .before .before .enum-told3 .given .1)
+returns-3 c = rw (c .distributes .ensures, c .before .enum-told3 .given .1, c .before .before .before .aggregator .ensures, c .before .before .before .before .phase .ensures)
 
 pub stands-to-spec : {M : Type 1} → statement M
 stands-to-spec =
     tie.close
     (tie.spec
+    phase-requires
+    aggregator-requires
     enum-told
     enum-told-2
     is-attached-requires
