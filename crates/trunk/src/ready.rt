@@ -1,22 +1,25 @@
 // Ready of an aggregator (43.4.8), and step 5.
 ghost use mathlib.Core.Path.{_≡_};
 ghost use mathlib.Core.Bool.{true};
-ghost use Prim.Native.Nat.{_<_};
-ghost use lib.ListN.{set};
+ghost use Prim.Native.Nat.{_<_, _+_, _≤_};
+ghost use lib.ListN.{length, set};
 ghost use Rattle.port.specs.Mux.{attachedIf};
+ghost use Rattle.table.specs.Layout.{place, recordSize};
 ghost use Rattle.table.specs.Table.{tableInRange, countIn, ports, portAt};
 ghost use Rattle.trunk.specs.Ready.{holdsBack, heldBack, ready};
 ghost use Rattle.trunk.specs.Settled.{AllSelected, attachedAll};
 ghost use Rattle.trunk.specs.Worked.{Worked};
-use port::record::Port;
 
-// Whether a port waits for aggregator k with its timer still running.
-fn holds_back(p: Port, k: u8) -> bool
-    ensures { λ r. ⌜ r ≡ holdsBack k p ⌝ }
+// Whether port i waits for aggregator k with its timer still running.
+fn holds_back(table: &[u8], i: usize, k: u8) -> bool
+    requires { ⌜ place i + recordSize ≤ length (now table) ⌝ }
+    ensures { λ r. ⌜ r ≡ holdsBack k (portAt (now (table .entry)) i) ⌝ }
 {
-    let h = p.phase;
+    let h = table::phase(table, i);
     let m = h.mux;
-    ((p.aggregator == k) & m.waits()) & !(p.timers.wait.0 == 0)
+    let held = table::aggregator(table, i);
+    let timers = table::timers(table, i);
+    ((held == k) & m.waits()) & !(timers.wait.0 == 0)
 }
 
 // Whether some port holds aggregator k back.
@@ -27,7 +30,7 @@ fn is_held_back(table: &[u8], k: u8) -> bool
     let n = table[0] as usize;
     let mut i: usize = 0;
     while i < n {
-        if holds_back(table::load(table, i), k) {
+        if holds_back(table, i, k) {
             return true;
         }
         i += 1;

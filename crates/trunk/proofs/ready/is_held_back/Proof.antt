@@ -29,42 +29,39 @@ cast-n c = omega (arith, c .shared-slice-known2 .given 0)
 loop-holds : tie.Need-loop-holds Inv-loop μ-loop
 loop-holds c = (omega arith, refl, refl)
 
-load-requires : tie.Need-load-requires Inv-loop μ-loop
-load-requires c κs = room _ (c .before .before .before .before .pre) (c .before .loop .i) (omega arith)
-
 holds-back-requires : tie.Need-holds-back-requires Inv-loop μ-loop
-holds-back-requires c κs = tt
+holds-back-requires c κs = room _ (c .before .before .before .before .pre) (c .before .loop .i) (omega arith)
 
 returns : tie.Need-returns Inv-loop μ-loop
 returns c =
-    let a = (c .before .before .before .before .before .before .before .args) in
+    let a = (c .before .before .before .before .before .before .args) in
     let t = now (a .table) in
-    let i = (c .before .before .before .before .loop .i) in
-    let inv = (c .before .before .before .before .loop .inv) in
+    let i = (c .before .before .before .loop .i) in
+    let inv = (c .before .before .before .loop .inv) in
     let h : i < countIn t = omega arith in
     let p = portAt t i in
     let in-list : i < length (ports t) = rw ports-length h in
     let told : holdsBack (a .k) (getD (ports t) i p) ≡ (c .before .holds-back .result) =
-    ap (holdsBack (a .k)) (ports-at t i p h ∙ sym (c .before .before .load .ensures)) ∙ sym (c .before .holds-back .ensures) in
+    ap (holdsBack (a .k)) (ports-at t i p h) ∙ sym (c .before .holds-back .ensures) in
     sym (inv .2 ∙ held-here (a .k) (ports t) i p in-list (told ∙ (c .if1 .taken)))
 
 add-i : tie.Need-add-i Inv-loop μ-loop
-add-i c = let most = in-range _ (c .before .before .before .before .before .before .before .pre) .most in omega arith
+add-i c = let most = in-range _ (c .before .before .before .before .before .before .pre) .most in omega arith
 
 loop-less : tie.Need-loop-less Inv-loop μ-loop
 loop-less c = omega arith
 
 loop-again : tie.Need-loop-again Inv-loop μ-loop
 loop-again c =
-    let a = (c .before .before .before .before .before .before .before .args) in
+    let a = (c .before .before .before .before .before .before .args) in
     let t = now (a .table) in
-    let i = (c .before .before .before .before .loop .i) in
-    let inv = (c .before .before .before .before .loop .inv) in
+    let i = (c .before .before .before .loop .i) in
+    let inv = (c .before .before .before .loop .inv) in
     let h : i < countIn t = omega arith in
     let p = portAt t i in
     let in-list : i < length (ports t) = rw ports-length h in
     let told : holdsBack (a .k) (getD (ports t) i p) ≡ (c .before .holds-back .result) =
-    ap (holdsBack (a .k)) (ports-at t i p h ∙ sym (c .before .before .load .ensures)) ∙ sym (c .before .holds-back .ensures) in
+    ap (holdsBack (a .k)) (ports-at t i p h) ∙ sym (c .before .holds-back .ensures) in
     (omega arith, inv .1, inv .2 ∙ held-further (a .k) (ports t) i p in-list (told ∙ (c .if1 .left)) ∙ ap (λ (m : ℕ). heldBack (a .k) (drop m (ports t))) (sym (add-one i)))
 
 returns-2 : tie.Need-returns-2 Inv-loop μ-loop
@@ -83,7 +80,6 @@ is-held-back-spec =
     shared-slice-read-n
     cast-n
     loop-holds
-    load-requires
     holds-back-requires
     returns
     add-i
