@@ -44,10 +44,10 @@ fn attach_one(table: &mut [u8], i: usize)
     requires { ⌜ (tableInRange (now table) ≡ true) × (i < countIn (now table)) ⌝ }
     ensures { λ _. ⌜ Worked (now (table .entry)) (now (table .exit)) (set (ports (now (table .entry))) i (attachedIf (ready (portAt (now (table .entry)) i .aggregator) (ports (now (table .entry)))) (portAt (now (table .entry)) i))) ⌝ }
 {
-    let p = table::load(table, i);
-    let h = p.phase;
+    let h = table::phase(table, i);
     let m = h.mux;
     if m.waits() {
+        let p = table::load(table, i);
         let held = is_held_back(table, p.aggregator);
         let q = p.attach(!held);
         table::store(table, i, q);

@@ -16,11 +16,14 @@ use borrow.Author.Needs.{needs}
 use Rattle.trunk.proofs.ready.attach_one.Statement.{statement}
 use Rattle.trunk.proofs.ready.attach_one.Tie as tie
 
-load-requires : tie.Need-load-requires
-load-requires c κs = room _ (c .before .before .pre .0) (c .before .before .args .i) (c .before .before .pre .1)
+phase-requires : tie.Need-phase-requires
+phase-requires c κs = room _ (c .before .before .pre .0) (c .before .before .args .i) (c .before .before .pre .1)
 
 waits-requires : tie.Need-waits-requires
 waits-requires c κs = search needs
+
+load-requires : tie.Need-load-requires
+load-requires c κs = room _ (c .before .before .before .before .before .before .pre .0) (c .before .before .before .before .before .before .args .i) (c .before .before .before .before .before .before .pre .1)
 
 is-held-back-requires : tie.Need-is-held-back-requires
 is-held-back-requires c κs = search needs
@@ -29,23 +32,23 @@ attach-requires : tie.Need-attach-requires
 attach-requires c κs = search needs
 
 store-requires : tie.Need-store-requires
-store-requires c κs = room _ (c .before .before .before .before .before .before .before .before .before .before .pre .0) (c .before .before .before .before .before .before .before .before .before .before .args .i) (c .before .before .before .before .before .before .before .before .before .before .pre .1)
+store-requires c κs = room _ (c .before .before .before .before .before .before .before .before .before .before .before .pre .0) (c .before .before .before .before .before .before .before .before .before .before .before .args .i) (c .before .before .before .before .before .before .before .before .before .before .before .pre .1)
 
 same-length : tie.Need-same-length
 same-length c = search needs
 
 returns : tie.Need-returns
 returns c =
-    let a = (c .before .before .before .before .before .before .before .before .before .before .before .before .before .args) in
+    let a = (c .before .before .before .before .before .before .before .before .before .before .before .before .before .before .args) in
     let t = now (a .table) in
-    let e = (c .before .before .before .before .before .before .before .before .before .before .before .before .before .pre .0) in
-    let h = (c .before .before .before .before .before .before .before .before .before .before .before .before .before .pre .1) in
+    let e = (c .before .before .before .before .before .before .before .before .before .before .before .before .before .before .pre .0) in
+    let h = (c .before .before .before .before .before .before .before .before .before .before .before .before .before .before .pre .1) in
     let p = portAt t (a .i) in
-    let fit = attached-ranged (countIn t) (ready (p .aggregator) (ports t)) p (ranged-at t e (λ j. (c .before .before .before .before .before .before .before .before .before .before .before .before .slice-known .given) j .fits) (a .i) h) in
+    let fit = attached-ranged (countIn t) (ready (p .aggregator) (ports t)) p (ranged-at t e (λ j. (c .before .before .before .before .before .before .before .before .before .before .before .before .before .slice-known .given) j .fits) (a .i) h) in
     let here = ports-at t (a .i) p h in
     let once : attachedIf (not (heldBack (p .aggregator) (ports t))) p ≡ attachedIf (ready (p .aggregator) (ports t)) p =
     rw here at (attach-ready (ports t) (a .i) p (rw ports-length h)) in
-    rw ((c .before .before .store .ensures), (c .before .before .before .before .attach .ensures), (c .before .before .before .before .before .is-held-back .ensures), (c .before .before .before .before .before .before .before .before .before .before .load .ensures), once)
+    rw ((c .before .before .store .ensures), (c .before .before .before .before .attach .ensures), (c .before .before .before .before .before .is-held-back .ensures), (c .before .before .before .before .before .before .before .load .ensures), once)
     (stored t (a .i) (attachedIf (ready (p .aggregator) (ports t)) p) e h fit)
 
 same-length-2 : tie.Need-same-length-2
@@ -53,18 +56,19 @@ same-length-2 c = search needs
 
 returns-2 : tie.Need-returns-2
 returns-2 c =
-    let a = (c .before .before .before .before .before .before .args) in
+    let a = (c .before .before .before .before .before .args) in
     let t = now (a .table) in
     let p = portAt t (a .i) in
-    let other : waits (p .phase .mux) ≡ false = rw (c .before .before .before .load .ensures) at (sym (c .before .waits .ensures) ∙ c .if1 .left) in
-    left-alone t (a .i) (attachedIf (ready (p .aggregator) (ports t)) p) (c .before .before .before .before .before .before .pre .0) (c .before .before .before .before .before .before .pre .1) (attached-other (ready (p .aggregator) (ports t)) p other)
+    let other : waits (p .phase .mux) ≡ false = rw (c .before .before .phase .ensures) at (sym (c .before .waits .ensures) ∙ c .if1 .left) in
+    left-alone t (a .i) (attachedIf (ready (p .aggregator) (ports t)) p) (c .before .before .before .before .before .pre .0) (c .before .before .before .before .before .pre .1) (attached-other (ready (p .aggregator) (ports t)) p other)
 
 pub attach-one-spec : {M : Type 1} → statement M
 attach-one-spec =
     tie.close
     (tie.spec
-    load-requires
+    phase-requires
     waits-requires
+    load-requires
     is-held-back-requires
     attach-requires
     store-requires
