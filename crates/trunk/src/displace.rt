@@ -43,10 +43,14 @@ fn displace_one(table: &mut [u8], i: usize, r: usize, a: Block)
     requires { ⌜ (tableInRange (now table) ≡ true) × (i < countIn (now table)) ⌝ }
     ensures { λ _. ⌜ Worked (now (table .entry)) (now (table .exit)) (set (ports (now (table .entry))) i (displacedIf r a i (portAt (now (table .entry)) i))) ⌝ }
 {
-    let p = table::load(table, i);
-    if !(i == r) & is_displaced(p, a) {
-        let q = p.moved_away();
-        table::store(table, i, q);
+    let h = table::phase(table, i);
+    let s = h.receive;
+    if is_disabled(s) {
+        let p = table::load(table, i);
+        if !(i == r) & is_displaced(p, a) {
+            let q = p.moved_away();
+            table::store(table, i, q);
+        }
     }
 }
 

@@ -1,8 +1,8 @@
 -- `trunk::displace::displace_one` meets its contract: a record that is displaced is loaded, stepped and stored, and stays in range; any
--- other is left alone, as the definition leaves it. Assumes nothing.
+-- other is left alone, as the definition leaves it. One that is not in PORT_DISABLED is not displaced. Assumes nothing.
 use Prim.Native.Nat.{ℕ}
-use mathlib.Core.Path.{_≡_, sym}
-use mathlib.Core.Bool.{true, false, not, _&&_}
+use mathlib.Core.Path.{_≡_, sym, _∙_}
+use mathlib.Core.Bool.{true, false, not, _&&_, and-false}
 use lib.Dec.{eqb}
 use denote.Ref.{now}
 use Rattle.frame.specs.declared.block.Block.{Block}
@@ -10,7 +10,7 @@ use Rattle.port.specs.declared.record.Port.{Port}
 use Rattle.port.specs.Receive.{moved}
 use Rattle.table.specs.Table.{countIn, portAt}
 use Rattle.trunk.proofs.TableWork.{room, ranged-at, stored, left-alone}
-use Rattle.trunk.specs.Displaced.{isDisplaced, displacedIf}
+use Rattle.trunk.specs.Displaced.{isDisabled, isDisplaced, displacedIf}
 use Rattle.trunk.proofs.RangeKept.{displaced-ranged}
 use borrow.Author.Needs.{needs}
 use Rattle.trunk.proofs.displace.displace_one.Statement.{statement}
@@ -24,8 +24,18 @@ stays : (r : ℕ) (a : Block) (i : ℕ) (p : Port) → not (eqb i r) && isDispla
 unfolding displacedIf
 stays r a i p e = rw e
 
+enabled : (r : ℕ) (a : Block) (i : ℕ) (p : Port) → isDisabled (p .phase .receive) ≡ false → not (eqb i r) && isDisplaced a p ≡ false
+unfolding isDisplaced
+enabled r a i p e = rw (e, and-false (not (eqb i r)))
+
+phase-requires : tie.Need-phase-requires
+phase-requires c κs = room _ (c .before .before .pre .0) (c .before .before .args .i) (c .before .before .pre .1)
+
+is-disabled-requires : tie.Need-is-disabled-requires
+is-disabled-requires c κs = search needs
+
 load-requires : tie.Need-load-requires
-load-requires c κs = room _ (c .before .before .pre .0) (c .before .before .args .i) (c .before .before .pre .1)
+load-requires c κs = room _ (c .before .before .before .before .before .before .pre .0) (c .before .before .before .before .before .before .args .i) (c .before .before .before .before .before .before .pre .1)
 
 is-displaced-requires : tie.Need-is-displaced-requires
 is-displaced-requires c κs = search needs
@@ -34,20 +44,20 @@ moved-away-requires : tie.Need-moved-away-requires
 moved-away-requires c κs = search needs
 
 store-requires : tie.Need-store-requires
-store-requires c κs = room _ (c .before .before .before .before .before .before .before .pre .0) (c .before .before .before .before .before .before .before .args .i) (c .before .before .before .before .before .before .before .pre .1)
+store-requires c κs = room _ (c .before .before .before .before .before .before .before .before .before .before .before .pre .0) (c .before .before .before .before .before .before .before .before .before .before .before .args .i) (c .before .before .before .before .before .before .before .before .before .before .before .pre .1)
 
 same-length : tie.Need-same-length
 same-length c = search needs
 
 returns : tie.Need-returns
 returns c =
-    let a = (c .before .before .before .before .before .before .before .before .before .before .args) in
+    let a = (c .before .before .before .before .before .before .before .before .before .before .before .before .before .before .args) in
     let t = now (a .table) in
-    let e = (c .before .before .before .before .before .before .before .before .before .before .pre .0) in
-    let h = (c .before .before .before .before .before .before .before .before .before .before .pre .1) in
+    let e = (c .before .before .before .before .before .before .before .before .before .before .before .before .before .before .pre .0) in
+    let h = (c .before .before .before .before .before .before .before .before .before .before .before .before .before .before .pre .1) in
     let p = portAt t (a .i) in
-    let fit = displaced-ranged (countIn t) (a .r) (a .a) (a .i) p (ranged-at t e (λ j. (c .before .before .before .before .before .before .before .before .before .slice-known .given) j .fits) (a .i) h) in
-    let move : not (eqb (a .i) (a .r)) && isDisplaced (a .a) p ≡ true = rw ((c .before .before .before .before .before .before .is-displaced .ensures), (c .before .before .before .before .before .before .before .load .ensures)) at (c .before .before .before .before .before .if1 .taken) in
+    let fit = displaced-ranged (countIn t) (a .r) (a .a) (a .i) p (ranged-at t e (λ j. (c .before .before .before .before .before .before .before .before .before .before .before .before .before .slice-known .given) j .fits) (a .i) h) in
+    let move : not (eqb (a .i) (a .r)) && isDisplaced (a .a) p ≡ true = rw ((c .before .before .before .before .before .before .is-displaced .ensures), (c .before .before .before .before .before .before .before .load .ensures)) at (c .before .before .before .before .before .if2 .taken) in
     let is : moved p ≡ displacedIf (a .r) (a .a) (a .i) p = sym (moves (a .r) (a .a) (a .i) p move) in
     rw ((c .before .before .store .ensures), (c .before .before .before .before .moved-away .ensures), (c .before .before .before .before .before .before .before .load .ensures), is)
     (stored t (a .i) (displacedIf (a .r) (a .a) (a .i) p) e h fit)
@@ -57,16 +67,29 @@ same-length-2 c = search needs
 
 returns-2 : tie.Need-returns-2
 returns-2 c =
+    let a = (c .before .before .before .before .before .before .before .before .before .args) in
+    let t = now (a .table) in
+    let p = portAt t (a .i) in
+    let stay : not (eqb (a .i) (a .r)) && isDisplaced (a .a) p ≡ false = rw ((c .before .is-displaced .ensures), (c .before .before .load .ensures)) at (c .if2 .left) in
+    left-alone t (a .i) (displacedIf (a .r) (a .a) (a .i) p) (c .before .before .before .before .before .before .before .before .before .pre .0) (c .before .before .before .before .before .before .before .before .before .pre .1) (stays (a .r) (a .a) (a .i) p stay)
+
+same-length-3 : tie.Need-same-length-3
+same-length-3 c = search needs
+
+returns-3 : tie.Need-returns-3
+returns-3 c =
     let a = (c .before .before .before .before .before .args) in
     let t = now (a .table) in
     let p = portAt t (a .i) in
-    let stay : not (eqb (a .i) (a .r)) && isDisplaced (a .a) p ≡ false = rw ((c .before .is-displaced .ensures), (c .before .before .load .ensures)) at (c .if1 .left) in
-    left-alone t (a .i) (displacedIf (a .r) (a .a) (a .i) p) (c .before .before .before .before .before .pre .0) (c .before .before .before .before .before .pre .1) (stays (a .r) (a .a) (a .i) p stay)
+    let other : isDisabled (p .phase .receive) ≡ false = rw (c .before .before .phase .ensures) at (sym (c .before .is-disabled .ensures) ∙ c .if1 .left) in
+    left-alone t (a .i) (displacedIf (a .r) (a .a) (a .i) p) (c .before .before .before .before .before .pre .0) (c .before .before .before .before .before .pre .1) (stays (a .r) (a .a) (a .i) p (enabled (a .r) (a .a) (a .i) p other))
 
 pub displace-one-spec : {M : Type 1} → statement M
 displace-one-spec =
     tie.close
     (tie.spec
+    phase-requires
+    is-disabled-requires
     load-requires
     is-displaced-requires
     moved-away-requires
@@ -74,4 +97,6 @@ displace-one-spec =
     same-length
     returns
     same-length-2
-    returns-2)
+    returns-2
+    same-length-3
+    returns-3)
