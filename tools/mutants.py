@@ -217,16 +217,18 @@ MUTANTS = [
     Mutant("2 one group", "own keys not compared", ("two-groups",), "trunk::select::same_group", (
         ("trunk/specs/Selection.antt", "sameKeys c d = eqb (c .key) (d .key) &&", "sameKeys c d = eqb (c .key) (c .key) &&"),
         ("trunk/src/select.rt", "(p.own.key == q.own.key)", "(p.own.key == p.own.key)"))),
-    Mutant("3 locality", "a port displaced though its partner has not moved", ("locality-heard",), "trunk::displace::displace", (
+    Mutant("3 locality", "every call moves every port anew", ("locality-heard", "locality-fallen"), "trunk::select::must_move", (
+        ("trunk/specs/Settled.antt", "|| not (eqb (p .aggregator) k)", "|| not (eqb (p .aggregator) 0)"),
+        ("trunk/src/select.rt", "is_unselected(s) | !(p.aggregator == k)", "is_unselected(s) | !(p.aggregator == 0)"))),
+    Mutant("3 locality", "a port displaced though its partner has not moved", ("locality-heard",), "", (
         ("trunk/specs/Displaced.antt", "displacedIf r a i p = cond (not (eqb i r) && isDisplaced a p) (moved p) p",
-         "displacedIf r a i p = cond (not (eqb i r) && not (isDisplaced a p)) (moved p) p"),
-        ("trunk/src/displace.rt", "if !(i == r) & is_displaced(p, a)", "if !(i == r) & !is_displaced(p, a)"))),
+         "displacedIf r a i p = cond (not (eqb i r) && not (isDisplaced a p)) (moved p) p"),)),
     Mutant("3 locality", "every call ages every port", ("locality-heard", "locality-fallen"), "", (
         ("work/specs/Work.antt", "worked s ps = settled s (map periodicRun ps)",
          "worked s ps = settled s (map (λ (p : Port). periodicRun (Rattle.port.specs.Transmit.ticked p)) ps)"),)),
     Mutant("3 a group's own timers", "a Ready that another group's timer holds back", ("distributing",), "trunk::ready::holds_back", (
         ("trunk/specs/Ready.antt", "waitsFor k p = eqb (p .aggregator) k &&", "waitsFor k p = eqb (p .aggregator) (p .aggregator) &&"),
-        ("trunk/src/ready.rt", "((p.aggregator == k) & m.waits())", "((p.aggregator == p.aggregator) & m.waits())"))),
+        ("trunk/src/ready.rt", "((held == k) & m.waits())", "((held == held) & m.waits())"))),
     Mutant("4 at rest", "PERIODIC_TX that leads to NO_PERIODIC", ("at-rest",), "machine::periodic::next", (
         ("machine/specs/Periodic.antt", "periodicNext PeriodicTx false out true = Enter FastPeriodic", "periodicNext PeriodicTx false out true = Enter NoPeriodic"),
         ("machine/src/periodic.rt", "                return PeriodicStep::Enter(Periodic::FastPeriodic);", "                return PeriodicStep::Enter(Periodic::NoPeriodic);"))),
@@ -262,7 +264,7 @@ MUTANTS = [
     Mutant("7 reports", "COLLECTING counted as distributing", ("narrowed-true",), "report::stands_to", (
         ("report/specs/Sets.antt", "stands Distributes k p = eqb (p .aggregator) k && distributes (p .phase .mux)",
          "stands Distributes k p = eqb (p .aggregator) k && Rattle.machine.specs.Mux.collects (p .phase .mux)"),
-        ("report/src/lib.rt", "Standing::Distributes => (p.aggregator == k) & m.distributes()", "Standing::Distributes => (p.aggregator == k) & m.collects()"),
+        ("report/src/lib.rt", "Standing::Distributes => (held == k) & m.distributes()", "Standing::Distributes => (held == k) & m.collects()"),
         ("report/proofs/stands_to/Proof.antt", "distributes-requires : tie.Need-distributes-requires\ndistributes-requires c",
          "collects-requires : tie.Need-collects-requires\ncollects-requires c"),
         ("report/proofs/stands_to/Proof.antt", "c .distributes .ensures", "c .collects .ensures"),
