@@ -1,12 +1,13 @@
 -- What the loops of steps 5 and 6 need: every port is SELECTED after step 4, and Ready reads the same in the partly attached table. Assumes nothing.
 use Prim.Native.Nat.{ℕ, zero, suc, _+_, _<_}
 use mathlib.Core.Path.{_≡_, refl, sym, ap, _∙_}
-use mathlib.Core.Bool.{Bool, true, false, cond, not, _&&_, _||_}
+use mathlib.Core.Bool.{Bool, true, false, cond, not, _&&_, _||_, false≢true, true≢false}
 use mathlib.Core.List.{List}
 use native.Mathlib.Omega.{arith}
 use lib.ListN.{length, getD, drop}
 use lib.Seq.{drop-cons, drop-length}
 use Rattle.frame.specs.declared.block.SystemId.{SystemId}
+use Rattle.machine.specs.declared.states.Selection.the-variants.{Selected}
 use Rattle.machine.specs.Mux.{waits}
 use Rattle.port.specs.declared.record.Port.{Port}
 use Rattle.port.specs.Mux.{attachedIf}
@@ -18,7 +19,7 @@ use Rattle.trunk.specs.Worked.{Worked}
 use Rattle.trunk.proofs.SweepLaws.{doneTo}
 use Rattle.trunk.proofs.TableWork.{next-is}
 use Rattle.trunk.proofs.SettledLaws.{selected-chosen, selected-length}
-use Rattle.trunk.proofs.ReadyLaws.{attaching, attached-other, some-waits, waits-own, ready-meanwhile}
+use Rattle.trunk.proofs.ReadyLaws.{attaching, attached-other, attached-stays, some-waits, waits-own, ready-meanwhile}
 
 -- ---- every port is SELECTED after step 4
 
@@ -56,6 +57,34 @@ attach-ready ps i d h = by (waits (getD ps i d .phase .mux)) refl
         ap (λ (b : Bool). attachedIf b (getD ps i d))
         (sym (ready-is (getD ps i d .aggregator) ps (some-waits (getD ps i d .aggregator) ps i d h (waits-own (getD ps i d) e))))
     by false e = attached-other _ (getD ps i d) e ∙ sym (attached-other _ (getD ps i d) e)
+
+-- a port that waits and is not held back attaches
+pub attach-free : (ps : List Port) (i : ℕ) (d : Port) → i < length ps
+    → waits (getD ps i d .phase .mux) && not (heldBack (getD ps i d .aggregator) ps) ≡ true → attachedIf true (getD ps i d) ≡ attaching ps i (getD ps i d)
+attach-free ps i d h e = by (waits (getD ps i d .phase .mux)) (heldBack (getD ps i d .aggregator) ps) refl e
+  where
+    by : (w b : Bool) → heldBack (getD ps i d .aggregator) ps ≡ b → w && not b ≡ true → attachedIf true (getD ps i d) ≡ attaching ps i (getD ps i d)
+    by true false x e = ap (λ (b : Bool). attachedIf (not b) (getD ps i d)) (sym x) ∙ attach-ready ps i d h
+    by true true x e = absurd (false≢true e)
+    by false b x e = absurd (false≢true e)
+
+-- a SELECTED port that does not wait, or is held back, is left alone
+pub attach-held : (ps : List Port) (i : ℕ) (d : Port) → i < length ps → getD ps i d .phase .selected ≡ Selected
+    → waits (getD ps i d .phase .mux) && not (heldBack (getD ps i d .aggregator) ps) ≡ false → attaching ps i (getD ps i d) ≡ getD ps i d
+attach-held ps i d h s e = by (waits (getD ps i d .phase .mux)) (heldBack (getD ps i d .aggregator) ps) refl refl e
+  where
+    by : (w b : Bool) → waits (getD ps i d .phase .mux) ≡ w → heldBack (getD ps i d .aggregator) ps ≡ b → w && not b ≡ false
+        → attaching ps i (getD ps i d) ≡ getD ps i d
+    by false b w x e = attached-other _ (getD ps i d) w
+    by true true w x e = sym (attach-ready ps i d h) ∙ ap (λ (b : Bool). attachedIf (not b) (getD ps i d)) x ∙ attached-stays (getD ps i d) w s
+    by true false w x e = absurd (true≢false e)
+
+-- in the partly attached table, port i is still SELECTED
+pub still-selected : {t u : List ℕ} (i : ℕ) → AllSelected (ports t) → Worked t u (doneTo (attaching (ports t)) i (ports t)) → i < countIn t
+    → portAt u i .phase .selected ≡ Selected
+still-selected {t} {u} i chosen so-far h =
+    let here : getD (ports t) i (portAt t i) ≡ portAt t i = ports-at t i (portAt t i) h in
+    rw (next-is (attaching (ports t)) i so-far h) (rw here at (chosen i (portAt t i) (rw ports-length h)))
 
 -- in the partly attached table, the step of port i is what it was in the whole
 pub attach-same : {t u : List ℕ} (i : ℕ) → AllSelected (ports t) → Worked t u (doneTo (attaching (ports t)) i (ports t)) → i < countIn t

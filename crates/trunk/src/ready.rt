@@ -1,8 +1,10 @@
 // Ready of an aggregator (43.4.8), and step 5.
 ghost use mathlib.Core.Path.{_≡_};
-ghost use mathlib.Core.Bool.{true};
+ghost use mathlib.Core.Bool.{true, not, _&&_};
 ghost use Prim.Native.Nat.{_<_, _+_, _≤_};
 ghost use lib.ListN.{length, set};
+ghost use Rattle.machine.specs.declared.states.Selection.the-variants.{Selected};
+ghost use Rattle.machine.specs.Mux.{waits};
 ghost use Rattle.port.specs.Mux.{attachedIf};
 ghost use Rattle.table.specs.Layout.{place, recordSize};
 ghost use Rattle.table.specs.Table.{tableInRange, countIn, ports, portAt};
@@ -38,18 +40,28 @@ fn is_held_back(table: &[u8], k: u8) -> bool
     false
 }
 
-// Step 5 for port i. A port that does not wait is left alone. Where it waits, its aggregator has a waiting port, so it is Ready
-// unless somebody holds it back.
-fn attach_one(table: &mut [u8], i: usize)
+// Whether port i waits and nobody holds its aggregator back.
+fn may_attach(table: &[u8], i: usize) -> bool
     requires { ⌜ (tableInRange (now table) ≡ true) × (i < countIn (now table)) ⌝ }
-    ensures { λ _. ⌜ Worked (now (table .entry)) (now (table .exit)) (set (ports (now (table .entry))) i (attachedIf (ready (portAt (now (table .entry)) i .aggregator) (ports (now (table .entry)))) (portAt (now (table .entry)) i))) ⌝ }
+    ensures { λ r. ⌜ r ≡ waits (portAt (now (table .entry)) i .phase .mux) && not (heldBack (portAt (now (table .entry)) i .aggregator) (ports (now (table .entry)))) ⌝ }
 {
     let h = table::phase(table, i);
     let m = h.mux;
     if m.waits() {
+        return !is_held_back(table, table::aggregator(table, i));
+    }
+    false
+}
+
+// Step 5 for port i, which is SELECTED. Where it waits, its aggregator has a waiting port, so it is Ready unless somebody holds it
+// back. A port that does not wait, or is held back, is left alone.
+fn attach_one(table: &mut [u8], i: usize)
+    requires { ⌜ (tableInRange (now table) ≡ true) × (i < countIn (now table)) × (portAt (now table) i .phase .selected ≡ Selected) ⌝ }
+    ensures { λ _. ⌜ Worked (now (table .entry)) (now (table .exit)) (set (ports (now (table .entry))) i (attachedIf (ready (portAt (now (table .entry)) i .aggregator) (ports (now (table .entry)))) (portAt (now (table .entry)) i))) ⌝ }
+{
+    if may_attach(table, i) {
         let p = table::load(table, i);
-        let held = is_held_back(table, p.aggregator);
-        let q = p.attach(!held);
+        let q = p.attach(true);
         table::store(table, i, q);
     }
 }

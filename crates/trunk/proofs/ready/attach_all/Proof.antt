@@ -11,7 +11,7 @@ use Rattle.trunk.specs.Settled.{attachedAll}
 use Rattle.trunk.specs.Worked.{Worked}
 use Rattle.trunk.proofs.SweepLaws.{doneTo, sweep-map}
 use Rattle.trunk.proofs.ReadyLaws.{attaching}
-use Rattle.trunk.proofs.StepLaws.{attach-same}
+use Rattle.trunk.proofs.StepLaws.{still-selected, attach-same}
 use Rattle.trunk.proofs.TableWork.{loop-begins, loop-ends, in-table, turn, said}
 use Rattle.trunk.proofs.ready.attach_all.Statement.{statement}
 use Rattle.trunk.proofs.ready.attach_all.Tie as tie
@@ -38,7 +38,9 @@ attach-one-requires : tie.Need-attach-one-requires Inv-loop μ-loop
 attach-one-requires c κs =
     let inv = (c .before .before .loop .inv) in
     let t = now (c .before .before .before .before .before .args .table) in
-    (inv .2 .ranged, in-table (attaching (ports t)) (c .before .before .loop .i) (inv .2) (omega arith))
+    let i = (c .before .before .loop .i) in
+    let h : i < countIn t = omega arith in
+    (inv .2 .ranged, in-table (attaching (ports t)) i (inv .2) h, still-selected i (c .before .before .before .before .before .pre .1) (inv .2) h)
 
 add-i : tie.Need-add-i Inv-loop μ-loop
 add-i c = let most = in-range _ (c .before .before .before .before .before .before .before .before .pre .0) .most in omega arith

@@ -1,54 +1,49 @@
--- `trunk::ready::attach_one` meets its contract: a record that waits is loaded, stepped and stored, and stays in range; one that does
--- not wait is what step 5 makes of it. Assumes nothing.
+-- `trunk::ready::attach_one` meets its contract: a record that may attach is loaded, stepped and stored, and stays in range; any other is
+-- what step 5 makes of it. Assumes nothing.
 use mathlib.Core.Path.{_≡_, sym, _∙_}
-use mathlib.Core.Bool.{false, not}
+use mathlib.Core.Bool.{true, false, not, _&&_}
 use denote.Ref.{now}
+use Rattle.machine.specs.declared.states.Selection.the-variants.{Selected}
 use Rattle.machine.specs.Mux.{waits}
 use Rattle.port.specs.Mux.{attachedIf}
 use Rattle.table.specs.Table.{countIn, ports, portAt}
 use Rattle.table.proofs.StoreLaws.{ports-length, ports-at}
 use Rattle.trunk.specs.Ready.{heldBack, ready}
 use Rattle.trunk.proofs.RangeKept.{attached-ranged}
-use Rattle.trunk.proofs.ReadyLaws.{attached-other}
-use Rattle.trunk.proofs.StepLaws.{attach-ready}
+use Rattle.trunk.proofs.StepLaws.{attach-free, attach-held}
 use Rattle.trunk.proofs.TableWork.{room, ranged-at, stored, left-alone}
 use borrow.Author.Needs.{needs}
 use Rattle.trunk.proofs.ready.attach_one.Statement.{statement}
 use Rattle.trunk.proofs.ready.attach_one.Tie as tie
 
-phase-requires : tie.Need-phase-requires
-phase-requires c κs = room _ (c .before .before .pre .0) (c .before .before .args .i) (c .before .before .pre .1)
-
-waits-requires : tie.Need-waits-requires
-waits-requires c κs = search needs
+may-attach-requires : tie.Need-may-attach-requires
+may-attach-requires c κs = (c .before .before .pre .0, c .before .before .pre .1)
 
 load-requires : tie.Need-load-requires
-load-requires c κs = room _ (c .before .before .before .before .before .before .pre .0) (c .before .before .before .before .before .before .args .i) (c .before .before .before .before .before .before .pre .1)
-
-is-held-back-requires : tie.Need-is-held-back-requires
-is-held-back-requires c κs = search needs
+load-requires c κs = room _ (c .before .before .before .before .before .pre .0) (c .before .before .before .before .before .args .i) (c .before .before .before .before .before .pre .1)
 
 attach-requires : tie.Need-attach-requires
 attach-requires c κs = search needs
 
 store-requires : tie.Need-store-requires
-store-requires c κs = room _ (c .before .before .before .before .before .before .before .before .before .before .before .pre .0) (c .before .before .before .before .before .before .before .before .before .before .before .args .i) (c .before .before .before .before .before .before .before .before .before .before .before .pre .1)
+store-requires c κs = room _ (c .before .before .before .before .before .before .before .before .pre .0) (c .before .before .before .before .before .before .before .before .args .i) (c .before .before .before .before .before .before .before .before .pre .1)
 
 same-length : tie.Need-same-length
 same-length c = search needs
 
 returns : tie.Need-returns
 returns c =
-    let a = (c .before .before .before .before .before .before .before .before .before .before .before .before .before .before .args) in
+    let a = (c .before .before .before .before .before .before .before .before .before .before .before .args) in
     let t = now (a .table) in
-    let e = (c .before .before .before .before .before .before .before .before .before .before .before .before .before .before .pre .0) in
-    let h = (c .before .before .before .before .before .before .before .before .before .before .before .before .before .before .pre .1) in
+    let e = (c .before .before .before .before .before .before .before .before .before .before .before .pre .0) in
+    let h = (c .before .before .before .before .before .before .before .before .before .before .before .pre .1) in
     let p = portAt t (a .i) in
-    let fit = attached-ranged (countIn t) (ready (p .aggregator) (ports t)) p (ranged-at t e (λ j. (c .before .before .before .before .before .before .before .before .before .before .before .before .before .slice-known .given) j .fits) (a .i) h) in
+    let fit = attached-ranged (countIn t) (ready (p .aggregator) (ports t)) p (ranged-at t e (λ j. (c .before .before .before .before .before .before .before .before .before .before .slice-known .given) j .fits) (a .i) h) in
     let here = ports-at t (a .i) p h in
-    let once : attachedIf (not (heldBack (p .aggregator) (ports t))) p ≡ attachedIf (ready (p .aggregator) (ports t)) p =
-    rw here at (attach-ready (ports t) (a .i) p (rw ports-length h)) in
-    rw ((c .before .before .store .ensures), (c .before .before .before .before .attach .ensures), (c .before .before .before .before .before .is-held-back .ensures), (c .before .before .before .before .before .before .before .load .ensures), once)
+    let told : waits (p .phase .mux) && not (heldBack (p .aggregator) (ports t)) ≡ true = sym (c .before .before .before .before .before .before .before .before .may-attach .ensures) ∙ c .before .before .before .before .before .before .before .if1 .taken in
+    let is : attachedIf true p ≡ attachedIf (ready (p .aggregator) (ports t)) p =
+    rw here at (attach-free (ports t) (a .i) p (rw ports-length h) (rw here told)) in
+    rw ((c .before .before .store .ensures), (c .before .before .before .before .attach .ensures), (c .before .before .before .before .before .load .ensures), is)
     (stored t (a .i) (attachedIf (ready (p .aggregator) (ports t)) p) e h fit)
 
 same-length-2 : tie.Need-same-length-2
@@ -56,20 +51,22 @@ same-length-2 c = search needs
 
 returns-2 : tie.Need-returns-2
 returns-2 c =
-    let a = (c .before .before .before .before .before .args) in
+    let a = (c .before .before .before .before .args) in
     let t = now (a .table) in
+    let h = (c .before .before .before .before .pre .1) in
     let p = portAt t (a .i) in
-    let other : waits (p .phase .mux) ≡ false = rw (c .before .before .phase .ensures) at (sym (c .before .waits .ensures) ∙ c .if1 .left) in
-    left-alone t (a .i) (attachedIf (ready (p .aggregator) (ports t)) p) (c .before .before .before .before .before .pre .0) (c .before .before .before .before .before .pre .1) (attached-other (ready (p .aggregator) (ports t)) p other)
+    let here = ports-at t (a .i) p h in
+    let told : waits (p .phase .mux) && not (heldBack (p .aggregator) (ports t)) ≡ false = sym (c .before .may-attach .ensures) ∙ c .if1 .left in
+    let is : attachedIf (ready (p .aggregator) (ports t)) p ≡ p =
+    rw here at (attach-held (ports t) (a .i) p (rw ports-length h) (rw here (c .before .before .before .before .pre .2)) (rw here told)) in
+    left-alone t (a .i) (attachedIf (ready (p .aggregator) (ports t)) p) (c .before .before .before .before .pre .0) h is
 
 pub attach-one-spec : {M : Type 1} → statement M
 attach-one-spec =
     tie.close
     (tie.spec
-    phase-requires
-    waits-requires
+    may-attach-requires
     load-requires
-    is-held-back-requires
     attach-requires
     store-requires
     same-length
