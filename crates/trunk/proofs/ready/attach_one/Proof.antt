@@ -3,7 +3,6 @@
 use mathlib.Core.Path.{_≡_, sym, _∙_}
 use mathlib.Core.Bool.{true, false, not, _&&_}
 use denote.Ref.{now}
-use Rattle.machine.specs.declared.states.Selection.the-variants.{Selected}
 use Rattle.machine.specs.Mux.{waits}
 use Rattle.port.specs.Mux.{attachedIf}
 use Rattle.table.specs.Table.{countIn, ports, portAt}
