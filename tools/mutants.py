@@ -217,9 +217,13 @@ MUTANTS = [
     Mutant("2 one group", "own keys not compared", ("two-groups",), "trunk::select::same_group", (
         ("trunk/specs/Selection.antt", "sameKeys c d = eqb (c .key) (d .key) &&", "sameKeys c d = eqb (c .key) (c .key) &&"),
         ("trunk/src/select.rt", "(p.own.key == q.own.key)", "(p.own.key == p.own.key)"))),
-    Mutant("3 locality", "every call moves every port anew", ("locality-heard", "locality-fallen"), "trunk::select::must_move", (
-        ("trunk/specs/Settled.antt", "|| not (eqb (p .aggregator) k)", "|| not (eqb (p .aggregator) 0)"),
-        ("trunk/src/select.rt", "is_unselected(s) | !(p.aggregator == k)", "is_unselected(s) | !(p.aggregator == 0)"))),
+    Mutant("3 locality", "SLOW_PERIODIC that never rests, so that each call moves every port's pace", ("locality-heard", "locality-fallen"),
+           "machine::periodic::next", (
+        ("machine/specs/Periodic.antt", "periodicNext SlowPeriodic false false false = Stay", "periodicNext SlowPeriodic false false false = Enter NoPeriodic"),
+        ("machine/src/periodic.rt", "            PeriodicStep::Stay\n        }\n        Periodic::PeriodicTx",
+         "            PeriodicStep::Enter(Periodic::NoPeriodic)\n        }\n        Periodic::PeriodicTx"),
+        ("machine/proofs/periodic/next/Proof.antt", "returns-9 c = search needs",
+         "returns-9 c = simp (c .if5 .left, c .before .if4 .left, c .before .before .enum-told3 .given .1, c .before .before .before .before .if1 .left)"))),
     Mutant("3 locality", "a port displaced though its partner has not moved", ("locality-heard",), "", (
         ("trunk/specs/Displaced.antt", "displacedIf r a i p = cond (not (eqb i r) && isDisplaced a p) (moved p) p",
          "displacedIf r a i p = cond (not (eqb i r) && not (isDisplaced a p)) (moved p) p"),)),
