@@ -4,9 +4,10 @@ use mathlib.Core.Bool.{Bool, cond, not, _&&_}
 use lib.Dec.{eqb, leb}
 use Rattle.machine.specs.declared.states.Ages.{Ages}
 
--- the age at which a send is forgotten (request M-101 moves it), and what stands where there is no send
+-- the age at which a send is forgotten: eleven ticks have ten whole intervals between them, a Fast_Periodic_Time; and what stands where there is
+-- no send
 abbrev pub forgottenAge : ℕ
-forgottenAge = 10
+forgottenAge = 11
 
 abbrev pub noSend : ℕ
 noSend = 255

@@ -6,8 +6,8 @@ use crate::states::Ages;
 use crate::states::Ticks;
 use crate::states::Timers;
 
-// The age at which a send is forgotten.
-pub const FORGOTTEN_AGE: u8 = 10;
+// The age at which a send is forgotten: eleven ticks have ten whole intervals between them.
+pub const FORGOTTEN_AGE: u8 = 11;
 // What stands where there is no send.
 pub const NO_SEND: u8 = 255;
 

@@ -54,11 +54,11 @@ fallen-ranged t e =
     joined (falls (t .current .0) longTimeoutTime (a .0)) (joined (falls (t .periodic .0) slowPeriodicTime (b .0)) (falls (t .wait .0) aggregateWaitTime (b .1)))
 
 aged-ranged : (n : ℕ) → ageInRange (aged n) ≡ true
-aged-ranged n = by (leb 9 n) refl
+aged-ranged n = by (leb (forgottenAge - 1) n) refl
   where
-    by : (b : Bool) → leb 9 n ≡ b → ageInRange (cond b noSend (n + 1)) ≡ true
+    by : (b : Bool) → leb (forgottenAge - 1) n ≡ b → ageInRange (cond b noSend (n + 1)) ≡ true
     by true e = refl
-    by false e = let h : n < 9 = leb-false 9 n e in rw (lt-ltb (n + 1) 10 (omega arith))
+    by false e = let h : n < forgottenAge - 1 = leb-false (forgottenAge - 1) n e in rw (lt-ltb (n + 1) forgottenAge (omega arith))
 
 ages-ranged : (g : Ages) → agesInRange (agesTicked g) ≡ true
 unfolding agesInRange
