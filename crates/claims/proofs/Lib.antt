@@ -6,8 +6,12 @@ pub mod Sound
 pub mod Calls
 pub mod Rule
 pub mod Lag
+pub mod Counts
 pub mod Locality
+pub mod Views
 pub mod LivePartner
+pub mod Recent
+pub mod ThreeSends
 pub mod Reports
 pub mod ReadBack
 pub mod Witness

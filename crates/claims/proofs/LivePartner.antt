@@ -6,12 +6,11 @@ use mathlib.Core.Bool.{Bool, true, false, cond, not, _&&_, _||_, true≢false, f
 use mathlib.Core.List.{List, [], _∷_, map}
 use mathlib.Core.Logic.{_⊎_, inl, inr}
 use native.Mathlib.Omega.{arith}
-use lib.ListN.{length, getD, set, length-map, length-set}
+use lib.ListN.{length, getD, set, length-set}
 use lib.Seq.{getD-set-same}
 use lib.Dec.{eqb}
 use borrow.Author.Tests.{eqb-true, eqb-false, eq-eqb}
 use Rattle.frame.specs.declared.block.Block.{Block}
-use Rattle.frame.specs.declared.block.SystemId.{SystemId}
 use Rattle.frame.specs.Block.{blockOf}
 use Rattle.frame.specs.Wire.{actorPart}
 use Rattle.machine.specs.declared.states.Line.{Line}
@@ -26,25 +25,17 @@ use Rattle.port.specs.declared.record.Port.{Port}
 use Rattle.port.specs.Record.{withLine, withNtt, withActor, withOwn}
 use Rattle.port.specs.Receive.{recordPdu, unselected, portDisabled, expired, heard, current}
 use Rattle.port.specs.Receive.{receiveChoice, receiveStep, receiveRun, received, down, lined}
-use Rattle.port.specs.Periodic.{periodicRun}
 use Rattle.port.specs.Transmit.{sent, due, ticked}
-use Rattle.port.proofs.PeriodicLaws.{periodic-keeps}
 use Rattle.settings.specs.declared.Settings.{Settings}
 use Rattle.settings.specs.Settings.{ownOf, ownBits, sameGrouping, sameSettings, regrouped, changed, configured}
 use Rattle.table.specs.Record.{decoded}
 use Rattle.table.specs.Range.{ownFits}
 use Rattle.table.specs.Table.{countIn, portAt, ports}
 use Rattle.table.proofs.StoreLaws.{ports-length, ports-at}
-use Rattle.trunk.specs.Selection.{ruleOf}
-use Rattle.trunk.specs.Ready.{ready}
-use Rattle.trunk.specs.Settled.{selectedAll, settled}
-use Rattle.port.specs.Compared.{compared}
-use Rattle.port.specs.Mux.{attachedIf}
 use Rattle.trunk.specs.Advanced.{advanced}
 use Rattle.trunk.specs.Displaced.{isDisplaced, displacedIf, displaced}
 use Rattle.trunk.proofs.SweepLaws.{sweep-at}
 use Rattle.trunk.proofs.TableWork.{map-at}
-use Rattle.trunk.proofs.SettledLaws.{settled-at, selected-at}
 use Rattle.work.specs.Work.{ours, again, worked, afterOne, heardAt, afterHeard, afterTick, afterLine, afterSettings, afterSend}
 use Rattle.control.specs.declared.answer.Answer.{Answer}
 use Rattle.control.specs.declared.answer.Answer.the-variants.{Done, Lacpdu, Marker, Refused}
@@ -54,11 +45,13 @@ use Rattle.control.specs.After.{answer, afterFrame, changedBy, unless, after}
 use Rattle.claims.specs.Run.{isLacpdu, Octets, Takes, AllTake, accepted, run}
 use Rattle.claims.specs.AtRest.{Sound, goesWith}
 use Rattle.claims.specs.LivePartner.{lasting, Live, isExpired, toHalf, ends, NoneEnds, LivePartner}
-use Rattle.claims.proofs.Parts.{Standing, receivePart, ReceiveRests, besideSettled, reselected-beside, attached-beside, climbed-beside}
+use Rattle.claims.proofs.Parts.{Standing, receivePart, ReceiveRests}
 use Rattle.claims.proofs.Steps.{lined-falls}
-use Rattle.claims.proofs.Sound.{Before, in-ports, port-standing, work-ports, tick-before, line-before, settings-before, heard-before, send-ports}
+use Rattle.claims.proofs.Sound.{Before, in-ports, port-standing, tick-before, line-before, settings-before, heard-before, send-ports}
 use Rattle.claims.proofs.Calls.{named, heard-on, after-accepted, call-sound, never-stuck}
-use Rattle.claims.proofs.Locality.{again-at, again-count, set-kept, displaced-kept}
+use Rattle.claims.proofs.Counts.{again-count}
+use Rattle.claims.proofs.Locality.{again-at, displaced-kept}
+use Rattle.claims.proofs.Views.{work-view, set-view}
 
 -- ---- what is to last
 
@@ -74,29 +67,6 @@ live-is frame p q e l = record {
   partner = ap (λ (x : Lasting). x .partner) e ∙ l .partner;
   defaulted = ap (λ (x : Lasting). x .defaulted) e ∙ l .defaulted;
 }
-
--- ---- the end of step 2, and steps 3 to 6, keep it
-
-settled-beside : (s : SystemId) (ps : List Port) (i : ℕ) (d : Port) → i < length ps → besideSettled (getD (settled s ps) i d) ≡ besideSettled (getD ps i d)
-settled-beside s ps i d h =
-    let ss = selectedAll s ps in
-    let r = ready (getD ss i d .aggregator) ss in
-    ap (λ (x : Port). besideSettled x) (settled-at s ps i d h)
-    ∙ climbed-beside (attachedIf r (getD ss i d)) ∙ attached-beside r (getD ss i d)
-    ∙ ap (λ (x : Port). besideSettled x) (selected-at s ps i d h) ∙ reselected-beside (ruleOf s (map compared ps) i) (getD ps i d)
-
-worked-lasting : (s : SystemId) (ps : List Port) (i : ℕ) (d : Port) → i < length ps → lastingOf (getD (worked s ps) i d) ≡ lastingOf (getD ps i d)
-unfolding worked
-worked-lasting s ps i d h =
-    ap (λ (x : Port). lastingOf x) (settled-beside s (map periodicRun ps) i d (rw (length-map ps periodicRun) h))
-    ∙ ap (λ (x : Port). lastingOf x) (map-at periodicRun ps i d d h) ∙ ap (λ (x : Port). lastingOf x) (periodic-keeps (getD ps i d))
-
--- one record after the work
-work-lasting : (t : List ℕ) (s : Sound t) (ps : List Port) → Before t ps → (i : ℕ) → i < countIn t
-    → lastingOf (portAt (again t (worked (ours t) ps)) i) ≡ lastingOf (getD ps i (decoded []))
-work-lasting t s ps b i h =
-    ap (λ (x : Port). lastingOf x) (again-at t (worked (ours t) ps) (work-ports t s ps b) i (decoded []) h)
-    ∙ worked-lasting (ours t) ps i (decoded []) (rw (b .size) h)
 
 -- ---- the receive machine
 
@@ -299,6 +269,11 @@ heard-live t i frame = record { partner = refl; defaulted = refl }
 
 -- ---- each call, from t to u
 
+-- the end of step 2, and steps 3 to 6, keep it
+work-lasting : (t : List ℕ) (s : Sound t) (i : ℕ) → i < countIn t → (ps : List Port) → Before t ps
+    → lastingOf (portAt (again t (worked (ours t) ps)) i) ≡ lastingOf (getD ps i (decoded []))
+work-lasting t s i h ps b = work-view (λ p. lastingOf p) (λ p. refl) (λ p. refl) t s i h ps b
+
 record Goes (t u : List ℕ) (i : ℕ) : Type 0 where
   count : countIn u ≡ countIn t
   lasts : lastingOf (portAt u i) ≡ lastingOf (portAt t i)
@@ -309,19 +284,11 @@ unchanged t i = record { count = refl; lasts = refl }
 module _ (t : List ℕ) (s : Sound t) (i : ℕ) (h : i < countIn t) where
   -- work by which what lasts of record i is as it was before settling
   work-goes : (ps : List Port) → Before t ps → lastingOf (getD ps i (decoded [])) ≡ lastingOf (portAt t i) → Goes t (again t (worked (ours t) ps)) i
-  work-goes ps b e = record { count = again-count t (worked (ours t) ps); lasts = work-lasting t s ps b i h ∙ e }
+  work-goes ps b e = record { count = again-count t (worked (ours t) ps); lasts = work-lasting t s i h ps b ∙ e }
 
   -- one record is changed
   set-lasting : (m : ℕ) (q : Port) → (eqb i m ≡ true → lastingOf q ≡ lastingOf (portAt t i)) → lastingOf (getD (set (ports t) m q) i (decoded [])) ≡ lastingOf (portAt t i)
-  set-lasting m q f = by (eqb i m) refl
-    where
-      by : (b : Bool) → eqb i m ≡ b → lastingOf (getD (set (ports t) m q) i (decoded [])) ≡ lastingOf (portAt t i)
-      by true e =
-          let is : i ≡ m = eqb-true i m e in
-          let here : m < length (ports t) = rw is at (in-ports t s i h) in
-          ap (λ (k : ℕ). lastingOf (getD (set (ports t) m q) k (decoded []))) is
-          ∙ ap (λ (x : Port). lastingOf x) (getD-set-same (ports t) m q (decoded []) here) ∙ f e
-      by false e = ap (λ (x : Port). lastingOf x) (set-kept t m q i h e)
+  set-lasting m q f = set-view (λ p. lastingOf p) t s i h m q (lastingOf (portAt t i)) f (λ e. refl)
 
   at-same : (m : ℕ) → eqb i m ≡ true → portAt t m ≡ portAt t i
   at-same m e = ap (portAt t) (sym (eqb-true i m e))
@@ -438,7 +405,7 @@ module _ (t : List ℕ) (s : Sound t) (i : ℕ) (h : i < countIn t) (frame : Lis
   begins o u f =
       let ps = displaced i (blockOf (actorPart frame)) (set (ports t) i (heardAt t i frame)) in
       live-is frame (heardAt t i frame) (portAt (again t (worked (ours t) ps)) i)
-      (work-lasting t s ps (heard-before t s i h frame o u f) i h ∙ ap (λ (x : Port). lastingOf x) own-kept) (heard-live t i frame)
+      (work-lasting t s i h ps (heard-before t s i h frame o u f) ∙ ap (λ (x : Port). lastingOf x) own-kept) (heard-live t i frame)
 
   heard-count : countIn (afterHeard t i frame) ≡ countIn t
   unfolding afterHeard

@@ -22,12 +22,10 @@ use Rattle.port.specs.Transmit.{sent, due}
 use Rattle.port.proofs.PeriodicLaws.{periodic-idle}
 use Rattle.settings.specs.declared.Settings.{Settings}
 use Rattle.settings.specs.Settings.{configured, sameSettings, ownOf}
-use Rattle.table.specs.Layout.{headerOf}
 use Rattle.table.specs.Record.{decoded}
 use Rattle.table.specs.Range.{ownFits}
 use Rattle.table.specs.Table.{countIn, portAt, ports}
 use Rattle.table.proofs.StoreLaws.{ports-length, ports-at}
-use Rattle.table.proofs.MadeLaws.{made-count}
 use Rattle.trunk.specs.Selection.{sharesGroup}
 use Rattle.trunk.specs.Displaced.{isDisplaced, displacedIf, displaced}
 use Rattle.trunk.proofs.SweepLaws.{sweep-at}
@@ -46,11 +44,9 @@ use Rattle.claims.specs.AtRest.{Sound}
 use Rattle.claims.specs.Locality.{touches, Apart, Locality}
 use Rattle.claims.proofs.Sound.{Before, in-ports, port-resting, work-ports, line-before, settings-before, heard-before, send-ports}
 use Rattle.claims.proofs.Calls.{named, heard-on, after-accepted, never-stuck}
+use Rattle.claims.proofs.Counts.{again-count}
 
 -- ---- work on a sound table, of which some records are as they were
-
-pub again-count : (t : List ℕ) (qs : List Port) → countIn (again t qs) ≡ countIn t
-again-count t qs = made-count (headerOf t) qs
 
 -- one record of the table after some work
 pub again-at : (t : List ℕ) (qs : List Port) → ports (again t qs) ≡ qs → (i : ℕ) (d : Port) → i < countIn t → portAt (again t qs) i ≡ getD qs i d

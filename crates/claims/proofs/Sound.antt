@@ -267,11 +267,28 @@ module _ (t : List ℕ) (s : Sound t) where
   tick-sound = work-sound t s (map advanced (ports t)) tick-before
 
 -- start makes a sound table
-pub start-sound : (h : Header) (c : Settings) → headerFits h ≡ true → ownFits (ownOf c) ≡ true → 1 ≤ h .count → h .count ≤ mostPorts → Sound (afterStart h c)
-unfolding afterStart
-start-sound h c f o some few =
-    let ps = replicate (h .count) (started c) in
-    let n : length ps ≡ h .count = length-replicate (h .count) (started c) in
-    octets-sound h (settled (h .system) ps) (sym (settled-length (h .system) ps ∙ n))
-    (settled-fits (h .count) (h .system) ps n (each-alike (Fits (h .count)) (h .count) (started c) (started-ranged (h .count) c some o)))
-    f some few (settled-at-rest (h .system) ps (each-alike Resting (h .count) (started c) (started-resting c)))
+module _ (h : Header) (c : Settings) (f : headerFits h ≡ true) (o : ownFits (ownOf c) ≡ true) (some : 1 ≤ h .count) (few : h .count ≤ mostPorts) where
+  alike : List Port
+  alike = replicate (h .count) (started c)
+
+  many : length alike ≡ h .count
+  unfolding alike
+  many = length-replicate (h .count) (started c)
+
+  settled-many : h .count ≡ length (settled (h .system) alike)
+  settled-many = sym (settled-length (h .system) alike ∙ many)
+
+  start-fits : Each (Fits (h .count)) (settled (h .system) alike)
+  start-fits =
+      settled-fits (h .count) (h .system) alike many
+      (unfold alike in each-alike (Fits (h .count)) (h .count) (started c) (started-ranged (h .count) c some o))
+
+  pub start-ports : ports (afterStart h c) ≡ settled (h .system) (replicate (h .count) (started c))
+  unfolding afterStart alike
+  start-ports = octets-ports h (settled (h .system) alike) settled-many start-fits
+
+  pub start-sound : Sound (afterStart h c)
+  unfolding afterStart alike
+  start-sound =
+      octets-sound h (settled (h .system) alike) settled-many start-fits f some few
+      (settled-at-rest (h .system) alike (each-alike Resting (h .count) (started c) (started-resting c)))

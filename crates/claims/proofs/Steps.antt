@@ -8,6 +8,7 @@ use lib.Dec.{eqb}
 use borrow.Author.Tests.{not-true}
 use Rattle.frame.specs.declared.block.Block.{Block}
 use Rattle.frame.specs.declared.block.SystemId.{SystemId}
+use Rattle.machine.specs.declared.states.Ages.{Ages}
 use Rattle.machine.specs.declared.states.Line.{Line}
 use Rattle.machine.specs.declared.states.Periodic.{Periodic}
 use Rattle.machine.specs.declared.states.Ticks.{Ticks}
@@ -15,6 +16,7 @@ use Rattle.machine.specs.declared.states.Receive.{Receive}
 use Rattle.machine.specs.declared.states.Receive.the-variants.{Initialize, PortDisabled, Expired, LacpDisabled, Defaulted, Current}
 use Rattle.machine.specs.declared.receive.ReceiveStep.{ReceiveStep}
 use Rattle.machine.specs.declared.receive.ReceiveStep.the-variants.{Stay, Enter}
+use Rattle.machine.specs.Ages.{agesTicked}
 use Rattle.machine.specs.Compare.{sameParty, sameView}
 use Rattle.machine.specs.Receive.{receiveNext}
 use Rattle.machine.specs.States.{sameLine}
@@ -35,14 +37,15 @@ use Rattle.claims.proofs.Parts.{receivePart, periodicPart, MuxPart, mux
 
 -- ---- what the receive machine leaves alone
 
--- the mux part, and the periodic machine's state and timer
+-- the mux part, the periodic machine's state and timer, and the ages of sends
 record AsidePart : Type 0 where
   mux : MuxPart
   state : Periodic
   timer : Ticks
+  ages : Ages
 
 abbrev aside : Port → AsidePart
-aside p = record { mux = muxPart p; state = p .phase .periodic; timer = p .timers .periodic }
+aside p = record { mux = muxPart p; state = p .phase .periodic; timer = p .timers .periodic; ages = p .ages }
 
 default-aside : (b : Bool) (p : Port) → aside (recordDefault (cond b p (unselected p))) ≡ aside p
 unfolding recordDefault
@@ -435,3 +438,44 @@ started-resting s =
     resting-is (moved (blank s))
     (standing-is (moved (blank s)) (moved-rests (blank s) (blank-down s)) (subst Steady (sym (moved-aside (blank s))) (blank-steady s)))
     (calm-rests (moved (blank s)) (blank-calm s))
+
+-- ---- the ages of sends: a tick makes them older, and nothing else in steps 1 and 2 touches them
+
+aside-ages : (p q : Port) → aside q ≡ aside p → q .ages ≡ p .ages
+aside-ages p q e = ap (λ (v : AsidePart). v .ages) e
+
+ticked-ages : (p : Port) → ticked p .ages ≡ agesTicked (p .ages)
+unfolding ticked
+ticked-ages p = refl
+
+pub advanced-ages : (p : Port) → advanced p .ages ≡ agesTicked (p .ages)
+unfolding advanced
+advanced-ages p = aside-ages (ticked p) (receiveRun (ticked p)) (run-aside (ticked p)) ∙ ticked-ages p
+
+pub received-ages : (system : SystemId) (n : ℕ) (a b : Block) (p : Port) → received system n a b p .ages ≡ p .ages
+unfolding received
+received-ages system n a b p = let us = actorBlock system n p in aside-ages p (current us a b p) (current-aside us a b p)
+
+pub moved-ages : (p : Port) → moved p .ages ≡ p .ages
+moved-ages p = aside-ages p (moved p) (moved-aside p)
+
+pub lined-ages : (l : Line) (p : Port) → lined l p .ages ≡ p .ages
+unfolding lined
+lined-ages l p = by (sameLine l (p .line))
+  where
+    low : Port
+    low = receiveRun (withLine p (down (p .line)))
+
+    by : (b : Bool) → cond b p (receiveRun (withLine low l)) .ages ≡ p .ages
+    by true = refl
+    by false =
+        aside-ages low (receiveRun (withLine low l)) (run-aside (withLine low l))
+        ∙ aside-ages p low (run-aside (withLine p (down (p .line))))
+
+pub configured-ages : (s : Settings) (p : Port) → configured s p .ages ≡ p .ages
+unfolding configured changed regrouped
+configured-ages s p = by (sameSettings s p)
+  where
+    by : (b : Bool) → cond b p (changed s p) .ages ≡ p .ages
+    by true = refl
+    by false = aside-ages p (changed s p) (changed-aside (sameGrouping s p) s p)
