@@ -1,10 +1,9 @@
 -- The witness, by computation; and that lists of octets are octets, by a test of each. Assumes nothing.
-use Prim.Native.Nat.{ℕ, zero, suc, _<_}
+use Prim.Native.Nat.{ℕ, zero, suc}
 use mathlib.Core.Path.{_≡_, refl}
 use mathlib.Core.Bool.{Bool, true, and-eq-true-iff}
 use mathlib.Core.List.{List, [], _∷_}
 use native.Mathlib.Omega.{arith}
-use lib.ListN.{getD}
 use lib.Dec.{ltb}
 use lib.Count.{ones, onesIn, trailingZeros}
 use borrow.Author.Tests.{ltb-true}
@@ -33,8 +32,9 @@ use Rattle.control.specs.After.{answer, changedBy, after, writtenBy, outgoing}
 use Rattle.control.specs.Report.{portReport, aggregatorReport}
 use Rattle.control.specs.Call.{Call}
 use Rattle.claims.specs.Run.{Octets, Takes, AllTake, run}
+use Rattle.claims.specs.ThreeSends.{sends}
 use Rattle.claims.specs.Speakers.{system, noDelay, settings}
-use Rattle.claims.specs.Witness.{Witness, said, hears, memory, ticks, later, calls, tables, begun, trunk, parted, narrowed, fallen, rekeyed, silent, every}
+use Rattle.claims.specs.Witness.{Witness, said, hears, memory, ticks, later, calls, tables, begun, trunk, parted, narrowed, fallen, rekeyed, silent, every, fourth}
 
 abbrev isOctet : ℕ → Bool
 isOctet o = ltb o 256
@@ -61,7 +61,7 @@ takes =
     (tt, (tt, (tt, (refl, (heard-takes 1 1 0x3F refl, (heard-takes 1 2 0x3F refl, ticks-take 10 later then))))))
 
 pub witness : Witness
-unfolding sameAddress sameSystem sameNumbers sameParty sameView maintained inSync sameState sameBlock recordDefault recordPdu updateSelected updateDefaultSelected updateNtt initialized portDisabled expired lacpDisabled defaulted heard current moved received receiveChoice receiveStep receiveRun lined periodicChoice periodicStep periodicRun due sent Port·silent quieted ticked muxChoice muxStep detached placed attachedIf muxRun sameGrouping sameSettings regrouped changed configured lawful blank started advanced individual sameKeys sameGroup joins sharesGroup firstFrom lowest ruleOf waitsFor hasWaiting holdsBack heldBack ready mapFrom mustMove reselected selectedAll attachedAll climbed settled isDisplaced displacedIf displaced sameOctets foreign unknown wrongLength wrongMarkerType illegal classOf stands setOf setsOf codesInRange timersInRange agesInRange recordInRange blockFits ownFits headerFits encoded decoded recordAt portAt portsFrom ports recordsOctets tableOctets firstInRange tableInRange worked afterOne afterStart heardAt afterHeard afterTick afterLine afterSettings afterSend lacpduOf found answer changedBy after writtenBy outgoing portReport aggregatorReport ones onesIn trailingZeros run ticks tables begun trunk parted narrowed fallen rekeyed silent every
+unfolding sameAddress sameSystem sameNumbers sameParty sameView maintained inSync sameState sameBlock recordDefault recordPdu updateSelected updateDefaultSelected updateNtt initialized portDisabled expired lacpDisabled defaulted heard current moved received receiveChoice receiveStep receiveRun lined periodicChoice periodicStep periodicRun due sent Port·silent quieted ticked muxChoice muxStep detached placed attachedIf muxRun sameGrouping sameSettings regrouped changed configured lawful blank started advanced individual sameKeys sameGroup joins sharesGroup firstFrom lowest ruleOf waitsFor hasWaiting holdsBack heldBack ready mapFrom mustMove reselected selectedAll attachedAll climbed settled isDisplaced displacedIf displaced sameOctets foreign unknown wrongLength wrongMarkerType illegal classOf stands setOf setsOf codesInRange timersInRange agesInRange recordInRange blockFits ownFits headerFits encoded decoded recordAt portAt portsFrom ports recordsOctets tableOctets firstInRange tableInRange worked afterOne afterStart heardAt afterHeard afterTick afterLine afterSettings afterSend lacpduOf found answer changedBy after writtenBy outgoing portReport aggregatorReport ones onesIn trailingZeros run ticks tables begun trunk parted narrowed fallen rekeyed silent every fourth sends
 witness = record {
   made = record {
     memory = memory;
@@ -96,4 +96,9 @@ witness = record {
   port-true = refl;
   trunk-true = refl;
   narrowed-true = refl;
+  fourth-at-once = refl;
+  fourth-too-soon = refl;
+  fourth-in-time = refl;
+  sends-spread = refl;
+  ages-spread = refl;
 }

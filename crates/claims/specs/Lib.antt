@@ -4,6 +4,7 @@ pub mod Lag
 pub mod Claims
 pub mod Locality
 pub mod LivePartner
+pub mod ThreeSends
 pub mod Reports
 pub mod ReadBack
 pub mod Speakers

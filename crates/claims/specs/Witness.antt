@@ -13,6 +13,7 @@ use Rattle.frame.specs.declared.class.Class.the-variants as class
 use Rattle.frame.specs.Block.{blockOf, blockOctets}
 use Rattle.frame.specs.Class.{classOf}
 use Rattle.frame.specs.Wire.{zeros, actorPart, partnerPart}
+use Rattle.machine.specs.Ages.{ages}
 use Rattle.machine.specs.Bits.{alike}
 use Rattle.machine.specs.Mux.{isAttached, collects, distributes}
 use Rattle.port.specs.declared.record.Port.{Port}
@@ -22,15 +23,17 @@ use Rattle.port.specs.Record.{actorBlock}
 use Rattle.report.specs.declared.Sets.{Sets}
 use Rattle.table.specs.Layout.{tableSize}
 use Rattle.table.specs.Record.{encoded}
-use Rattle.table.specs.Table.{countIn, ports, portAt, tableInRange}
+use Rattle.table.specs.Table.{ports, portAt, tableInRange}
 use Rattle.trunk.specs.Selection.{sharesGroup, ruleOf}
 use Rattle.trunk.specs.Settled.{isUnselected}
 use Rattle.work.specs.Work.{ours, worked, again}
+use Rattle.control.specs.Answer.{answerNumber}
 use Rattle.control.specs.Call.{Call, start, receive, tick, link, configure, fetch}
 use Rattle.control.specs.After.{answer, after, bufferOf, outgoing}
 use Rattle.control.specs.Report.{portReport, aggregatorReport}
 use Rattle.claims.specs.Run.{accepted, run, Made}
 use Rattle.claims.specs.LivePartner.{lasting}
+use Rattle.claims.specs.ThreeSends.{sends}
 use Rattle.claims.specs.Speakers.{system, noDelay, keyedBlock, keyedSettings, settings, frameOf}
 
 -- ---- the run: three ports, short timeout. Ports 1 and 2 hear key 1 of system 5, in sync, collecting and distributing; ten ticks later port 3,
@@ -161,6 +164,20 @@ setsAre s h a d n l = eqb (s .holding) h && (eqb (s .attached) a && (eqb (s .dis
 abbrev pub lent : List ℕ
 lent = replicate 124 7
 
+-- ---- sends of port 1
+
+-- it sends, and gets other settings, so that it is to send again
+abbrev pub sendsBefore : Bool → List Call → List Call
+sendsBefore short cs = fetch 1 lent ∷ configure 1 (settings short 0) ∷ cs
+
+-- three sends one after the other, and the answer to a fourth fetch n ticks later
+unfoldable pub fourth : ℕ → ℕ
+fourth n = answerNumber (answer (fetch 1 lent) (run begun (link 1 true ∷ sendsBefore false (sendsBefore true (sendsBefore false (ticks n []))))))
+
+-- three sends with a tick after the first and two after the second
+abbrev pub spread : List Call
+spread = link 1 true ∷ sendsBefore false (ticks 1 (sendsBefore true (ticks 2 (sendsBefore false []))))
+
 pub record Witness : Type 0 where
   pub made : Made trunk
   -- 0
@@ -192,3 +209,9 @@ pub record Witness : Type 0 where
   pub port-true : sameOctets (encoded (portReport 2 trunk .port)) (encoded (portAt trunk 1)) ≡ true
   pub trunk-true : setsAre (aggregatorReport 1 trunk .sets) 3 3 3 2 1 ≡ true
   pub narrowed-true : setsAre (aggregatorReport 1 narrowed .sets) 3 3 1 1 1 ≡ true
+  -- 8
+  pub fourth-at-once : fourth 0 ≡ 11
+  pub fourth-too-soon : fourth 10 ≡ 11
+  pub fourth-in-time : fourth 11 ≡ 0
+  pub sends-spread : sends 1 begun spread [] ≡ 0 ∷ 2 ∷ 3 ∷ []
+  pub ages-spread : portAt (run begun spread) 0 .ages ≡ ages 0 2 3
