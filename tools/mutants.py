@@ -276,6 +276,13 @@ MUTANTS = [
     Mutant("7 reports", "the count of the attached ports", ("narrowed-true",), "report::aggregator_of", (
         ("report/specs/Sets.antt", "count = ones (setOf (stands Distributes k) ps);", "count = ones (setOf (stands Attached k) ps);"),
         ("report/src/lib.rt", "count: u32::count_ones(distributing),", "count: u32::count_ones(attached),"))),
+    Mutant("8 three sends", "a send forgotten once ten ticks have come after it", ("fourth-too-soon",), "machine::ages::aged", (
+        ("machine/specs/Ages.antt", "forgottenAge = 11", "forgottenAge = 10"),
+        ("machine/src/ages.rt", "FORGOTTEN_AGE: u8 = 11;", "FORGOTTEN_AGE: u8 = 10;"))),
+    Mutant("8 three sends", "a second send that forgets the first", ("fourth-at-once", "ages-spread"), "machine::states::Ages::with_send", (
+        ("machine/specs/Ages.antt", "(ages 0 (g .first) (g .third)) (ages 0 (g .first) (g .second)))", "(ages 0 noSend (g .third)) (ages 0 (g .first) (g .second)))"),
+        ("machine/src/ages.rt", "                second: self.first,\n                third: self.third,\n            };\n        }\n        Ages {",
+         "                second: NO_SEND,\n                third: self.third,\n            };\n        }\n        Ages {"))),
     Mutant("case 07, 3F, 3D", "Aggregation and Defaulted exchanged", ("active-short", "in-trunk", "in-trunk-long"), "frame::state::PortState::octet", (
         ("frame/specs/State.antt", "weighed (s .aggregation) 4", "weighed (s .defaulted) 4"),
         ("frame/specs/State.antt", "weighed (s .defaulted) 64", "weighed (s .aggregation) 64"),
