@@ -39,8 +39,10 @@ pub enum Breakage {
     LoopbackForgotten,
     /// NTT is not cleared where both ends are passive.
     PassiveKeepsNtt,
-    /// A send is forgotten when its age would reach 9.
-    AgeForgottenAtNine,
+    /// A send is forgotten when its age would reach 10, as before request M-101.
+    AgeForgottenAtTen,
+    /// A stored age of 11 is in range.
+    AgeOfElevenAccepted,
     /// Answer 3 comes after the tests of the frame.
     BufferTestedAfterFrame,
     /// New settings record their default block at once.
@@ -51,7 +53,7 @@ pub enum Breakage {
 
 impl Breakage {
     /// Every breakage, with the name by which it is asked for.
-    pub const ALL: [(&'static str, Breakage); 21] = [
+    pub const ALL: [(&'static str, Breakage); 22] = [
         ("partners-timeout", Breakage::PartnersTimeout),
         ("compares-after-recording", Breakage::ComparesAfterRecording),
         ("expired-records-default", Breakage::ExpiredRecordsDefault),
@@ -69,7 +71,8 @@ impl Breakage {
         ("individuals-absorbed", Breakage::IndividualsAbsorbed),
         ("loopback-forgotten", Breakage::LoopbackForgotten),
         ("passive-keeps-ntt", Breakage::PassiveKeepsNtt),
-        ("age-forgotten-at-nine", Breakage::AgeForgottenAtNine),
+        ("age-forgotten-at-ten", Breakage::AgeForgottenAtTen),
+        ("age-of-eleven-accepted", Breakage::AgeOfElevenAccepted),
         ("buffer-tested-after-frame", Breakage::BufferTestedAfterFrame),
         ("default-applied-at-once", Breakage::DefaultAppliedAtOnce),
         ("response-repeats-padding", Breakage::ResponseRepeatsPadding),

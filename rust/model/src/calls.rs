@@ -188,7 +188,7 @@ pub fn tick(table: &mut [u8]) -> u32 {
 }
 
 impl Port {
-    /// Step 1 of a tick: running timers fall by one; an age rises by one, and one that would reach 10 is forgotten.
+    /// Step 1 of a tick: running timers fall by one; an age rises by one, and one that would reach 11 is forgotten.
     fn ticked(&mut self) {
         let stand = breakage::is(Breakage::UnusedTimersStand);
         if !stand || matches!(self.receive, Receive::Current | Receive::Expired) {
@@ -200,7 +200,7 @@ impl Port {
         if !stand || self.mux == Mux::Waiting {
             self.wait_while = self.wait_while.saturating_sub(1);
         }
-        let oldest = if breakage::is(Breakage::AgeForgottenAtNine) { OLDEST_AGE - 1 } else { OLDEST_AGE };
+        let oldest = if breakage::is(Breakage::AgeForgottenAtTen) { OLDEST_AGE - 1 } else { OLDEST_AGE };
         self.ages = self.ages.map(|age| age.map(|age| age + 1).filter(|age| *age <= oldest));
     }
 

@@ -1,5 +1,6 @@
 //! A port's record, the table in memory, and the ranges of its fields.
 
+use crate::breakage::{self, Breakage};
 use crate::wire::{Block, State, BLOCK};
 
 /// Octets before the first record.
@@ -20,7 +21,7 @@ pub const LONG_TIMEOUT_TIME: u16 = 900;
 /// Aggregate_Wait_Time in ticks.
 pub const AGGREGATE_WAIT_TIME: u8 = 20;
 /// The oldest age in ticks of a send that is remembered.
-pub const OLDEST_AGE: u8 = 9;
+pub const OLDEST_AGE: u8 = 10;
 /// What stands in memory where no send is remembered.
 pub const NO_SEND: u8 = 255;
 
@@ -318,9 +319,10 @@ impl Reader<'_> {
     }
 
     fn age(&mut self) -> Option<Option<u8>> {
+        let oldest = if breakage::is(Breakage::AgeOfElevenAccepted) { OLDEST_AGE + 1 } else { OLDEST_AGE };
         match self.octet()? {
             NO_SEND => Some(None),
-            age if age <= OLDEST_AGE => Some(Some(age)),
+            age if age <= oldest => Some(Some(age)),
             _ => None,
         }
     }

@@ -290,9 +290,11 @@ fn passing_states_are_in_range() {
 #[test]
 fn ages_are_ranged() {
     let mut t = Bench::start(1, 5, 0);
-    for (age, answer) in [(0, 0), (9, 0), (10, 1), (254, 1), (255, 0)] {
-        t.memory[11 + 15] = age;
-        assert_eq!(model::port(&t.memory, 1, &mut [0; 57]), answer);
+    for at in [14, 15, 16] {
+        for (age, answer) in [(0, 0), (9, 0), (10, 0), (11, 1), (12, 1), (254, 1), (255, 0)] {
+            t.memory[11 + at] = age;
+            assert_eq!(model::port(&t.memory, 1, &mut [0; 57]), answer, "{age} in octet {at}");
+        }
     }
     for (at, first_wrong) in [(0, 6), (1, 4), (2, 5), (3, 2), (4, 2), (5, 2), (6, 2), (7, 2), (13, 21)] {
         let kept = t.memory[11 + at];
@@ -494,7 +496,6 @@ fn marker_on_an_lacp_off_port() {
 #[test]
 fn three_sends_bar_a_fourth() {
     let mut t = distributing(5);
-    t.ticks(10);
     for key in [2, 3, 4, 5] {
         assert_eq!(t.settings(1, Set { key, ..set(5, 0) }), 0);
         assert_eq!(t.fetch(1), if key < 5 { 0 } else { 11 });
@@ -503,10 +504,37 @@ fn three_sends_bar_a_fourth() {
     assert_eq!(t.fetch(1), 10);
     t.link(1, false);
     t.link(1, true);
-    t.ticks(9);
+    t.ticks(10);
     t.poke(1, |p| p.ntt = true);
     assert_eq!(t.fetch(1), 11);
     t.ticks(1);
+    assert_eq!(t.fetch(1), 0);
+}
+
+#[test]
+fn a_fourth_send_waits_for_eleven_ticks_after_the_first() {
+    let mut t = Bench::start(1, 5, 0);
+    t.link(1, true);
+    assert_eq!(t.fetch(1), 0);
+    t.ticks(1);
+    for changed in [set(7, 0), set(5, 0)] {
+        assert_eq!((t.fetch(1), t.settings(1, changed)), (10, 0));
+        assert_eq!(t.fetch(1), 0);
+        t.ticks(1);
+    }
+    assert_eq!(t.port(1).ages, [Some(1), Some(2), Some(3)]);
+    assert_eq!(t.settings(1, Set { address: [0; 6], ..set(5, 0) }), 0);
+    for after_the_first in 3..=10 {
+        assert_eq!(t.port(1).ages[2], Some(after_the_first));
+        assert_eq!(t.fetch(1), 11);
+        t.ticks(1);
+    }
+    assert_eq!(t.port(1).ages, [Some(9), Some(10), None]);
+    assert_eq!(t.fetch(1), 0);
+    assert_eq!(t.settings(1, set(5, 0)), 0);
+    assert_eq!(t.fetch(1), 11);
+    t.ticks(1);
+    assert_eq!(t.port(1).ages, [Some(1), Some(10), None]);
     assert_eq!(t.fetch(1), 0);
 }
 
