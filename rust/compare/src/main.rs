@@ -208,11 +208,84 @@ fn main() -> ExitCode {
 #[cfg(test)]
 mod tests {
     use super::*;
+    use myrkosti::raw::{Call, SettingsArguments};
+    use std::slice::from_ref;
 
     #[test]
     fn library_and_model_agree() {
         let difference = Comparison::new().run(1, Limit { calls: 20_000, time: Duration::MAX });
         assert!(difference.unwrap().is_none());
+    }
+
+    /// A table that library and model hold alike.
+    struct Both(Vec<u8>);
+
+    impl Both {
+        /// One port, active.
+        fn start() -> Both {
+            let mut both = Both(vec![0xA5; model::table_size(1) as usize]);
+            let start = Call::Start {
+                ports: 1,
+                system_priority: 1,
+                system: [0, 0, 0, 0, 0, 9],
+                collector_max_delay: 0,
+                settings: settings(0),
+            };
+            assert_eq!(both.call(start), 0);
+            both
+        }
+
+        /// Both perform the call, with the same reply; its answer.
+        fn call(&mut self, call: Call) -> u32 {
+            let out = if matches!(call, Call::Fetch { .. }) { vec![0; world::FRAME] } else { Vec::new() };
+            let request = Request { call, table: self.0.clone(), out };
+            let reply = by_model(&request);
+            assert_eq!(raw::perform(from_ref(&request)).unwrap(), from_ref(&reply));
+            self.0 = reply.table;
+            reply.answer
+        }
+
+        /// Another own address, so that an LACPDU is due; then a fetch.
+        fn fetch_anew(&mut self, address: u8) -> u32 {
+            assert_eq!(self.call(Call::Settings { port: 1, settings: settings(address) }), 0);
+            self.call(Call::Fetch { port: 1 })
+        }
+
+        fn ages(&self) -> &[u8] {
+            &self.0[world::HEADER + 14..][..3]
+        }
+    }
+
+    fn settings(address: u8) -> SettingsArguments {
+        SettingsArguments { address: [2, 0, 0, 0, 0, address], activity: true, ..SettingsArguments::default() }
+    }
+
+    #[test]
+    fn a_fourth_lacpdu_goes_once_eleven_ticks_came_after_the_first() {
+        let mut both = Both::start();
+        assert_eq!(both.call(Call::Link { port: 1, up: true }), 0);
+        for address in 1..=3 {
+            assert_eq!(both.fetch_anew(address), 0);
+        }
+        for age in 0..=10 {
+            assert_eq!(both.ages(), [age; 3]);
+            assert_eq!(both.fetch_anew(age), 11);
+            assert_eq!(both.call(Call::Tick), 0);
+        }
+        assert_eq!(both.ages(), [255; 3]);
+        assert_eq!(both.fetch_anew(11), 0);
+        assert_eq!(both.ages(), [0, 255, 255]);
+    }
+
+    #[test]
+    fn a_stored_age_is_at_most_ten() {
+        let mut both = Both::start();
+        for (place, age) in (14..17).flat_map(|place| (0..=255).map(move |age| (place, age))) {
+            let kept = both.0.clone();
+            both.0[world::HEADER + place] = age;
+            assert_eq!(both.call(Call::Port { port: 1 }), u32::from((11..=254).contains(&age)));
+            both.0 = kept;
+        }
     }
 
     #[test]

@@ -17,7 +17,7 @@ pub const FIELDS: [(&str, usize, usize, Option<u32>); 26] = [
     ("current-while timer", 9, 2, Some(900)),
     ("periodic timer", 11, 2, Some(300)),
     ("wait timer", 13, 1, Some(20)),
-    ("ages of sends", 14, 3, Some(9)),
+    ("ages of sends", 14, 3, Some(10)),
     ("own address", 17, 6, None),
     ("key", 23, 2, None),
     ("port priority", 25, 2, None),
@@ -36,7 +36,8 @@ pub const FIELDS: [(&str, usize, usize, Option<u32>); 26] = [
 /// Changes the table, mostly so that it stays in range; true if a tick should come next.
 pub fn change(random: &mut Random, table: &mut Vec<u8>, count: u32) -> bool {
     match random.below(100) {
-        0..=14 => change_octets(random, table),
+        0..=11 => change_octets(random, table),
+        12..=14 => exceed_field(random, table, count),
         15..=69 => {
             for _ in 0..random.between(1, 6) {
                 change_field(random, table, count);
@@ -87,6 +88,23 @@ fn change_octets(random: &mut Random, table: &mut [u8]) {
     }
 }
 
+/// A field of a port, one above its range: so one of the ages becomes 11.
+fn exceed_field(random: &mut Random, table: &mut [u8], count: u32) {
+    let (_, at, length, highest) = FIELDS[random.place(13)];
+    let Some(highest) = highest else {
+        return;
+    };
+    let (at, length, highest) = match at {
+        4 => (at, length, count),
+        14 => (at + random.place(3), 1, highest),
+        _ => (at, length, highest),
+    };
+    let start = HEADER + RECORD * random.below(count) as usize + at;
+    if let Some(place) = table.get_mut(start..start + length) {
+        place.copy_from_slice(&(highest + 1).to_be_bytes()[4 - length..]);
+    }
+}
+
 /// A field of a port, in range.
 fn change_field(random: &mut Random, table: &mut [u8], count: u32) {
     let port = random.below(count);
@@ -102,7 +120,7 @@ fn put_field(random: &mut Random, table: &mut [u8], count: u32, port: u32, field
     };
     match (at, highest) {
         (4, _) => place[0] = random.between(1, count) as u8,
-        (14, _) => place.fill_with(|| random.of(&[255, 0, 1, 2, 3, 4, 8, 9, 9, 255])),
+        (14, _) => place.fill_with(|| random.of(&[255, 0, 1, 2, 3, 4, 9, 10, 10, 255])),
         (_, Some(highest)) => {
             let any = random.below(highest + 1);
             let number = random.of(&[any, any, 0, 1.min(highest), highest]);

@@ -266,7 +266,7 @@ impl Scenario {
                 for _ in 0..random.between(3, 8) {
                     self.plans.push_back(Plan::Settings(port));
                     self.plans.push_back(Plan::Fetch(port));
-                    self.ticks(random.of(&[0, 0, 1, 4]));
+                    self.ticks(random.of(&[0, 0, 0, 1, 4, 10, 11]));
                 }
             }
             Action::Marker => {
