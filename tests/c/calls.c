@@ -200,6 +200,67 @@ static void form_a_trunk(uint8_t *table)
     IS(distributing | count | lowest, 0);
 }
 
+/* the three ages of port 1, newest first */
+static void check_ages(const uint8_t *table, uint8_t first, uint8_t second, uint8_t third)
+{
+    IS(field(table, 1, MYRKOSTI_AT_AGES), first);
+    IS(field(table, 1, MYRKOSTI_AT_AGES + 1), second);
+    IS(field(table, 1, MYRKOSTI_AT_AGES + 2), third);
+}
+
+/* a changed key, so that an LACPDU is due; then a fetch */
+static uint32_t fetch_anew(uint8_t *table, uint16_t key)
+{
+    uint8_t out[MYRKOSTI_FRAME];
+    IS(settings(table, 1, key, NOBODY), MYRKOSTI_DONE);
+    return myrkosti_fetch(table, SIZE, 1, out, sizeof out);
+}
+
+/* three LACPDUs go, a tick apart; a fourth once eleven ticks have come after the first, a fifth once they have after the second */
+static void limit_sends(void)
+{
+    uint8_t table[SIZE];
+    IS(start(table, SIZE, PORTS, NOBODY), MYRKOSTI_DONE);
+    IS(myrkosti_link(table, SIZE, 1, true), MYRKOSTI_DONE);
+    for (uint16_t key = 2; key < 5; key++) {
+        IS(fetch_anew(table, key), MYRKOSTI_DONE);
+        IS(myrkosti_tick(table, SIZE), MYRKOSTI_DONE);
+    }
+    for (uint8_t ticks = 3; ticks <= 10; ticks++) {
+        check_ages(table, ticks - 2, ticks - 1, ticks);
+        IS(fetch_anew(table, 10 + ticks), MYRKOSTI_TOO_MANY_SENDS);
+        IS(myrkosti_tick(table, SIZE), MYRKOSTI_DONE);
+    }
+    check_ages(table, 9, 10, 255);
+    IS(fetch_anew(table, 5), MYRKOSTI_DONE);
+    check_ages(table, 0, 9, 10);
+    IS(fetch_anew(table, 6), MYRKOSTI_TOO_MANY_SENDS);
+    IS(myrkosti_tick(table, SIZE), MYRKOSTI_DONE);
+    IS(fetch_anew(table, 7), MYRKOSTI_DONE);
+    check_ages(table, 0, 1, 10);
+}
+
+/* a stored age is 0 to 10, or 255 for none */
+static void range_ages(void)
+{
+    uint8_t table[SIZE], before[SIZE], record[MYRKOSTI_RECORD];
+    IS(start(table, SIZE, PORTS, NOBODY), MYRKOSTI_DONE);
+    for (unsigned place = 0; place < 3; place++) {
+        uint8_t *stored = table + MYRKOSTI_HEADER + MYRKOSTI_RECORD + MYRKOSTI_AT_AGES + place;
+        for (unsigned age = 0; age < 256; age++) {
+            *stored = (uint8_t)age;
+            IS(myrkosti_port(table, SIZE, 1, record), age <= 10 || age == 255 ? MYRKOSTI_DONE : MYRKOSTI_TABLE_WRONG);
+        }
+        *stored = 11;
+        memcpy(before, table, SIZE);
+        IS(myrkosti_tick(table, SIZE), MYRKOSTI_TABLE_WRONG);
+        IS(memcmp(table, before, SIZE), 0);
+        *stored = 10;
+        IS(myrkosti_tick(table, SIZE), MYRKOSTI_DONE);
+        IS(*stored, 255);
+    }
+}
+
 int main(void)
 {
     uint8_t table[SIZE];
@@ -208,6 +269,8 @@ int main(void)
     IS(start(table, SIZE, PORTS, NOBODY), MYRKOSTI_DONE);
     refuse_arguments(table);
     form_a_trunk(table);
+    limit_sends();
+    range_ages();
     printf("C interface: %u checks passed, %u failed\n", passed, failed);
     return failed != 0;
 }
