@@ -26,6 +26,7 @@ FAST_PERIODIC_TIME, SLOW_PERIODIC_TIME, SHORT_TIMEOUT_TIME, LONG_TIMEOUT_TIME, A
 FRAME = 124                                 # octets of a sent frame, without FCS
 SLOW_PROTOCOLS = bytes.fromhex('0180C2000002')
 NO_SEND = 255                               # a free place among the ages of sends
+OLDEST_AGE = 10                             # of a send that counts, in ticks (request M-101)
 
 HEADER, RECORD, BLOCK = Struct('>BH6sH'), Struct('>9B2HB3B6s2H15s15s'), Struct('>H6sHHHB')      # 11, 57, 15 octets
 
@@ -72,7 +73,7 @@ def table_size(count): return HEADER.size + RECORD.size * count if 1 <= count <=
 def in_range(octets, count):
     v = RECORD.unpack(octets)
     highest = 5, 3, 4, 1, count, 1, 1, 1, 255, 900, 300, 20
-    return v[4] >= 1 and all(x <= h for x, h in zip(v, highest)) and all(age <= 9 or age == NO_SEND for age in v[12:15])
+    return v[4] >= 1 and all(x <= h for x, h in zip(v, highest)) and all(age <= OLDEST_AGE or age == NO_SEND for age in v[12:15])
 
 def port_of(octets):
     v = RECORD.unpack(octets)
@@ -341,7 +342,7 @@ def tick(memory):
         p.current_while = max(p.current_while - 1, 0)
         p.periodic_timer = max(p.periodic_timer - 1, 0)
         p.wait_while = max(p.wait_while - 1, 0)
-        p.ages = [age + 1 if age < 9 else NO_SEND for age in p.ages]
+        p.ages = [age + 1 if age < OLDEST_AGE else NO_SEND for age in p.ages]
         receive_machine(p)
     return finish(table, memory)
 
