@@ -46,7 +46,7 @@ enum {
     MYRKOSTI_ILLEGAL = 8,         /* a Slow Protocols frame that breaks the rules of its subtype */
     MYRKOSTI_NOT_COLLECTING = 9,  /* a Marker, and the port neither collects nor distributes */
     MYRKOSTI_NOTHING_TO_SEND = 10, /* fetch: nothing is due, the link is down or the duplex half */
-    MYRKOSTI_TOO_MANY_SENDS = 11, /* fetch: something is due, but three LACPDUs went in the last ten ticks; ask again after the next tick */
+    MYRKOSTI_TOO_MANY_SENDS = 11, /* fetch: one is due, but three LACPDUs went with fewer than eleven ticks after the first; ask after the next tick */
     MYRKOSTI_RESPONSE = 12        /* a Marker Response: nobody here awaits one */
 };
 
@@ -67,7 +67,7 @@ enum {
  *    9-10    current-while timer, in ticks
  *   11-12    periodic timer, in ticks
  *   13       wait timer, in ticks
- *   14-16    ages in ticks of the sends that are remembered, newest first; 255 where there is none
+ *   14-16    ages in ticks, 0 to 10, of the sends that are remembered, newest first; 255 where there is none
  *   17-22    own address
  *   23-24    key
  *   25-26    port priority
@@ -118,7 +118,8 @@ uint32_t myrkosti_table_size(uint32_t ports);
  * Starts a table. Call it once before everything else, and again to begin anew; what the memory held before does not matter. Links are
  * down and duplexes full then: tell the library of each link that is up. Every port begins with the settings given here, so all have one
  * address: give each its own by myrkosti_settings before its link comes up. `system` and `system_priority` name this switch to its
- * neighbours and must be its own; `collector_max_delay` counts tens of microseconds.
+ * neighbours and must be its own; `collector_max_delay` counts tens of microseconds. What was sent before is forgotten: after a further
+ * start let a second pass before you tell of the first link that is up, or more LACPDUs could go than three a second.
  * Answers 0, 1 (memory size or port count) or 4.
  */
 uint32_t myrkosti_start(uint8_t *table, size_t table_len, uint32_t ports,
@@ -135,8 +136,8 @@ uint32_t myrkosti_receive(uint8_t *table, size_t table_len, uint32_t port,
                           const uint8_t *frame, size_t frame_len, uint8_t *out, size_t out_len, uint32_t *sent);
 
 /*
- * A tenth of a second has passed. Call it ten times a second, for all ports at once. Do not make up for late ticks in a burst: it would shorten
- * every timer, and more LACPDUs could go than three a second. Answers 0 or 1.
+ * A tenth of a second has passed. Call it ten times a second, for all ports at once, and no sooner than 100 ms after the tick before. Do not make
+ * up for late ticks in a burst: it would shorten every timer, and more LACPDUs could go than three a second. Answers 0 or 1.
  */
 uint32_t myrkosti_tick(uint8_t *table, size_t table_len);
 
@@ -156,7 +157,7 @@ uint32_t myrkosti_settings(uint8_t *table, size_t table_len, uint32_t port,
                            bool activity, bool timeout, bool aggregation, const uint8_t partner[MYRKOSTI_BLOCK]);
 
 /*
- * The next LACPDU of a port. On answer 0 `out` begins with a frame of 124 octets, which you send on that port; octets after it are kept.
+ * The next LACPDU of a port. On answer 0 `out` begins with a frame of 124 octets, which you send on that port at once; octets after it are kept.
  * Ask every port after every call that was answered 0, and after every tick; but first let the chip receive on each port whose record has
  * MYRKOSTI_COLLECTING in its state, since the LACPDU says so, and stop it sending on each port that distributes no longer.
  * Answers 0 to 3, 10 or 11.

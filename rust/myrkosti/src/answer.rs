@@ -35,7 +35,8 @@ pub enum Refusal {
     NotCollecting,
     /// 10: nothing is due, the link is down or the duplex half.
     NothingToSend,
-    /// 11: something is due, but three LACPDUs went in the last ten ticks; ask again after the next tick.
+    /// 11: something is due, but three LACPDUs went with fewer than eleven ticks after the first of them; ask again after the next
+    /// tick.
     TooManySends,
     /// 12: a Marker Response: nobody here awaits one.
     Response,
@@ -125,7 +126,7 @@ impl fmt::Display for Refusal {
             Refusal::Illegal => "a frame that breaks the rules of its subtype",
             Refusal::NotCollecting => "a Marker on a port that neither collects nor distributes",
             Refusal::NothingToSend => "nothing to send",
-            Refusal::TooManySends => "three LACPDUs went in the last ten ticks",
+            Refusal::TooManySends => "three LACPDUs went with fewer than eleven ticks after the first of them",
             Refusal::Response => "a Marker Response that nobody awaits",
             Refusal::Unnamed(number) => return write!(f, "answer {number}, which has no name here"),
             Refusal::Unreachable => "the library could not be reached",

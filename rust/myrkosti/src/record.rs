@@ -216,7 +216,7 @@ pub struct Record {
     pub periodic_timer: u16,
     /// Wait timer, in ticks.
     pub wait_while: u8,
-    /// Ages in ticks of the sends that are remembered, newest first.
+    /// Ages in ticks, 0 to 10, of the sends that are remembered, newest first.
     pub sends: [Option<u8>; 3],
     /// The settings in force.
     pub settings: Settings,

@@ -132,7 +132,8 @@ impl<M: AsRef<[u8]> + AsMut<[u8]>> Table<M> {
         Table { memory: self.memory.as_mut() }
     }
 
-    /// Begins anew in the same memory. As [`Table::start_in`].
+    /// Begins anew in the same memory. As [`Table::start_in`]. What was sent before is forgotten: let a second pass before you
+    /// tell of the first link that is up, or more LACPDUs could go than three a second.
     ///
     /// # Errors
     /// As [`Table::start_in`]; then the table is as it was.
@@ -174,7 +175,8 @@ impl<M: AsRef<[u8]> + AsMut<[u8]>> Table<M> {
         })
     }
 
-    /// A tenth of a second has passed. Call it ten times a second, for all ports at once.
+    /// A tenth of a second has passed. Call it ten times a second, for all ports at once, and no sooner than 100 ms after the tick
+    /// before: otherwise more LACPDUs could go than three a second.
     ///
     /// # Errors
     /// [`Refusal::TableWrong`].
@@ -217,8 +219,8 @@ impl<M: AsRef<[u8]> + AsMut<[u8]>> Table<M> {
         ))
     }
 
-    /// The next LACPDU of a port, to be sent on it: the first [`FRAME`] octets of the outgoing buffer. Ask every port after every
-    /// call that was not refused, and after every tick.
+    /// The next LACPDU of a port, to be sent on it at once: the first [`FRAME`] octets of the outgoing buffer. Ask every port
+    /// after every call that was not refused, and after every tick.
     ///
     /// # Errors
     /// Refusals 1 to 3, [`Refusal::NothingToSend`], [`Refusal::TooManySends`].

@@ -85,6 +85,25 @@ fn two_links_become_a_trunk() {
 }
 
 #[test]
+fn a_fourth_lacpdu_goes_once_eleven_ticks_came_after_the_first() {
+    let mut table = Table::start(1, OURS, 0, &settings()).unwrap();
+    let mut out = [0; FRAME];
+    table.link(1, true).unwrap();
+    for key in 2..5 {
+        table.settings(1, &Settings { key, ..settings() }).unwrap();
+        assert_eq!(table.fetch(1, &mut out).map(<[u8]>::len), Ok(FRAME));
+    }
+    table.settings(1, &settings()).unwrap();
+    for age in 0..=10 {
+        assert_eq!(table.port(1).unwrap().sends, [Some(age); 3]);
+        assert_eq!(table.fetch(1, &mut out), Err(Refusal::TooManySends));
+        table.tick().unwrap();
+    }
+    assert_eq!(table.fetch(1, &mut out).map(<[u8]>::len), Ok(FRAME));
+    assert_eq!(table.port(1).unwrap().sends, [Some(0), None, None]);
+}
+
+#[test]
 fn refusals() {
     assert_eq!(Table::start(0, OURS, 0, &settings()), Err(Refusal::TableWrong));
     assert_eq!(Table::start(33, OURS, 0, &settings()), Err(Refusal::TableWrong));
