@@ -195,9 +195,9 @@ MUTANTS = [
     Mutant("0 never stuck", "a long timeout that starts the timer at 901", ("never-stuck",), "machine::receive::timeout_time", (
         ("machine/specs/Time.antt", "timeoutTime short = cond short shortTimeoutTime longTimeoutTime", "timeoutTime short = cond short shortTimeoutTime 901"),
         ("machine/src/receive.rt", "        LONG_TIMEOUT_TIME\n", "        901\n"))),
-    Mutant("0 refusals are silent", "a refusal that writes the table", ("refused-link", "refused-fetch"), "", (
+    Mutant("0 refusals are silent", "a refusal that writes the table", ("refused-line", "refused-fetch"), "", (
         ("control/specs/After.antt", "after c t = unless (answer c t) t (changedBy c t)", "after c t = unless (answer c t) (changedBy c t) (changedBy c t)"),)),
-    Mutant("0 refusals are silent", "a refusal that clears the buffer", ("refused-link", "refused-fetch"), "", (
+    Mutant("0 refusals are silent", "a refusal that clears the buffer", ("refused-line", "refused-fetch"), "", (
         ("control/specs/After.antt", "outgoing c t = unless (answer c t) (bufferOf c) (writtenBy c t)", "outgoing c t = unless (answer c t) [] (writtenBy c t)"),)),
     Mutant("1 the rule afresh", "bystanders forgotten", ("rule-afresh",), "trunk::select::must_move", (
         ("trunk/specs/Settled.antt", "|| not (eqb (p .aggregator) k)", "|| not (eqb (p .aggregator) (p .aggregator))"),

@@ -2,7 +2,7 @@
 """The story of six ports, worked out by a model that was written from the papers alone.
 
 The upper part models document 01 over IEEE Std 802.3ad-2000, Clause 43: a record for each port, the machines by the
-standard's names, the nine calls. Where the papers leave a choice it takes the reading that was
+standard's names, the eight calls. Where the papers leave a choice it takes the reading that was
 recommended for the project, which docs/DECISIONS.md gives in its own words; its author saw neither that file nor the code;
 the memory is laid out as the design fixes it. The lower part performs the calls of the story and prints its lines.
 Nothing here is taken from the code that is compared with these lines.
@@ -295,7 +295,7 @@ def class_of(frame):
         return 'LACPDU' if (frame[17], frame[37], frame[57]) == (20, 20, 16) else 8
     return {1: 'Marker', 2: 'Response'}.get(frame[16], 8) if frame[17] == 16 else 8
 
-# ------------------------------------------------ the nine calls
+# ------------------------------------------------ the eight calls
 def opened(memory, n=1, out=None, s=None):
     """The first refusal of 1, 2, 3, 4 that belongs to the call, or 0; the table; the port named."""
     table = table_of(memory)
@@ -346,22 +346,15 @@ def tick(memory):
         receive_machine(p)
     return finish(table, memory)
 
-def link(memory, n, up):
+def line(memory, n, up, full):
+    """Link and duplex together (M-103). An up port whose duplex changes is down for a moment within the call."""
     no, table, p = opened(memory, n)
-    if no or p.link == up:
+    if no or (p.link, p.full) == (up, full):
         return no
-    p.link = up
-    receive_machine(p)
-    return finish(table, memory)
-
-def duplex(memory, n, full):
-    """On an up port this acts as down, then up, within the call."""
-    no, table, p = opened(memory, n)
-    if no or p.full == full:
-        return no
-    up, p.link = p.link, False
-    receive_machine(p)
-    p.full, p.link = full, up
+    if p.full != full:
+        p.link = False
+        receive_machine(p)
+    p.link, p.full = up, full
     receive_machine(p)
     return finish(table, memory)
 
@@ -467,11 +460,11 @@ def tell():
     m = s.memory
     all_but_4 = '5.2>2 5.3>3 6.5>5 5.1>6'
     s.event('start', s.start(), 'R1 P1')
-    s.event('links 1 to 6 up', [link(m, n, True) for n in range(1, 7)], 'P1')
+    s.event('links 1 to 6 up', [line(m, n, True, True) for n in range(1, 7)], 'P1')
     s.event('partners 5.1 5.2 5.3, 6.4 6.5 6.6', s.speak('5.1>1 5.2>2 5.3>3 6.4>4 6.5>5 6.6>6'), 'P1')
     s.event('19 ticks', s.ticks(19))
     s.event('1 tick', s.ticks(1), 'R1 R4 R2 P4')
-    s.event('link 1 down', link(m, 1, False), 'R1 P1')
+    s.event('link 1 down', line(m, 1, False, True), 'R1 P1')
     answer_received('LACPDU on port 1', s.hear(1, s.lacpdu('5.1', 1)))
     answer_received('Marker on port 1', s.hear(1, MARKER))
     answer_received('Marker on port 2', s.hear(2, MARKER))
@@ -484,13 +477,15 @@ def tell():
         s.event(f'{count} ticks', s.ticks(count), further)
     s.event('key of port 3 becomes 2', settings(m, 3, AT_START._replace(key=2)), 'R2 R3')
     s.event('all speak but 6.4', s.speak(all_but_4))
-    s.event('duplex of port 5 half', duplex(m, 5, False), 'P5')
+    s.event('duplex of port 5 half', line(m, 5, True, False), 'P5')
     s.event('20 ticks', s.ticks(20), 'R2 R3 R5')
-    s.event('link 1 up', link(m, 1, True))
+    s.event('port 1 up at half duplex', line(m, 1, True, False), 'P1')
+    answer('fetch on port 1', s.fetch(1))
+    s.event('duplex of port 1 full', line(m, 1, True, True))
     s.event('6.6 speaks on port 1', s.speak('6.6>1'))
     s.event('5 ticks', s.ticks(5))
     s.event('6.4 speaks on port 4', s.speak('6.4>4'), 'R1')
-    s.event('duplex of port 5 full', duplex(m, 5, True))
+    s.event('duplex of port 5 full', line(m, 5, True, True))
     s.event('6.5 speaks on port 5', s.speak('6.5>5'), 'R1')
     s.event('key of port 3 becomes 1', settings(m, 3, AT_START))
     s.event('all speak', s.speak('6.6>1 5.2>2 5.3>3 6.4>4 6.5>5 5.1>6'))
@@ -502,7 +497,7 @@ def tell():
         answer(f'fetch on port {n}', no)
     answer('fetch on port 1', s.fetch(1))
     answer('settings as they are on port 1', settings(m, 1, AT_START))
-    answer('link of port 1 up again', link(m, 1, True))
+    answer('port 1 up at full duplex again', line(m, 1, True, True))
     answer('fetch with a buffer of 123 octets', s.fetch(1, 123))
     answer('settings with a wrong default', settings(m, 1, with_default_state(0x10)))
     answer('tick of a table one octet short', tick(m[:-1]))

@@ -1,4 +1,4 @@
-// The story of six ports that form, lose and re-form two trunks, told by the nine calls and both reports, and what they refuse.
+// The story of six ports that form, lose and re-form two trunks, told by the eight calls, and what they refuse.
 // tools/story-of-six.py works out the same lines from the documents.
 ghost use Prim.Native.Nat.{_≤_};
 ghost use lib.ListN.{length};
@@ -254,9 +254,9 @@ fn fetch(table: &mut [u8], n: u32) -> Answer {
 // ---- the story
 
 fn links_up(table: &mut [u8], a: u32, b: u32, c: u32) {
-    control::link(table, a, true);
-    control::link(table, b, true);
-    control::link(table, c, true);
+    control::line(table, a, true, true);
+    control::line(table, b, true, true);
+    control::line(table, c, true, true);
 }
 
 fn partners_5_speak(table: &mut [u8]) {
@@ -315,7 +315,7 @@ fn tell_markers(table: &mut [u8]) {
 }
 
 fn tell_link_down(table: &mut [u8]) {
-    control::link(table, 1, false);
+    control::line(table, 1, false, true);
     tell(b"link 1 down                       ", table);
     tell_aggregator(table, 1);
     tell_port(table, 1);
@@ -385,7 +385,7 @@ fn tell_other_key(table: &mut [u8]) {
 
 // Port 5 has half duplex.
 fn tell_half_duplex(table: &mut [u8]) {
-    control::duplex(table, 5, false);
+    control::line(table, 5, true, false);
     tell(b"duplex of port 5 half             ", table);
     tell_port(table, 5);
     ticks(table, 20);
@@ -395,9 +395,17 @@ fn tell_half_duplex(table: &mut [u8]) {
     tell_aggregator(table, 5);
 }
 
+// Link 1 comes up at half duplex, and nothing is to be fetched.
+fn tell_up_at_half_duplex(table: &mut [u8]) {
+    control::line(table, 1, true, false);
+    tell(b"port 1 up at half duplex          ", table);
+    tell_port(table, 1);
+    tell_answer(b"fetch on port 1", fetch(table, 1));
+}
+
 fn tell_first_back(table: &mut [u8]) {
-    control::link(table, 1, true);
-    tell(b"link 1 up                         ", table);
+    control::line(table, 1, true, true);
+    tell(b"duplex of port 1 full             ", table);
     speak(table, 6, 6, 1);
     tell(b"6.6 speaks on port 1              ", table);
     ticks(table, 5);
@@ -408,7 +416,7 @@ fn tell_first_back(table: &mut [u8]) {
 }
 
 fn tell_others_back(table: &mut [u8]) {
-    control::duplex(table, 5, true);
+    control::line(table, 5, true, true);
     tell(b"duplex of port 5 full             ", table);
     speak(table, 6, 5, 5);
     tell(b"6.5 speaks on port 5              ", table);
@@ -457,7 +465,10 @@ fn tell_more_fetches(table: &mut [u8]) {
 fn tell_no_change(table: &mut [u8]) {
     let mut out = [0xffu8; 123];
     tell_answer(b"settings as they are on port 1", configure(table, 1, 1, 0));
-    tell_answer(b"link of port 1 up again", control::link(table, 1, true));
+    tell_answer(
+        b"port 1 up at full duplex again",
+        control::line(table, 1, true, true),
+    );
     tell_answer(
         b"fetch with a buffer of 123 octets",
         control::fetch(table, 1, &mut out),
@@ -559,6 +570,7 @@ fn tell_losses(table: &mut [u8]) {
 }
 
 fn tell_return(table: &mut [u8]) {
+    tell_up_at_half_duplex(table);
     tell_first_back(table);
     tell_others_back(table);
     tell_forming_again(table);

@@ -28,7 +28,7 @@ use Rattle.control.specs.declared.answer.Answer.the-variants.{Done, Lacpdu, Mar
 use Rattle.control.specs.declared.answer.Reason.{Reason}
 use Rattle.control.specs.declared.answer.Reason.the-variants as reason
 use Rattle.control.specs.Answer.{isNumber, onPort, withRoom, withDefault, frameAnswer, dueAnswer}
-use Rattle.control.specs.Call.{Call, start, receive, tick, link, duplex, configure, fetch, report, aggregator}
+use Rattle.control.specs.Call.{Call, start, receive, tick, line, configure, fetch, report, aggregator}
 use Rattle.control.specs.After.{answer, afterFrame, changedBy, unless, after, outgoing, bufferOf, writtenBy}
 use Rattle.claims.specs.Run.{isLacpdu, Octets, Takes, AllTake, accepted, run, Made}
 use Rattle.claims.specs.AtRest.{Sound}
@@ -125,8 +125,7 @@ unfolding answer changedBy
 changed-sound t s (start count system delay x) k e = started-sound t count system delay x k e
 changed-sound t s (receive n frame out) k e = frame-sound t s n frame out (k .0) (answer (receive n frame out) t) refl
 changed-sound t s tick k e = tick-sound t s
-changed-sound t s (link n up) k e = line-sound t s (n - 1) (named t n Done e) (record { up = up; full = portAt t (n - 1) .line .full })
-changed-sound t s (duplex n full) k e = line-sound t s (n - 1) (named t n Done e) (record { up = portAt t (n - 1) .line .up; full = full })
+changed-sound t s (line n l) k e = line-sound t s (n - 1) (named t n Done e) l
 changed-sound t s (configure n x) k e = settings-sound t s (n - 1) (named t n (withDefault x Done) e) x k
 changed-sound t s (fetch n out) k e = send-sound t s (n - 1) (named t n (withRoom out (dueAnswer (dueOf (portAt t (n - 1))))) e)
 changed-sound t s (report n) k e = s
@@ -260,8 +259,7 @@ not-one t r (receive n frame out) s =
     let a = frameAnswer (classOf frame) l m in
     port-not-one t r n (withRoom out a) (neither (ltb (length out) 124) (Refused reason.Buffer) a refl (frame-not-one (classOf frame) l m))
 not-one t r tick s = ap (λ (b : Bool). answersOne (cond b Done (Refused reason.Table))) r
-not-one t r (link n up) s = port-not-one t r n Done refl
-not-one t r (duplex n full) s = port-not-one t r n Done refl
+not-one t r (line n l) s = port-not-one t r n Done refl
 not-one t r (configure n x) s = port-not-one t r n (withDefault x Done) (neither (lawful x) Done (Refused reason.Default) refl refl)
 not-one t r (fetch n out) s =
     let a = dueAnswer (dueOf (portAt t (n - 1))) in

@@ -32,7 +32,7 @@ use Rattle.control.specs.declared.answer.Answer.{Answer}
 use Rattle.control.specs.declared.answer.Answer.the-variants.{Done, Lacpdu, Marker, Refused}
 use Rattle.control.specs.declared.answer.Reason.the-variants as reason
 use Rattle.control.specs.Answer.{isRoom, withDefault}
-use Rattle.control.specs.Call.{Call, start, receive, tick, link, duplex, configure, fetch, report, aggregator}
+use Rattle.control.specs.Call.{Call, start, receive, tick, line, configure, fetch, report, aggregator}
 use Rattle.control.specs.After.{answer, afterFrame, changedBy, unless, after}
 use Rattle.claims.specs.Run.{accepted, run, AllTake}
 use Rattle.claims.specs.AtRest.{Sound}
@@ -91,8 +91,7 @@ changed-count t s (start count system delay x) e =
     ∙ same-count count (countIn t) (sym (start-room t count system delay x e .1) ∙ in-range t (s .ranged) .size)
 changed-count t s (receive n frame out) e = unfold changedBy in frame-count t (n - 1) frame (answer (receive n frame out) t)
 changed-count t s tick e = unfold changedBy afterTick in again-count t (worked (ours t) (map advanced (ports t)))
-changed-count t s (link n up) e = unfold changedBy in line-count t (n - 1) (record { up = up; full = portAt t (n - 1) .line .full })
-changed-count t s (duplex n full) e = unfold changedBy in line-count t (n - 1) (record { up = portAt t (n - 1) .line .up; full = full })
+changed-count t s (line n l) e = unfold changedBy in line-count t (n - 1) l
 changed-count t s (configure n x) e = unfold changedBy in settings-count t (n - 1) x
 changed-count t s (fetch n out) e = unfold changedBy afterSend in again-count t (set (ports t) (n - 1) (sent (portAt t (n - 1))))
 changed-count t s (report n) e = unfold changedBy in refl

@@ -40,7 +40,7 @@ use Rattle.work.specs.Work.{ours, again, worked, afterOne, heardAt, afterHeard,
 use Rattle.control.specs.declared.answer.Answer.{Answer}
 use Rattle.control.specs.declared.answer.Answer.the-variants.{Done, Lacpdu, Marker, Refused}
 use Rattle.control.specs.Answer.{withRoom, withDefault, dueAnswer}
-use Rattle.control.specs.Call.{Call, start, receive, tick, link, duplex, configure, fetch, report, aggregator}
+use Rattle.control.specs.Call.{Call, start, receive, tick, line, configure, fetch, report, aggregator}
 use Rattle.control.specs.After.{answer, afterFrame, changedBy, unless, after}
 use Rattle.claims.specs.Run.{isLacpdu, Octets, Takes, AllTake, accepted, run}
 use Rattle.claims.specs.AtRest.{Sound, goesWith}
@@ -347,21 +347,16 @@ module _ (t : List ℕ) (s : Sound t) (i : ℕ) (h : i < countIn t) where
   under true b e f = f
   under false b e f = absurd (false≢true e)
 
-  half-at : (m : ℕ) (l : Port → Line) → eqb i m && toHalf (portAt t i .line) (l (portAt t i)) ≡ false
-      → eqb i m ≡ true → toHalf (portAt t m .line) (l (portAt t m)) ≡ false
-  half-at m l f e = ap (λ (p : Port). toHalf (p .line) (l p)) (at-same m e) ∙ under (eqb i m) (toHalf (portAt t i .line) (l (portAt t i))) e f
+  half-at : (m : ℕ) (l : Line) → eqb i m && toHalf (portAt t i .line) l ≡ false → eqb i m ≡ true → toHalf (portAt t m .line) l ≡ false
+  half-at m l f e = ap (λ (p : Port). toHalf (p .line) l) (at-same m e) ∙ under (eqb i m) (toHalf (portAt t i .line) l) e f
 
   changed-goes : (c : Call) → Takes c → accepted (answer c t) ≡ true → ends c t i ≡ false → Goes t (changedBy c t) i
   unfolding changedBy
   changed-goes (start count system delay x) k e f = absurd (true≢false (sym e ∙ f))
   changed-goes (receive n frame out) k e f = frame-goes n frame out (k .0) (answer (receive n frame out) t) refl f
   changed-goes tick k e f = tick-goes f
-  changed-goes (link n up) k e f =
-      line-goes (n - 1) (unfold answer in named t n Done e) (record { up = up; full = portAt t (n - 1) .line .full })
-      (half-at (n - 1) (λ p. record { up = up; full = p .line .full }) (under (accepted (answer (link n up) t)) _ e f))
-  changed-goes (duplex n full) k e f =
-      line-goes (n - 1) (unfold answer in named t n Done e) (record { up = portAt t (n - 1) .line .up; full = full })
-      (half-at (n - 1) (λ p. record { up = p .line .up; full = full }) (under (accepted (answer (duplex n full) t)) _ e f))
+  changed-goes (line n l) k e f =
+      line-goes (n - 1) (unfold answer in named t n Done e) l (half-at (n - 1) l (under (accepted (answer (line n l) t)) _ e f))
   changed-goes (configure n x) k e f = settings-goes (n - 1) (unfold answer in named t n (withDefault x Done) e) x k
   changed-goes (fetch n out) k e f = send-goes (n - 1) (unfold answer in named t n (withRoom out (dueAnswer (due (portAt t (n - 1))))) e)
   changed-goes (report n) k e f = unchanged t i

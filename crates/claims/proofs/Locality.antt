@@ -37,7 +37,7 @@ use Rattle.work.specs.Work.{ours, again, worked, afterOne, heardAt, afterHeard,
 use Rattle.control.specs.declared.answer.Answer.{Answer}
 use Rattle.control.specs.declared.answer.Answer.the-variants.{Done, Lacpdu, Marker, Refused}
 use Rattle.control.specs.Answer.{withRoom, withDefault, dueAnswer}
-use Rattle.control.specs.Call.{Call, start, receive, tick, link, duplex, configure, fetch, report, aggregator}
+use Rattle.control.specs.Call.{Call, start, receive, tick, line, configure, fetch, report, aggregator}
 use Rattle.control.specs.After.{answer, afterFrame, changedBy, unless, after}
 use Rattle.claims.specs.Run.{Octets, Takes, accepted, isLacpdu}
 use Rattle.claims.specs.AtRest.{Sound}
@@ -204,8 +204,7 @@ module _ (t : List ℕ) (s : Sound t) (j : ℕ) (h : j < countIn t) where
   changed-local (start count system delay x) k e f = absurd (not-itself (changedBy (start count system delay x) t) (f j h refl))
   changed-local (receive n frame out) k e f = frame-local n frame out (k .0) (answer (receive n frame out) t) refl f
   changed-local tick k e f = absurd (not-itself (changedBy tick t) (f j h refl))
-  changed-local (link n up) k e f = line-local (n - 1) (named t n Done e) (record { up = up; full = portAt t (n - 1) .line .full }) f
-  changed-local (duplex n full) k e f = line-local (n - 1) (named t n Done e) (record { up = portAt t (n - 1) .line .up; full = full }) f
+  changed-local (line n l) k e f = line-local (n - 1) (named t n Done e) l f
   changed-local (configure n x) k e f = settings-local (n - 1) (named t n (withDefault x Done) e) x k f
   changed-local (fetch n out) k e f = send-local (n - 1) (named t n (withRoom out (dueAnswer (due (portAt t (n - 1))))) e) f
   changed-local (report n) k e f = refl

@@ -42,7 +42,7 @@ use Rattle.control.specs.declared.answer.Answer.{Answer}
 use Rattle.control.specs.declared.answer.Answer.the-variants.{Done, Lacpdu, Marker, Refused}
 use Rattle.control.specs.declared.answer.Reason.the-variants as reason
 use Rattle.control.specs.Answer.{answerNumber, isNumber, withRoom, withDefault, dueAnswer}
-use Rattle.control.specs.Call.{Call, start, receive, tick, link, duplex, configure, fetch, report, aggregator}
+use Rattle.control.specs.Call.{Call, start, receive, tick, line, configure, fetch, report, aggregator}
 use Rattle.control.specs.After.{answer, afterFrame, changedBy, unless, after}
 use Rattle.claims.specs.Run.{Octets, Takes, AllTake, accepted, run, Made}
 use Rattle.claims.specs.AtRest.{Sound}
@@ -262,12 +262,8 @@ module _ (t : List ℕ) (s : Sound t) (n : ℕ) (some : 1 ≤ n) (h : n - 1 < co
   call-at (receive m frame out) g =
       left (receive m frame out) (λ e. unfold changedBy in frame-ages t s (n - 1) h m frame out (g .0) (answer (receive m frame out) t) refl)
   call-at tick g = either tick (map suc l) (λ e. tick-at) (λ e. absurd (true≢false (sym tick-accepted ∙ e)))
-  call-at (link m up) g =
-      left (link m up) (λ e. unfold changedBy in
-      line-ages t s (n - 1) h (m - 1) (unfold answer in named t m Done e) (record { up = up; full = portAt t (m - 1) .line .full }))
-  call-at (duplex m full) g =
-      left (duplex m full) (λ e. unfold changedBy in
-      line-ages t s (n - 1) h (m - 1) (unfold answer in named t m Done e) (record { up = portAt t (m - 1) .line .up; full = full }))
+  call-at (line m v) g =
+      left (line m v) (λ e. unfold changedBy in line-ages t s (n - 1) h (m - 1) (unfold answer in named t m Done e) v)
   call-at (configure m x) g =
       left (configure m x) (λ e. unfold changedBy in settings-ages t s (n - 1) h (m - 1) (unfold answer in named t m (withDefault x Done) e) x g)
   call-at (fetch m out) g =
@@ -394,8 +390,7 @@ behind n t (receive m frame out ∷ cs) f l a r =
     sooner n t (receive m frame out) cs l a r a r refl refl (behind n (after (receive m frame out) t) cs (f .1) l a r)
 behind n t (tick ∷ cs) f l a r =
     sooner n t tick cs l a r (suc a) (map suc r) (map-append l (a ∷ r)) (omega arith) (behind n (after tick t) cs (f .1) (map suc l) (suc a) (map suc r))
-behind n t (link m up ∷ cs) f l a r = sooner n t (link m up) cs l a r a r refl refl (behind n (after (link m up) t) cs (f .1) l a r)
-behind n t (duplex m full ∷ cs) f l a r = sooner n t (duplex m full) cs l a r a r refl refl (behind n (after (duplex m full) t) cs (f .1) l a r)
+behind n t (line m v ∷ cs) f l a r = sooner n t (line m v) cs l a r a r refl refl (behind n (after (line m v) t) cs (f .1) l a r)
 behind n t (configure m x ∷ cs) f l a r = sooner n t (configure m x) cs l a r a r refl refl (behind n (after (configure m x) t) cs (f .1) l a r)
 behind n t (fetch m out ∷ cs) f l a r =
     let c = fetch m out in

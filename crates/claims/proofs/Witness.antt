@@ -77,7 +77,7 @@ witness = record {
     gives = refl;
   };
   never-stuck = refl;
-  refused-link = refl;
+  refused-line = refl;
   refused-fetch = refl;
   rule-afresh = refl;
   distributing = refl;

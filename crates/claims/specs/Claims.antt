@@ -14,7 +14,7 @@ use Rattle.work.specs.Work.{ours, worked}
 use Rattle.control.specs.declared.answer.Answer.the-variants.{Refused}
 use Rattle.control.specs.declared.answer.Reason.{Reason}
 use Rattle.control.specs.declared.answer.Reason.the-variants.{Table}
-use Rattle.control.specs.Call.{Call, start, receive, tick, link, duplex, configure, fetch, report, aggregator}
+use Rattle.control.specs.Call.{Call, start, receive, tick, line, configure, fetch, report, aggregator}
 use Rattle.control.specs.After.{answer, after, bufferOf, outgoing}
 use Rattle.claims.specs.Run.{Made}
 use Rattle.claims.specs.AtRest.{Sound, SaysMux}
@@ -29,8 +29,7 @@ abbrev pub isStart : Call → Bool
 isStart (start count system delay s) = true
 isStart (receive n frame out) = false
 isStart tick = false
-isStart (link n up) = false
-isStart (duplex n full) = false
+isStart (line n l) = false
 isStart (configure n s) = false
 isStart (fetch n out) = false
 isStart (report n) = false

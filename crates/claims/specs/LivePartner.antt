@@ -17,7 +17,7 @@ use Rattle.port.specs.Receive.{withState}
 use Rattle.table.specs.Table.{portAt}
 use Rattle.trunk.specs.Displaced.{isDisplaced}
 use Rattle.control.specs.declared.answer.Answer.the-variants.{Lacpdu}
-use Rattle.control.specs.Call.{Call, start, receive, tick, link, duplex, configure, fetch, report, aggregator}
+use Rattle.control.specs.Call.{Call, start, receive, tick, line, configure, fetch, report, aggregator}
 use Rattle.control.specs.After.{answer, after}
 use Rattle.claims.specs.Run.{isLacpdu, Takes, AllTake, accepted, run, Made}
 
@@ -43,16 +43,13 @@ abbrev pub toHalf : Line → Line → Bool
 toHalf old new = not (sameLine new old) && (new .up && not (new .full))
 
 -- what ends it for port i, from 0: an accepted start; an accepted LACPDU there, or one elsewhere that displaces it in PORT_DISABLED; the
--- tick at which its current-while timer runs out in EXPIRED; a link or duplex call on it that makes it up at half duplex
+-- tick at which its current-while timer runs out in EXPIRED; a line call that changes it to up at half duplex
 abbrev pub ends : Call → List ℕ → ℕ → Bool
 ends (start count system delay s) t i = accepted (answer (start count system delay s) t)
 ends (receive n frame out) t i =
     isLacpdu (answer (receive n frame out) t) && (eqb i (n - 1) || isDisplaced (blockOf (actorPart frame)) (portAt t i))
 ends tick t i = isExpired (portAt t i .phase .receive) && eqb (portAt t i .timers .current .0) 1
-ends (link n up) t i =
-    accepted (answer (link n up) t) && (eqb i (n - 1) && toHalf (portAt t i .line) (record { up = up; full = portAt t i .line .full }))
-ends (duplex n full) t i =
-    accepted (answer (duplex n full) t) && (eqb i (n - 1) && toHalf (portAt t i .line) (record { up = portAt t i .line .up; full = full }))
+ends (line n l) t i = accepted (answer (line n l) t) && (eqb i (n - 1) && toHalf (portAt t i .line) l)
 ends (configure n s) t i = false
 ends (fetch n out) t i = false
 ends (report n) t i = false

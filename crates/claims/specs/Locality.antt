@@ -11,7 +11,7 @@ use Rattle.table.specs.Table.{countIn, ports, portAt}
 use Rattle.trunk.specs.Selection.{sharesGroup}
 use Rattle.trunk.specs.Displaced.{isDisplaced}
 use Rattle.work.specs.Work.{ours}
-use Rattle.control.specs.Call.{Call, start, receive, tick, link, duplex, configure, fetch, report, aggregator}
+use Rattle.control.specs.Call.{Call, start, receive, tick, line, configure, fetch, report, aggregator}
 use Rattle.control.specs.After.{answer, after}
 use Rattle.claims.specs.Run.{isLacpdu, Takes, Made}
 
@@ -22,8 +22,7 @@ touches (start count system delay s) t k = true
 touches (receive n frame out) t k =
     eqb k (n - 1) || (isLacpdu (answer (receive n frame out) t) && isDisplaced (blockOf (actorPart frame)) (portAt t k))
 touches tick t k = true
-touches (link n up) t k = eqb k (n - 1)
-touches (duplex n full) t k = eqb k (n - 1)
+touches (line n l) t k = eqb k (n - 1)
 touches (configure n s) t k = eqb k (n - 1)
 touches (fetch n out) t k = eqb k (n - 1)
 touches (report n) t k = false

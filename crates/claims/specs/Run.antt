@@ -12,7 +12,7 @@ use Rattle.settings.specs.Settings.{ownOf}
 use Rattle.table.specs.Range.{headerFits, ownFits}
 use Rattle.control.specs.declared.answer.Answer.{Answer}
 use Rattle.control.specs.declared.answer.Answer.the-variants.{Done, Lacpdu, Marker, Refused}
-use Rattle.control.specs.Call.{Call, start, receive, tick, link, duplex, configure, fetch, report, aggregator}
+use Rattle.control.specs.Call.{Call, start, receive, tick, line, configure, fetch, report, aggregator}
 use Rattle.control.specs.After.{answer, after}
 
 -- every element is an octet
@@ -25,8 +25,7 @@ Takes (start count system delay s) =
     (headerFits (record { count = count; system = system; delay = delay }) ≡ true) × (ownFits (ownOf s) ≡ true)
 Takes (receive n frame out) = Octets frame × Octets out
 Takes tick = Unit
-Takes (link n up) = Unit
-Takes (duplex n full) = Unit
+Takes (line n l) = Unit
 Takes (configure n s) = ownFits (ownOf s) ≡ true
 Takes (fetch n out) = Octets out
 Takes (report n) = Unit

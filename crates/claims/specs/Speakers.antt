@@ -1,7 +1,7 @@
--- Systems, blocks, settings and frames of runs that are computed. We are system 9; all keys but those that are given are 1, and so is every
+-- Systems, blocks, settings, lines and frames of runs that are computed. We are system 9; all keys but those that are given are 1, and so is every
 -- priority.
 use Prim.Native.Nat.{ℕ}
-use mathlib.Core.Bool.{Bool, true}
+use mathlib.Core.Bool.{Bool, true, false}
 use mathlib.Core.List.{List}
 use Rattle.frame.specs.declared.block.Address.{Address}
 use Rattle.frame.specs.declared.block.Block.{Block}
@@ -9,6 +9,7 @@ use Rattle.frame.specs.declared.block.SystemId.{SystemId}
 use Rattle.frame.specs.declared.wire.TensOfMicroseconds.{TensOfMicroseconds}
 use Rattle.frame.specs.State.{stateOf}
 use Rattle.frame.specs.Wire.{lacpdu}
+use Rattle.machine.specs.declared.states.Line.{Line}
 use Rattle.settings.specs.declared.Settings.{Settings}
 
 abbrev pub address : ℕ → Address
@@ -47,6 +48,19 @@ keyedSettings k short o = record {
 
 abbrev pub settings : Bool → ℕ → Settings
 settings short o = keyedSettings 1 short o
+
+-- link and duplex
+abbrev pub upFull : Line
+upFull = record { up = true; full = true }
+
+abbrev pub upHalf : Line
+upHalf = record { up = true; full = false }
+
+abbrev pub downFull : Line
+downFull = record { up = false; full = true }
+
+abbrev pub downHalf : Line
+downHalf = record { up = false; full = false }
 
 -- an LACPDU of a port that says `a` of itself, to our port n, of which it says state octet v
 abbrev pub frameOf : Block → ℕ → ℕ → List ℕ

@@ -11,7 +11,7 @@ use Rattle.machine.specs.Time.{fastPeriodicTime}
 use Rattle.table.specs.Table.{countIn, portAt}
 use Rattle.control.specs.declared.answer.Answer.the-variants.{Done}
 use Rattle.control.specs.Answer.{answerNumber}
-use Rattle.control.specs.Call.{Call, start, receive, tick, link, duplex, configure, fetch, report, aggregator}
+use Rattle.control.specs.Call.{Call, start, receive, tick, line, configure, fetch, report, aggregator}
 use Rattle.control.specs.After.{answer, after}
 use Rattle.claims.specs.Run.{Takes, AllTake, accepted, run, Made}
 use Rattle.claims.specs.Claims.{isStart}
@@ -24,8 +24,7 @@ abbrev pub sendsBy : ℕ → Call → List ℕ → List ℕ → List ℕ
 sendsBy n (start count system delay s) t l = cond (accepted (answer (start count system delay s) t)) [] l
 sendsBy n (receive m frame out) t l = l
 sendsBy n tick t l = map suc l
-sendsBy n (link m up) t l = l
-sendsBy n (duplex m full) t l = l
+sendsBy n (line m v) t l = l
 sendsBy n (configure m s) t l = l
 sendsBy n (fetch m out) t l = cond (eqb n m && accepted (answer (fetch m out) t)) (0 ∷ l) l
 sendsBy n (report m) t l = l
@@ -69,8 +68,7 @@ abbrev pub isTick : Call → Bool
 isTick (start count system delay s) = false
 isTick (receive m frame out) = false
 isTick tick = true
-isTick (link m up) = false
-isTick (duplex m full) = false
+isTick (line m v) = false
 isTick (configure m s) = false
 isTick (fetch m out) = false
 isTick (report m) = false

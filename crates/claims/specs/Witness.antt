@@ -28,13 +28,13 @@ use Rattle.trunk.specs.Selection.{sharesGroup, ruleOf}
 use Rattle.trunk.specs.Settled.{isUnselected}
 use Rattle.work.specs.Work.{ours, worked, again}
 use Rattle.control.specs.Answer.{answerNumber}
-use Rattle.control.specs.Call.{Call, start, receive, tick, link, configure, fetch}
+use Rattle.control.specs.Call.{Call, start, receive, tick, line, configure, fetch}
 use Rattle.control.specs.After.{answer, after, bufferOf, outgoing}
 use Rattle.control.specs.Report.{portReport, aggregatorReport}
 use Rattle.claims.specs.Run.{accepted, run, Made}
 use Rattle.claims.specs.LivePartner.{lasting}
 use Rattle.claims.specs.ThreeSends.{sends}
-use Rattle.claims.specs.Speakers.{system, noDelay, keyedBlock, keyedSettings, settings, frameOf}
+use Rattle.claims.specs.Speakers.{system, noDelay, keyedBlock, keyedSettings, settings, upFull, downFull, frameOf}
 
 -- ---- the run: three ports, short timeout. Ports 1 and 2 hear key 1 of system 5, in sync, collecting and distributing; ten ticks later port 3,
 -- which has a long timeout, hears key 2 of it. After ten more, ports 1 and 2 are a trunk, and port 3 waits.
@@ -62,7 +62,7 @@ abbrev pub later : List Call
 later = hears 2 3 0x05 ∷ ticks 10 []
 
 abbrev pub calls : List Call
-calls = link 1 true ∷ link 2 true ∷ link 3 true ∷ configure 3 (settings false 0) ∷ hears 1 1 0x3F ∷ hears 1 2 0x3F ∷ ticks 10 later
+calls = line 1 upFull ∷ line 2 upFull ∷ line 3 upFull ∷ configure 3 (settings false 0) ∷ hears 1 1 0x3F ∷ hears 1 2 0x3F ∷ ticks 10 later
 
 -- every table on the way
 unfoldable pub tables : List ℕ → List Call → List (List ℕ)
@@ -87,7 +87,7 @@ narrowed = after (hears 1 2 0x0F) trunk
 
 -- link 1 falls
 unfoldable pub fallen : List ℕ
-fallen = after (link 1 false) trunk
+fallen = after (line 1 downFull) trunk
 
 -- port 2 gets another key, and another default block
 unfoldable pub rekeyed : List ℕ
@@ -172,17 +172,17 @@ sendsBefore short cs = fetch 1 lent ∷ configure 1 (settings short 0) ∷ cs
 
 -- three sends one after the other, and the answer to a fourth fetch n ticks later
 unfoldable pub fourth : ℕ → ℕ
-fourth n = answerNumber (answer (fetch 1 lent) (run begun (link 1 true ∷ sendsBefore false (sendsBefore true (sendsBefore false (ticks n []))))))
+fourth n = answerNumber (answer (fetch 1 lent) (run begun (line 1 upFull ∷ sendsBefore false (sendsBefore true (sendsBefore false (ticks n []))))))
 
 -- three sends with a tick after the first and two after the second
 abbrev pub spread : List Call
-spread = link 1 true ∷ sendsBefore false (ticks 1 (sendsBefore true (ticks 2 (sendsBefore false []))))
+spread = line 1 upFull ∷ sendsBefore false (ticks 1 (sendsBefore true (ticks 2 (sendsBefore false []))))
 
 pub record Witness : Type 0 where
   pub made : Made trunk
   -- 0
   pub never-stuck : every tableInRange seen ≡ true
-  pub refused-link : silently (link 4 true) trunk ≡ true
+  pub refused-line : silently (line 4 upFull) trunk ≡ true
   pub refused-fetch : silently (fetch 3 lent) (after (fetch 3 lent) trunk) ≡ true
   -- 1
   pub rule-afresh : every ruled seen ≡ true

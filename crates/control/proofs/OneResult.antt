@@ -2,15 +2,15 @@
 -- with a function of the call and of what came. Assumes nothing.
 use Prim.Native.Nat.{ℕ}
 use mathlib.Core.Path.{_≡_, sym, _∙_}
-use mathlib.Core.Bool.{Bool}
 use mathlib.Core.List.{List}
 use Rattle.frame.specs.declared.block.SystemId.{SystemId}
 use Rattle.frame.specs.declared.wire.TensOfMicroseconds.{TensOfMicroseconds}
+use Rattle.machine.specs.declared.states.Line.{Line}
 use Rattle.settings.specs.declared.Settings.{Settings}
 use Rattle.control.specs.declared.answer.Answer.{Answer}
 use Rattle.control.specs.declared.answer.PortReport.{PortReport}
 use Rattle.control.specs.declared.answer.AggregatorReport.{AggregatorReport}
-use Rattle.control.specs.Call.{Call, start, receive, tick, link, duplex, configure, fetch}
+use Rattle.control.specs.Call.{Call, start, receive, tick, line, configure, fetch}
 use Rattle.control.specs.After.{answer, after, outgoing}
 use Rattle.control.specs.Report.{portReport, aggregatorReport}
 
@@ -33,11 +33,8 @@ module _ (t : List ℕ) (a b : Answer) (u v : List ℕ) where
   pub one-tick : Meets tick t a u → Meets tick t b v → (a ≡ b) × (u ≡ v)
   one-tick = one tick
 
-  pub one-link : (n : ℕ) (up : Bool) → Meets (link n up) t a u → Meets (link n up) t b v → (a ≡ b) × (u ≡ v)
-  one-link n up = one (link n up)
-
-  pub one-duplex : (n : ℕ) (full : Bool) → Meets (duplex n full) t a u → Meets (duplex n full) t b v → (a ≡ b) × (u ≡ v)
-  one-duplex n full = one (duplex n full)
+  pub one-line : (n : ℕ) (l : Line) → Meets (line n l) t a u → Meets (line n l) t b v → (a ≡ b) × (u ≡ v)
+  one-line n l = one (line n l)
 
   pub one-configure : (n : ℕ) (s : Settings) → Meets (configure n s) t a u → Meets (configure n s) t b v → (a ≡ b) × (u ≡ v)
   one-configure n s = one (configure n s)

@@ -10,7 +10,7 @@ use Rattle.control.specs.declared.answer.Answer.{Answer}
 use Rattle.control.specs.declared.answer.Answer.the-variants.{Done, Lacpdu, Marker, Refused}
 use Rattle.control.specs.declared.answer.Reason.the-variants as reason
 use Rattle.control.specs.Answer.{onPort, withRoom, withDefault, frameAnswer, dueAnswer, startAnswer}
-use Rattle.control.specs.Call.{Call, start, receive, tick, link, duplex, configure, fetch, report, aggregator}
+use Rattle.control.specs.Call.{Call, start, receive, tick, line, configure, fetch, report, aggregator}
 
 -- what came before where the call is refused, and otherwise what comes then
 abbrev pub unless : {A : Type 0} → Answer → A → A → A
@@ -24,8 +24,7 @@ unfoldable pub answer : Call → List ℕ → Answer
 answer (start count system delay s) t = startAnswer t count s
 answer (receive n frame out) t = onPort t n (withRoom out (frameAnswer (classOf frame) (portAt t (n - 1) .line) (portAt t (n - 1) .phase .mux)))
 answer tick t = cond (tableInRange t) Done (Refused reason.Table)
-answer (link n up) t = onPort t n Done
-answer (duplex n full) t = onPort t n Done
+answer (line n l) t = onPort t n Done
 answer (configure n s) t = onPort t n (withDefault s Done)
 answer (fetch n out) t = onPort t n (withRoom out (dueAnswer (due (portAt t (n - 1)))))
 answer (report n) t = onPort t n Done
@@ -43,8 +42,7 @@ unfoldable pub changedBy : Call → List ℕ → List ℕ
 changedBy (start count system delay s) t = afterStart (record { count = count; system = system; delay = delay }) s
 changedBy (receive n frame out) t = afterFrame (answer (receive n frame out) t) t (n - 1) frame
 changedBy tick t = afterTick t
-changedBy (link n up) t = afterLine t (n - 1) (record { up = up; full = portAt t (n - 1) .line .full })
-changedBy (duplex n full) t = afterLine t (n - 1) (record { up = portAt t (n - 1) .line .up; full = full })
+changedBy (line n l) t = afterLine t (n - 1) l
 changedBy (configure n s) t = afterSettings t (n - 1) s
 changedBy (fetch n out) t = afterSend t (n - 1)
 changedBy (report n) t = t
@@ -61,8 +59,7 @@ abbrev pub bufferOf : Call → List ℕ
 bufferOf (start count system delay s) = []
 bufferOf (receive n frame out) = out
 bufferOf tick = []
-bufferOf (link n up) = []
-bufferOf (duplex n full) = []
+bufferOf (line n l) = []
 bufferOf (configure n s) = []
 bufferOf (fetch n out) = out
 bufferOf (report n) = []
@@ -79,8 +76,7 @@ unfoldable pub writtenBy : Call → List ℕ → List ℕ
 writtenBy (start count system delay s) t = []
 writtenBy (receive n frame out) t = sentFor (answer (receive n frame out) t) t (n - 1) frame out
 writtenBy tick t = []
-writtenBy (link n up) t = []
-writtenBy (duplex n full) t = []
+writtenBy (line n l) t = []
 writtenBy (configure n s) t = []
 writtenBy (fetch n out) t = over (lacpduOf t (n - 1)) out
 writtenBy (report n) t = []

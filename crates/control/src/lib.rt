@@ -1,4 +1,4 @@
-// The nine calls. Each takes every input: memory of any length and content, any port number, frame, buffer and setting. It tests in
+// The eight calls. Each takes every input: memory of any length and content, any port number, frame, buffer and setting. It tests in
 // document 01's order, and a refusal leaves table and outgoing buffer as they came; what an accepted call does stands in `work`.
 ghost use mathlib.Core.Path.{_≡_};
 ghost use mathlib.Core.Bool.{true};
@@ -8,7 +8,7 @@ ghost use Rattle.frame.specs.Class.{classOf};
 ghost use Rattle.table.specs.Table.{tableInRange, countIn, portAt};
 ghost use Rattle.work.specs.Work.{afterSend, lacpduOf, over};
 ghost use Rattle.control.specs.Answer.{withRoom, dueAnswer, frameAnswer};
-ghost use Rattle.control.specs.Call.{start as Call·start, receive as Call·receive, tick as Call·tick, link as Call·link, duplex as Call·duplex, configure as Call·configure, fetch as Call·fetch};
+ghost use Rattle.control.specs.Call.{start as Call·start, receive as Call·receive, tick as Call·tick, line as Call·line, configure as Call·configure, fetch as Call·fetch};
 ghost use Rattle.control.specs.After.{unless, afterFrame, sentFor, answer as After·answer, after, outgoing};
 ghost use Rattle.control.specs.Report.{portReport, aggregatorReport};
 use crate::answer::AggregatorReport;
@@ -98,30 +98,13 @@ pub fn tick(table: &mut [u8]) -> Answer
     Answer::Done
 }
 
-// The link of port n is up or down now.
-pub fn link(table: &mut [u8], n: u32, up: bool) -> Answer
-    ensures { λ r. ⌜ (r ≡ After·answer (Call·link n up) (now (table .entry))) × (now (table .exit) ≡ after (Call·link n up) (now (table .entry))) ⌝ }
+// The link of port n is up or down now, and its duplex full or half: one event, and none where both are as they were.
+pub fn line(table: &mut [u8], n: u32, up: bool, full: bool) -> Answer
+    ensures { λ r. ⌜ (r ≡ After·answer (Call·line n (record { up = up; full = full })) (now (table .entry))) × (now (table .exit) ≡ after (Call·line n (record { up = up; full = full })) (now (table .entry))) ⌝ }
 {
     match tests::find(table, n) {
         Found::Refused(why) => Answer::Refused(why),
         Found::Port(i) => {
-            let old = tests::line_at(table, i);
-            let full = old.full;
-            work::set_line(table, i, Line { up, full });
-            Answer::Done
-        }
-    }
-}
-
-// The duplex of port n is full or half now.
-pub fn duplex(table: &mut [u8], n: u32, full: bool) -> Answer
-    ensures { λ r. ⌜ (r ≡ After·answer (Call·duplex n full) (now (table .entry))) × (now (table .exit) ≡ after (Call·duplex n full) (now (table .entry))) ⌝ }
-{
-    match tests::find(table, n) {
-        Found::Refused(why) => Answer::Refused(why),
-        Found::Port(i) => {
-            let old = tests::line_at(table, i);
-            let up = old.up;
             work::set_line(table, i, Line { up, full });
             Answer::Done
         }

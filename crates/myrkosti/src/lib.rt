@@ -3,7 +3,7 @@ ghost use mathlib.Core.Path.{_≡_};
 ghost use Rattle.table.specs.Layout.{publishedSize};
 ghost use Rattle.table.specs.Record.{encoded};
 ghost use Rattle.control.specs.Answer.{answerNumber, lengthSent};
-ghost use Rattle.control.specs.Call.{start as Call·start, receive as Call·receive, tick as Call·tick, link as Call·link, duplex as Call·duplex, configure as Call·configure, fetch as Call·fetch};
+ghost use Rattle.control.specs.Call.{start as Call·start, receive as Call·receive, tick as Call·tick, line as Call·line, configure as Call·configure, fetch as Call·fetch};
 ghost use Rattle.control.specs.After.{answer, after, outgoing};
 ghost use Rattle.control.specs.Report.{portReport, aggregatorReport};
 ghost use Rattle.myrkosti.specs.Arguments.{settingsOf, systemOf, delayOf};
@@ -30,21 +30,12 @@ pub extern "C" fn myrkosti_tick(table: &mut [u8]) -> u32
     a.number() as u32
 }
 
-// The link of a port is up or down now.
+// The link of a port is up or down now, and its duplex full or half.
 #[no_mangle]
-pub extern "C" fn myrkosti_link(table: &mut [u8], port: u32, up: bool) -> u32
-    ensures { λ r. ⌜ (r ≡ answerNumber (answer (Call·link port up) (now (table .entry)))) × (now (table .exit) ≡ after (Call·link port up) (now (table .entry))) ⌝ }
+pub extern "C" fn myrkosti_line(table: &mut [u8], port: u32, up: bool, full: bool) -> u32
+    ensures { λ r. ⌜ (r ≡ answerNumber (answer (Call·line port (record { up = up; full = full })) (now (table .entry)))) × (now (table .exit) ≡ after (Call·line port (record { up = up; full = full })) (now (table .entry))) ⌝ }
 {
-    let a = control::link(table, port, up);
-    a.number() as u32
-}
-
-// The duplex of a port is full or half now.
-#[no_mangle]
-pub extern "C" fn myrkosti_duplex(table: &mut [u8], port: u32, full: bool) -> u32
-    ensures { λ r. ⌜ (r ≡ answerNumber (answer (Call·duplex port full) (now (table .entry)))) × (now (table .exit) ≡ after (Call·duplex port full) (now (table .entry))) ⌝ }
-{
-    let a = control::duplex(table, port, full);
+    let a = control::line(table, port, up, full);
     a.number() as u32
 }
 

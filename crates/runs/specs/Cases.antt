@@ -14,10 +14,10 @@ use Rattle.machine.specs.Bits.{state}
 use Rattle.table.specs.Layout.{tableSize}
 use Rattle.table.specs.Table.{portAt}
 use Rattle.control.specs.Answer.{answerNumber}
-use Rattle.control.specs.Call.{Call, start, receive, tick, link}
+use Rattle.control.specs.Call.{Call, start, receive, tick, line}
 use Rattle.control.specs.After.{answer, after}
 use Rattle.claims.specs.Run.{run}
-use Rattle.claims.specs.Speakers.{system, noDelay, settings, frame}
+use Rattle.claims.specs.Speakers.{system, noDelay, settings, upFull, frame}
 
 -- ---- calls; every default partner is individual
 
@@ -66,7 +66,7 @@ standing ns t = map (λ n. on (portAt t (n - 1) .aggregator) (portAt t (n - 1) .
 
 -- one port, link up
 unfoldable pub up : List ℕ
-up = run (started 1) (link 1 true ∷ [])
+up = run (started 1) (line 1 upFull ∷ [])
 
 -- and it has heard a partner that is not in sync
 unfoldable pub alone : List ℕ
@@ -74,7 +74,7 @@ alone = run up (hears 1 5 1 ∷ [])
 
 -- port 4 of six starts waiting
 unfoldable pub four : List ℕ
-four = run (started 6) (link 4 true ∷ link 6 true ∷ hears 4 5 4 ∷ [])
+four = run (started 6) (line 4 upFull ∷ line 6 upFull ∷ hears 4 5 4 ∷ [])
 
 -- 5 ticks later port 6 joins its group; n ticks after port 4 started
 unfoldable pub fourSix : ℕ → List ℕ
@@ -82,13 +82,13 @@ fourSix n = ticks (n - 5) (run (ticks 5 four) (hears 6 5 6 ∷ []))
 
 -- ports 3 and 5 of five have learned one group, and have attached
 unfoldable pub threeFive : List ℕ
-threeFive = ticks 20 (run (started 5) (link 2 true ∷ link 3 true ∷ link 5 true ∷ hears 3 5 3 ∷ hears 5 5 5 ∷ []))
+threeFive = ticks 20 (run (started 5) (line 2 upFull ∷ line 3 upFull ∷ line 5 upFull ∷ hears 3 5 3 ∷ hears 5 5 5 ∷ []))
 
 -- 2 and 4 of five have learned one group, 3 and 5 another
 unfoldable pub twoGroups : List ℕ
 twoGroups =
     ticks 20 (run (started 5)
-    (link 2 true ∷ link 3 true ∷ link 4 true ∷ link 5 true ∷ hears 2 5 2 ∷ hears 4 5 4 ∷ hears 3 6 3 ∷ hears 5 6 5 ∷ []))
+    (line 2 upFull ∷ line 3 upFull ∷ line 4 upFull ∷ line 5 upFull ∷ hears 2 5 2 ∷ hears 4 5 4 ∷ hears 3 6 3 ∷ hears 5 6 5 ∷ []))
 
 -- what is answered to a frame on port 1, up at full duplex
 abbrev pub answerTo : List ℕ → ℕ

@@ -16,10 +16,10 @@ use Rattle.table.specs.Layout.{tableSize}
 use Rattle.table.specs.Table.{portAt}
 use Rattle.control.specs.declared.answer.Answer.{Answer}
 use Rattle.control.specs.declared.answer.Answer.the-variants.{Done, Lacpdu, Marker, Refused}
-use Rattle.control.specs.Call.{Call, start, receive, tick, link, fetch}
+use Rattle.control.specs.Call.{Call, start, receive, tick, line, fetch}
 use Rattle.control.specs.After.{answer, after, outgoing}
 use Rattle.claims.specs.Run.{run}
-use Rattle.claims.specs.Speakers.{system, noDelay, settings}
+use Rattle.claims.specs.Speakers.{system, noDelay, settings, upFull, downFull}
 
 -- ---- two tables, and what passes between them
 
@@ -130,7 +130,7 @@ begun s o = after (start 2 (system s) noDelay (settings true o)) (zeros (tableSi
 
 -- systems 9 and 5: the links have come up, and every port was fetched
 unfoldable pub joined : ℕ → Pair
-joined o = round true (each (link 2 true) (each (link 1 true) (pair (begun 9 o) (begun 5 o))))
+joined o = round true (each (line 2 upFull) (each (line 1 upFull) (pair (begun 9 o) (begun 5 o))))
 
 -- 21 ticks later
 unfoldable pub trunk : ℕ → Pair
@@ -150,7 +150,7 @@ pub record TwoSwitches (o : ℕ) : Type 0 where
       ∷ since 21 carries carries carries carries
       ∷ []
   -- then link 1 falls at both ends: nothing is seen to change in 100 ticks, port 2 of each distributing all the while
-  pub falls : history true 100 (each (link 1 false) (trunk o))
+  pub falls : history true 100 (each (line 1 downFull) (trunk o))
       ≡ since 0 (is PortDisabled 1 Attached) carries (is PortDisabled 1 Attached) carries ∷ []
   -- or link 1 goes silent, and stays up: port 2 carries on until port 1 is DEFAULTED, 59 ticks later in the one and 60 in the other. At that
   -- tick it leaves aggregator 1 and is WAITING; it distributes again, on aggregator 2, after 80 and 81 ticks

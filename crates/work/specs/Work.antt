@@ -54,7 +54,7 @@ afterHeard t i frame = again t (worked (ours t) (displaced i (blockOf (actorPart
 unfoldable pub afterTick : List ℕ → List ℕ
 afterTick t = again t (worked (ours t) (map advanced (ports t)))
 
--- a link or duplex value as it is changes nothing
+-- link and duplex as they are change nothing
 unfoldable pub afterLine : List ℕ → ℕ → Line → List ℕ
 afterLine t i l = cond (sameLine l (portAt t i .line)) t (afterOne t i (lined l (portAt t i)))
 
