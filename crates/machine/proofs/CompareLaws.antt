@@ -9,8 +9,10 @@ use Rattle.frame.specs.declared.block.Block.{Block}
 use Rattle.frame.specs.declared.block.SystemId.{SystemId}
 use Rattle.frame.specs.declared.block.PortId.{PortId}
 use Rattle.frame.specs.declared.state.PortState.{PortState}
+use Rattle.machine.specs.declared.states.Line.{Line}
 use Rattle.machine.specs.Bits.{alike}
 use Rattle.machine.specs.Compare.{sameAddress, sameSystem, sameNumbers, sameParty, sameState, sameBlock, party}
+use Rattle.machine.specs.States.{sameLine}
 
 -- ---- from a test to an equation
 
@@ -22,6 +24,11 @@ alike-true false false e = refl
 
 both : (a b : Bool) → a && b ≡ true → (a ≡ true) × (b ≡ true)
 both a b e = and-eq-true-iff a b .0 e
+
+pub line-true : (x y : Line) → sameLine x y ≡ true → x ≡ y
+line-true x y e =
+    let h = both (alike (x .up) (y .up)) _ e in
+    λ i. record { up = alike-true (x .up) (y .up) (h .0) i; full = alike-true (x .full) (y .full) (h .1) i }
 
 pub address-true : (x y : Address) → sameAddress x y ≡ true → x ≡ y
 unfolding sameAddress
@@ -87,6 +94,9 @@ block-true x y e =
 pub alike-refl : (x : Bool) → alike x x ≡ true
 alike-refl true = refl
 alike-refl false = refl
+
+pub line-refl : (x : Line) → sameLine x x ≡ true
+line-refl x = rw (alike-refl (x .up), alike-refl (x .full))
 
 eqb-self : (n : ℕ) → eqb n n ≡ true
 eqb-self n = eq-eqb n n refl
