@@ -60,6 +60,12 @@ on-port t n rest e =
 pub in-table : (t : List ℕ) (n : ℕ) (rest : Answer) → accepted (onPort t n rest) ≡ true → tableInRange t ≡ true
 in-table t n rest e = if-accepted (tableInRange t) (cond (isNumber t n) rest (Refused reason.Number)) reason.Table e .0
 
+-- it names a port by its number
+pub numbered : (t : List ℕ) (n : ℕ) (rest : Answer) → accepted (onPort t n rest) ≡ true → isNumber t n ≡ true
+numbered t n rest e =
+    let a = if-accepted (tableInRange t) (cond (isNumber t n) rest (Refused reason.Number)) reason.Table e in
+    if-accepted (isNumber t n) rest reason.Number (a .1) .0
+
 -- which port an accepted call on a port names
 pub named : (t : List ℕ) (n : ℕ) (rest : Answer) → accepted (onPort t n rest) ≡ true → n - 1 < countIn t
 named t n rest e = on-port t n rest e .0 .below

@@ -12,6 +12,7 @@ pub mod Views
 pub mod LivePartner
 pub mod Recent
 pub mod ThreeSends
+pub mod LineCall
 pub mod Reports
 pub mod ReadBack
 pub mod Witness

@@ -255,7 +255,7 @@ heard-aside : (us a b : Block) (p : Port) → aside (heard us a b p) ≡ aside p
 unfolding heard updateNtt updateSelected
 heard-aside us a b p = recorded-aside us a b (sameParty a (p .partner)) (sameView b us) p
 
-heard-line : (us a b : Block) (p : Port) → heard us a b p .line ≡ p .line
+pub heard-line : (us a b : Block) (p : Port) → heard us a b p .line ≡ p .line
 unfolding heard updateNtt updateSelected
 heard-line us a b p = recorded-line us a b (sameParty a (p .partner)) (sameView b us) p
 

@@ -34,7 +34,7 @@ use Rattle.control.specs.Call.{Call}
 use Rattle.claims.specs.Run.{Octets, Takes, AllTake, run}
 use Rattle.claims.specs.ThreeSends.{sends}
 use Rattle.claims.specs.Speakers.{system, noDelay, settings}
-use Rattle.claims.specs.Witness.{Witness, said, hears, memory, ticks, later, calls, tables, begun, trunk, parted, narrowed, fallen, rekeyed, silent, every, fourth}
+use Rattle.claims.specs.Witness.{Witness, said, hears, memory, ticks, later, calls, tables, begun, trunk, parted, narrowed, fallen, halved, dropped, rekeyed, silent, every, fourth}
 
 abbrev isOctet : ℕ → Bool
 isOctet o = ltb o 256
@@ -61,7 +61,7 @@ takes =
     (tt, (tt, (tt, (refl, (heard-takes 1 1 0x3F refl, (heard-takes 1 2 0x3F refl, ticks-take 10 later then))))))
 
 pub witness : Witness
-unfolding sameAddress sameSystem sameNumbers sameParty sameView maintained inSync sameState sameBlock recordDefault recordPdu updateSelected updateDefaultSelected updateNtt initialized portDisabled expired lacpDisabled defaulted heard current moved received receiveChoice receiveStep receiveRun lined periodicChoice periodicStep periodicRun due sent Port·silent quieted ticked muxChoice muxStep detached placed attachedIf muxRun sameGrouping sameSettings regrouped changed configured lawful blank started advanced individual sameKeys sameGroup joins sharesGroup firstFrom lowest ruleOf waitsFor hasWaiting holdsBack heldBack ready mapFrom mustMove reselected selectedAll attachedAll climbed settled isDisplaced displacedIf displaced sameOctets foreign unknown wrongLength wrongMarkerType illegal classOf stands setOf setsOf codesInRange timersInRange agesInRange recordInRange blockFits ownFits headerFits encoded decoded recordAt portAt portsFrom ports recordsOctets tableOctets firstInRange tableInRange worked afterOne afterStart heardAt afterHeard afterTick afterLine afterSettings afterSend lacpduOf found answer changedBy after writtenBy outgoing portReport aggregatorReport ones onesIn trailingZeros run ticks tables begun trunk parted narrowed fallen rekeyed silent every fourth sends
+unfolding sameAddress sameSystem sameNumbers sameParty sameView maintained inSync sameState sameBlock recordDefault recordPdu updateSelected updateDefaultSelected updateNtt initialized portDisabled expired lacpDisabled defaulted heard current moved received receiveChoice receiveStep receiveRun lined periodicChoice periodicStep periodicRun due sent Port·silent quieted ticked muxChoice muxStep detached placed attachedIf muxRun sameGrouping sameSettings regrouped changed configured lawful blank started advanced individual sameKeys sameGroup joins sharesGroup firstFrom lowest ruleOf waitsFor hasWaiting holdsBack heldBack ready mapFrom mustMove reselected selectedAll attachedAll climbed settled isDisplaced displacedIf displaced sameOctets foreign unknown wrongLength wrongMarkerType illegal classOf stands setOf setsOf codesInRange timersInRange agesInRange recordInRange blockFits ownFits headerFits encoded decoded recordAt portAt portsFrom ports recordsOctets tableOctets firstInRange tableInRange worked afterOne afterStart heardAt afterHeard afterTick afterLine afterSettings afterSend lacpduOf found answer changedBy after writtenBy outgoing portReport aggregatorReport ones onesIn trailingZeros run ticks tables begun trunk parted narrowed fallen halved dropped rekeyed silent every fourth sends
 witness = record {
   made = record {
     memory = memory;
@@ -91,6 +91,7 @@ witness = record {
   read-back = refl;
   live-in-trunk = refl;
   live-though-fallen = refl;
+  live-though-dropped = refl;
   live-though-set = refl;
   live-though-silent = refl;
   port-true = refl;
@@ -101,4 +102,7 @@ witness = record {
   fourth-in-time = refl;
   sends-spread = refl;
   ages-spread = refl;
+  line-taken = refl;
+  line-repeated = refl;
+  half-silent = refl;
 }

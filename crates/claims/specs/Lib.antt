@@ -5,6 +5,7 @@ pub mod Claims
 pub mod Locality
 pub mod LivePartner
 pub mod ThreeSends
+pub mod LineCall
 pub mod Reports
 pub mod ReadBack
 pub mod Speakers

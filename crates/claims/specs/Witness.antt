@@ -34,7 +34,7 @@ use Rattle.control.specs.Report.{portReport, aggregatorReport}
 use Rattle.claims.specs.Run.{accepted, run, Made}
 use Rattle.claims.specs.LivePartner.{lasting}
 use Rattle.claims.specs.ThreeSends.{sends}
-use Rattle.claims.specs.Speakers.{system, noDelay, keyedBlock, keyedSettings, settings, upFull, downFull, frameOf}
+use Rattle.claims.specs.Speakers.{system, noDelay, keyedBlock, keyedSettings, settings, upFull, upHalf, downFull, downHalf, frameOf}
 
 -- ---- the run: three ports, short timeout. Ports 1 and 2 hear key 1 of system 5, in sync, collecting and distributing; ten ticks later port 3,
 -- which has a long timeout, hears key 2 of it. After ten more, ports 1 and 2 are a trunk, and port 3 waits.
@@ -89,6 +89,14 @@ narrowed = after (hears 1 2 0x0F) trunk
 unfoldable pub fallen : List ℕ
 fallen = after (line 1 downFull) trunk
 
+-- port 1 goes to half duplex
+unfoldable pub halved : List ℕ
+halved = after (line 1 upHalf) trunk
+
+-- link 1 falls, and port 1 goes to half duplex by the same call
+unfoldable pub dropped : List ℕ
+dropped = after (line 1 downHalf) trunk
+
 -- port 2 gets another key, and another default block
 unfoldable pub rekeyed : List ℕ
 rekeyed = after (configure 2 (keyedSettings 2 true 0x3C)) trunk
@@ -98,7 +106,7 @@ unfoldable pub silent : List ℕ
 silent = run trunk (ticks 10 [])
 
 abbrev pub seen : List (List ℕ)
-seen = parted ∷ narrowed ∷ fallen ∷ rekeyed ∷ silent ∷ tables begun calls
+seen = parted ∷ narrowed ∷ fallen ∷ halved ∷ dropped ∷ rekeyed ∷ silent ∷ tables begun calls
 
 -- ---- what the theorems say of a table, as a test
 
@@ -132,9 +140,16 @@ says t = every saysMux (ports t)
 abbrev pub rests : List ℕ → Bool
 rests t = sameOctets (again t (worked (ours t) (map receiveRun (ports t)))) t
 
+abbrev pub lent : List ℕ
+lent = replicate 124 7
+
 -- a refused call leaves table and buffer
 abbrev pub silently : Call → List ℕ → Bool
 silently c t = not (accepted (answer c t)) && (sameOctets (after c t) t && sameOctets (outgoing c t) (bufferOf c))
+
+-- nothing is due on port 1
+abbrev pub quiet : List ℕ → Bool
+quiet t = not (portAt t 0 .ntt) && silently (fetch 1 lent) t
 
 -- port i, from 0, has one record in both tables
 abbrev pub keeps : ℕ → List ℕ → List ℕ → Bool
@@ -160,9 +175,6 @@ live f p = sameBlocks (lasting (p .partner)) (lasting (blockOf (actorPart f))) &
 
 abbrev pub setsAre : Sets → ℕ → ℕ → ℕ → ℕ → ℕ → Bool
 setsAre s h a d n l = eqb (s .holding) h && (eqb (s .attached) a && (eqb (s .distributing) d && (eqb (s .count) n && eqb (s .lowest) l)))
-
-abbrev pub lent : List ℕ
-lent = replicate 124 7
 
 -- ---- sends of port 1
 
@@ -203,6 +215,7 @@ pub record Witness : Type 0 where
   -- 6
   pub live-in-trunk : live (said 1 1 0x3F) (portAt trunk 0) ≡ true
   pub live-though-fallen : live (said 1 1 0x3F) (portAt fallen 0) ≡ true
+  pub live-though-dropped : live (said 1 1 0x3F) (portAt dropped 0) ≡ true
   pub live-though-set : live (said 1 2 0x3F) (portAt rekeyed 1) ≡ true
   pub live-though-silent : live (said 1 1 0x3F) (portAt silent 0) ≡ true
   -- 7
@@ -215,3 +228,7 @@ pub record Witness : Type 0 where
   pub fourth-in-time : fourth 11 ≡ 0
   pub sends-spread : sends 1 begun spread [] ≡ 0 ∷ 2 ∷ 3 ∷ []
   pub ages-spread : portAt (run begun spread) 0 .ages ≡ ages 0 2 3
+  -- the line call
+  pub line-taken : map (λ t. portAt t 0 .line) (fallen ∷ halved ∷ dropped ∷ []) ≡ downFull ∷ upHalf ∷ downHalf ∷ []
+  pub line-repeated : sameOctets (after (line 1 upFull) trunk) trunk ≡ true
+  pub half-silent : every quiet (halved ∷ dropped ∷ []) ≡ true

@@ -1,0 +1,296 @@
+-- A line call leaves both values, since settling keeps them; both as they are pass the test that changes nothing; and at half duplex step 6
+-- has cleared NTT. No other call but a start changes them, by cases on the call. Assumes nothing.
+use Prim.Native.Nat.{ℕ, _+_, _-_, _<_, _≤_}
+use mathlib.Core.Path.{_≡_, refl, sym, ap, _∙_}
+use mathlib.Core.Bool.{Bool, true, false, cond, not, _&&_, true≢false}
+use mathlib.Core.List.{List, [], _∷_, map}
+use native.Mathlib.Omega.{arith}
+use lib.ListN.{length, getD, set, length-set}
+use lib.Seq.{getD-set-same}
+use lib.Dec.{eqb}
+use Rattle.frame.specs.declared.block.Block.{Block}
+use Rattle.frame.specs.Block.{blockOf}
+use Rattle.frame.specs.Wire.{actorPart, partnerPart}
+use Rattle.machine.specs.declared.states.Line.{Line}
+use Rattle.machine.specs.States.{sameLine}
+use Rattle.machine.proofs.CompareLaws.{line-true, line-refl}
+use Rattle.port.specs.declared.record.Port.{Port}
+use Rattle.port.specs.declared.transmit.Due.{Due}
+use Rattle.port.specs.declared.transmit.Due.the-variants.{Nothing}
+use Rattle.port.specs.Record.{withLine, withNtt, withActor, withOwn, actorBlock}
+use Rattle.port.specs.Receive.{recordDefault, unselected, initialized, portDisabled, current, receiveRun, moved, received, down, lined}
+use Rattle.port.specs.Transmit.{due, sent, silent, quieted, ticked}
+use Rattle.settings.specs.declared.Settings.{Settings}
+use Rattle.settings.specs.Settings.{ownOf, ownBits, sameGrouping, sameSettings, regrouped, changed, configured}
+use Rattle.table.specs.Layout.{within}
+use Rattle.table.specs.Range.{ownFits}
+use Rattle.table.specs.Record.{decoded}
+use Rattle.table.specs.Table.{countIn, portAt, ports}
+use Rattle.table.proofs.RangeLaws.{within-true}
+use Rattle.table.proofs.StoreLaws.{ports-length, ports-at}
+use Rattle.trunk.specs.Advanced.{advanced}
+use Rattle.trunk.specs.Displaced.{isDisplaced, displacedIf, displaced}
+use Rattle.trunk.proofs.SweepLaws.{sweep-at}
+use Rattle.trunk.proofs.TableWork.{map-at}
+use Rattle.work.specs.Work.{ours, again, worked, afterOne, heardAt, afterHeard, afterTick, afterLine, afterSettings, afterSend}
+use Rattle.control.specs.declared.answer.Answer.{Answer}
+use Rattle.control.specs.declared.answer.Answer.the-variants.{Done, Lacpdu, Marker, Refused}
+use Rattle.control.specs.declared.answer.Reason.the-variants as reason
+use Rattle.control.specs.Answer.{isNumber, withRoom, withDefault, dueAnswer}
+use Rattle.control.specs.Call.{Call, start, receive, tick, line, configure, fetch, report, aggregator}
+use Rattle.control.specs.After.{answer, afterFrame, changedBy, unless, after}
+use Rattle.claims.specs.Run.{Octets, Takes, AllTake, accepted, run}
+use Rattle.claims.specs.AtRest.{Sound}
+use Rattle.claims.specs.LineCall.{LineTaken, LineRepeated, Silent, HalfSilent, relines, NoneRelines, StaysSilent}
+use Rattle.claims.proofs.Steps.{heard-line, run-line}
+use Rattle.claims.proofs.Sound.{Before, in-ports, tick-before, line-before, settings-before, heard-before, send-ports}
+use Rattle.claims.proofs.Calls.{named, numbered, heard-on, after-accepted, call-sound, run-sound, never-stuck}
+use Rattle.claims.proofs.Rule.{port-firm}
+use Rattle.claims.proofs.Counts.{again-count}
+use Rattle.claims.proofs.Locality.{again-at}
+use Rattle.claims.proofs.LivePartner.{at-same, ticked-line}
+use Rattle.claims.proofs.Views.{work-view, set-view}
+
+-- ---- both values as they are
+
+unless-same : (a : Answer) (t : List ℕ) → unless a t t ≡ t
+unless-same Done t = refl
+unless-same Lacpdu t = refl
+unless-same Marker t = refl
+unless-same (Refused r) t = refl
+
+pub line-repeated : LineRepeated
+unfolding after changedBy afterLine
+line-repeated t n =
+    let p = portAt t (n - 1) in
+    let a = answer (line n (p .line)) t in
+    ap (λ (b : Bool). unless a t (cond b t (afterOne t (n - 1) (lined (p .line) p)))) (line-refl (p .line)) ∙ unless-same a t
+
+-- ---- half duplex
+
+half-off : (p : Port) → p .line .full ≡ false → silent p ≡ true
+unfolding silent
+half-off p f = rw f
+
+half-clear : (p : Port) → p .line .full ≡ false → quieted p ≡ p → p .ntt ≡ false
+unfolding quieted
+half-clear p f e = ap (λ (q : Port). q .ntt) (sym e) ∙ ap (λ (b : Bool). cond b (withNtt p false) p .ntt) (half-off p f)
+
+nothing-due : (p : Port) → p .ntt ≡ false → due p ≡ Nothing
+unfolding due
+nothing-due p e = rw e
+
+in-count : (n c : ℕ) → within 1 n c ≡ true → n - 1 < c
+in-count n c e = let some : 1 ≤ n = within-true 1 n c e .0 in let most : n ≤ c = within-true 1 n c e .1 in omega arith
+
+sound-silent : (t : List ℕ) → Sound t → (n : ℕ) → isNumber t n ≡ true → portAt t (n - 1) .line .full ≡ false → Silent t n
+unfolding answer
+sound-silent t s n e f =
+    let p = portAt t (n - 1) in
+    let clear : p .ntt ≡ false = half-clear p f (port-firm t s (n - 1) (in-count n (countIn t) e) .quiet) in
+    record {
+      ntt = clear;
+      fetched = λ out.
+          let a = withRoom out (dueAnswer (due p)) in
+          ap (λ (b : Bool). cond b (cond (isNumber t n) a (Refused reason.Number)) (Refused reason.Table)) (s .ranged)
+          ∙ ap (λ (b : Bool). cond b a (Refused reason.Number)) e ∙ ap (λ (d : Due). withRoom out (dueAnswer d)) (nothing-due p clear);
+    }
+
+pub half-silent : HalfSilent
+half-silent t m n e f = sound-silent t (never-stuck t m) n e f
+
+-- ---- what each call does to one record's line before settling
+
+lined-line : (l : Line) (p : Port) → sameLine l (p .line) ≡ false → lined l p .line ≡ l
+unfolding lined
+lined-line l p e =
+    let q = withLine (receiveRun (withLine p (down (p .line)))) l in
+    ap (λ (b : Bool). cond b p (receiveRun q) .line) e ∙ run-line q
+
+advanced-line : (p : Port) → advanced p .line ≡ p .line
+unfolding advanced
+advanced-line p = run-line (ticked p) ∙ ticked-line p
+
+changed-line : (b : Bool) (x : Settings) (p : Port)
+    → withNtt (withActor (withOwn (cond b p (unselected p)) (ownOf x)) (ownBits x (p .actor))) true .line ≡ p .line
+changed-line true x p = refl
+changed-line false x p = refl
+
+configured-line : (x : Settings) (p : Port) → configured x p .line ≡ p .line
+unfolding configured changed regrouped
+configured-line x p = by (sameSettings x p)
+  where
+    by : (b : Bool) → cond b p (changed x p) .line ≡ p .line
+    by true = refl
+    by false = changed-line (sameGrouping x p) x p
+
+sent-line : (p : Port) → sent p .line ≡ p .line
+unfolding sent
+sent-line p = refl
+
+heard-at-line : (t : List ℕ) (i : ℕ) (frame : List ℕ) → heardAt t i frame .line ≡ portAt t i .line
+unfolding heardAt received current
+heard-at-line t i frame =
+    heard-line (actorBlock (ours t) (i + 1) (portAt t i)) (blockOf (actorPart frame)) (blockOf (partnerPart frame)) (portAt t i)
+
+moved-line : (b : Bool) (p : Port) → cond b (moved p) p .line ≡ p .line
+unfolding moved portDisabled initialized recordDefault
+moved-line true p = refl
+moved-line false p = refl
+
+displaced-line : (r : ℕ) (a : Block) (ps : List Port) (i : ℕ) (d : Port) → i < length ps → getD (displaced r a ps) i d .line ≡ getD ps i d .line
+unfolding displaced displacedIf
+displaced-line r a ps i d h =
+    let p = getD ps i d in
+    ap (λ (q : Port). q .line) (sweep-at (displacedIf r a) 0 ps i d h) ∙ moved-line (not (eqb (0 + i) r) && isDisplaced a p) p
+
+-- ---- each call, from t to u
+
+record Keeps (t u : List ℕ) (i : ℕ) : Type 0 where
+  size : countIn u ≡ countIn t
+  kept : portAt u i .line ≡ portAt t i .line
+
+unchanged : (t : List ℕ) (i : ℕ) → Keeps t t i
+unchanged t i = record { size = refl; kept = refl }
+
+-- the work after a call's own change keeps every line
+work-line : (t : List ℕ) (s : Sound t) (i : ℕ) → i < countIn t → (ps : List Port) → Before t ps
+    → portAt (again t (worked (ours t) ps)) i .line ≡ getD ps i (decoded []) .line
+work-line t s i h ps b = work-view (λ p. p .line) (λ p. refl) (λ p. refl) t s i h ps b
+
+module _ (t : List ℕ) (s : Sound t) (i : ℕ) (h : i < countIn t) where
+  -- the call itself
+  given : (l : Line) → (countIn (afterLine t i l) ≡ countIn t) × (portAt (afterLine t i l) i .line ≡ l)
+  unfolding afterLine afterOne
+  given l = by (sameLine l (portAt t i .line)) refl
+    where
+      ps : List Port
+      ps = set (ports t) i (lined l (portAt t i))
+
+      by : (b : Bool) → sameLine l (portAt t i .line) ≡ b → (countIn (cond b t (again t (worked (ours t) ps))) ≡ countIn t)
+          × (portAt (cond b t (again t (worked (ours t) ps))) i .line ≡ l)
+      by true e = (refl, sym (line-true l (portAt t i .line) e))
+      by false e = (
+        again-count t (worked (ours t) ps),
+        work-line t s i h ps (line-before t s i h l)
+            ∙ ap (λ (p : Port). p .line) (getD-set-same (ports t) i (lined l (portAt t i)) (decoded []) (in-ports t s i h))
+            ∙ lined-line l (portAt t i) e,
+      )
+
+  -- work before which the record's line is as it was
+  work-keeps : (ps : List Port) → Before t ps → getD ps i (decoded []) .line ≡ portAt t i .line → Keeps t (again t (worked (ours t) ps)) i
+  work-keeps ps b e = record {
+    size = again-count t (worked (ours t) ps);
+    kept = work-line t s i h ps b ∙ e;
+  }
+
+  set-line : (m : ℕ) (q : Port) → (eqb i m ≡ true → q .line ≡ portAt t m .line) → getD (set (ports t) m q) i (decoded []) .line ≡ portAt t i .line
+  set-line m q f = set-view (λ p. p .line) t s i h m q (portAt t i .line) (λ e. f e ∙ ap (λ (p : Port). p .line) (at-same t s i h m e)) (λ e. refl)
+
+  other-keeps : (m : ℕ) → m < countIn t → (l : Line) → eqb i m ≡ false → Keeps t (afterLine t m l) i
+  unfolding afterLine afterOne
+  other-keeps m g l f = by (sameLine l (portAt t m .line))
+    where
+      by : (b : Bool) → Keeps t (cond b t (again t (worked (ours t) (set (ports t) m (lined l (portAt t m)))))) i
+      by true = unchanged t i
+      by false =
+          work-keeps (set (ports t) m (lined l (portAt t m))) (line-before t s m g l)
+          (set-line m (lined l (portAt t m)) (λ e. absurd (true≢false (sym e ∙ f))))
+
+  settings-keeps : (m : ℕ) → m < countIn t → (x : Settings) → ownFits (ownOf x) ≡ true → Keeps t (afterSettings t m x) i
+  unfolding afterSettings afterOne
+  settings-keeps m g x o = by (sameSettings x (portAt t m))
+    where
+      by : (b : Bool) → Keeps t (cond b t (again t (worked (ours t) (set (ports t) m (configured x (portAt t m)))))) i
+      by true = unchanged t i
+      by false =
+          work-keeps (set (ports t) m (configured x (portAt t m))) (settings-before t s m g x o)
+          (set-line m (configured x (portAt t m)) (λ e. configured-line x (portAt t m)))
+
+  send-keeps : (m : ℕ) → m < countIn t → Keeps t (afterSend t m) i
+  unfolding afterSend
+  send-keeps m g = record {
+    size = again-count t (set (ports t) m (sent (portAt t m)));
+    kept =
+        ap (λ (p : Port). p .line) (again-at t (set (ports t) m (sent (portAt t m))) (send-ports t s m g) i (decoded []) h)
+        ∙ set-line m (sent (portAt t m)) (λ e. sent-line (portAt t m));
+  }
+
+  tick-keeps : Keeps t (afterTick t) i
+  unfolding afterTick
+  tick-keeps =
+      work-keeps (map advanced (ports t)) (tick-before t s)
+      (ap (λ (p : Port). p .line) (map-at advanced (ports t) i (decoded []) (decoded []) (in-ports t s i h))
+      ∙ advanced-line (getD (ports t) i (decoded [])) ∙ ap (λ (p : Port). p .line) (ports-at t i (decoded []) h))
+
+  frame-keeps : (n : ℕ) (frame out : List ℕ) → Octets frame → (a : Answer) → answer (receive n frame out) t ≡ a → Keeps t (afterFrame a t (n - 1) frame) i
+  frame-keeps n frame out o Done e = unchanged t i
+  frame-keeps n frame out o Lacpdu e = unfold afterHeard in
+      let x = heard-on t n frame out e in
+      let a = blockOf (actorPart frame) in
+      let q = heardAt t (n - 1) frame in
+      let here : i < length (set (ports t) (n - 1) q) = rw (length-set (ports t) (n - 1) q, ports-length) h in
+      work-keeps (displaced (n - 1) a (set (ports t) (n - 1) q)) (heard-before t s (n - 1) (x .below) frame o (x .up) (x .full))
+      (displaced-line (n - 1) a (set (ports t) (n - 1) q) i (decoded []) here ∙ set-line (n - 1) q (λ y. heard-at-line t (n - 1) frame))
+  frame-keeps n frame out o Marker e = unchanged t i
+  frame-keeps n frame out o (Refused r) e = unchanged t i
+
+  changed-keeps : (c : Call) → Takes c → accepted (answer c t) ≡ true → relines c i ≡ false → Keeps t (changedBy c t) i
+  unfolding changedBy
+  changed-keeps (start count system delay x) k e f = absurd (true≢false f)
+  changed-keeps (receive n frame out) k e f = frame-keeps n frame out (k .0) (answer (receive n frame out) t) refl
+  changed-keeps tick k e f = tick-keeps
+  changed-keeps (line n l) k e f = other-keeps (n - 1) (unfold answer in named t n Done e) l f
+  changed-keeps (configure n x) k e f = settings-keeps (n - 1) (unfold answer in named t n (withDefault x Done) e) x k
+  changed-keeps (fetch n out) k e f = send-keeps (n - 1) (unfold answer in named t n (withRoom out (dueAnswer (due (portAt t (n - 1))))) e)
+  changed-keeps (report n) k e f = unchanged t i
+  changed-keeps (aggregator n) k e f = unchanged t i
+
+  unless-keeps : (a : Answer) (u : List ℕ) → (accepted a ≡ true → Keeps t u i) → Keeps t (unless a t u) i
+  unless-keeps Done u f = f refl
+  unless-keeps Lacpdu u f = f refl
+  unless-keeps Marker u f = f refl
+  unless-keeps (Refused r) u f = unchanged t i
+
+  call-keeps : (c : Call) → Takes c → relines c i ≡ false → Keeps t (after c t) i
+  call-keeps c k f = unfold after in unless-keeps (answer c t) (changedBy c t) (λ e. changed-keeps c k e f)
+
+-- ---- runs
+
+run-keeps : (i : ℕ) (t : List ℕ) (cs : List Call) → Sound t → i < countIn t → AllTake cs → NoneRelines cs i → Keeps t (run t cs) i
+unfolding run
+run-keeps i t [] s h k f = unchanged t i
+run-keeps i t (c ∷ cs) s h k f =
+    let a = call-keeps t s i h c (k .0) (f .0) in
+    let b = run-keeps i (after c t) cs (call-sound t s c (k .0)) (rw (a .size) h) (k .1) (f .1) in
+    record { size = b .size ∙ a .size; kept = b .kept ∙ a .kept }
+
+-- the table after an accepted line call
+record Given (t : List ℕ) (n : ℕ) (l : Line) : Type 0 where
+  size : countIn (after (line n l) t) ≡ countIn t
+  taken : portAt (after (line n l) t) (n - 1) .line ≡ l
+
+after-line : (t : List ℕ) → Sound t → (n : ℕ) (l : Line) → accepted (answer (line n l) t) ≡ true → Given t n l
+unfolding changedBy
+after-line t s n l e =
+    let g = given t s (n - 1) (unfold answer in named t n Done e) l in
+    let is : after (line n l) t ≡ afterLine t (n - 1) l = after-accepted t (line n l) e in
+    record {
+      size = ap (λ (u : List ℕ). countIn u) is ∙ g .0;
+      taken = ap (λ (u : List ℕ). portAt u (n - 1) .line) is ∙ g .1;
+    }
+
+pub line-taken : LineTaken
+line-taken t m n l e = after-line t (never-stuck t m) n l e .taken
+
+pub stays-silent : StaysSilent
+stays-silent t m n l e f cs k r =
+    let s = never-stuck t m in
+    let u = after (line n l) t in
+    let g = after-line t s n l e in
+    let sound : Sound u = call-sound t s (line n l) tt in
+    let here : n - 1 < countIn u = rw (g .size) (unfold answer in named t n Done e) in
+    let a = run-keeps (n - 1) u cs sound here k r in
+    let number : isNumber (run u cs) n ≡ true =
+    ap (λ (c : ℕ). within 1 n c) (a .size ∙ g .size) ∙ (unfold answer in numbered t n Done e) in
+    sound-silent (run u cs) (run-sound u sound cs k) n number (ap (λ (x : Line). x .full) (a .kept ∙ g .taken) ∙ f)
