@@ -265,6 +265,9 @@ MUTANTS = [
     Mutant("6 the live partner", "settings that put the default block in force", ("live-though-set",), "", (
         ("settings/specs/Settings.antt", "changed s p = withNtt (withActor (withOwn (regrouped s p) (ownOf s)) (ownBits s (p .actor))) true",
          "changed s p = withNtt (withActor (Rattle.port.specs.Record.withPartner (withOwn (regrouped s p) (ownOf s)) (s .default)) (ownBits s (p .actor))) true"),)),
+    Mutant("6 the live partner", "a line call that takes the new duplex first, and then the link", ("live-though-dropped",), "", (
+        ("port/specs/Receive.antt", "(receiveRun (withLine (receiveRun (withLine p (down (p .line)))) l))",
+         "(receiveRun (withLine (receiveRun (withLine (receiveRun (withLine p (down (p .line)))) (record { up = p .line .up; full = l .full }))) l))"),)),
     Mutant("7 reports", "COLLECTING counted as distributing", ("narrowed-true",), "report::stands_to", (
         ("report/specs/Sets.antt", "stands Distributes k p = eqb (p .aggregator) k && distributes (p .phase .mux)",
          "stands Distributes k p = eqb (p .aggregator) k && Rattle.machine.specs.Mux.collects (p .phase .mux)"),
@@ -283,6 +286,9 @@ MUTANTS = [
         ("machine/specs/Ages.antt", "(ages 0 (g .first) (g .third)) (ages 0 (g .first) (g .second)))", "(ages 0 noSend (g .third)) (ages 0 (g .first) (g .second)))"),
         ("machine/src/ages.rt", "                second: self.first,\n                third: self.third,\n            };\n        }\n        Ages {",
          "                second: NO_SEND,\n                third: self.third,\n            };\n        }\n        Ages {"))),
+    Mutant("the line call", "NTT kept at half duplex", ("half-silent",), "machine::states::Line::is_silent", (
+        ("machine/specs/States.antt", "silentOn l passive = not (l .full) || (l .up && passive)", "silentOn l passive = l .full && (l .up && passive)"),
+        ("machine/src/states.rt", "!self.full | (self.up & passive)", "self.full & (self.up & passive)"))),
     Mutant("case 07, 3F, 3D", "Aggregation and Defaulted exchanged", ("active-short", "in-trunk", "in-trunk-long"), "frame::state::PortState::octet", (
         ("frame/specs/State.antt", "weighed (s .aggregation) 4", "weighed (s .defaulted) 4"),
         ("frame/specs/State.antt", "weighed (s .defaulted) 64", "weighed (s .aggregation) 64"),
@@ -311,6 +317,9 @@ MUTANTS = [
         ("machine/specs/Time.antt", "longTimeoutTime = 900", "longTimeoutTime = 899"), ("machine/src/receive.rt", "LONG_TIMEOUT_TIME: u16 = 900", "LONG_TIMEOUT_TIME: u16 = 899"))),
     Mutant("case silence", "EXPIRED for 29 ticks", ("silence",), "machine::receive::timeout_time", (
         ("machine/specs/Time.antt", "shortTimeoutTime = 30", "shortTimeoutTime = 29"), ("machine/src/receive.rt", "SHORT_TIMEOUT_TIME: u16 = 30", "SHORT_TIMEOUT_TIME: u16 = 29"))),
+    Mutant("case the line changes", "a change on an up port that does not act as down, then up", ("from-up-full", "from-up-half"), "port::record::Port::set_line", (
+        ("port/specs/Receive.antt", "down l = record { up = false; full = l .full }", "down l = record { up = l .up; full = l .full }"),
+        ("port/src/receive.rt", "        self.line.up = false;", "        self.line.up = old.up;"))),
     Mutant("case 123, 124, 125", "124 octets refused", ("octets-124",), "frame::class::is_illegal", (
         ("frame/specs/Class.antt", "short l = ltb (length l) 124", "short l = ltb (length l) 125"),
         ("frame/src/class.rt", "    if s.len() < 124 {", "    if s.len() < 125 {"))),
