@@ -1,7 +1,7 @@
 /*
  * Myrkosti: the control side of link aggregation (LACP and Marker, IEEE Std 802.3ad-2000, Clause 43) for an access switch.
  *
- * You lend the memory of a table of 1 to 32 ports, tell the library what happens (frames, ticks, links, duplex, settings), send what
+ * You lend the memory of a table of 1 to 32 ports, tell the library what happens (frames, ticks, link and duplex, settings), send what
  * it writes for you, and read from the reports which ports form one trunk. It keeps no memory of its own, allocates nothing, calls
  * nothing, and every call ends. One table is one Aggregation System; different tables may be used at the same time.
  *
@@ -116,10 +116,10 @@ uint32_t myrkosti_table_size(uint32_t ports);
 
 /*
  * Starts a table. Call it once before everything else, and again to begin anew; what the memory held before does not matter. Links are
- * down and duplexes full then: tell the library of each link that is up. Every port begins with the settings given here, so all have one
- * address: give each its own by myrkosti_settings before its link comes up. `system` and `system_priority` name this switch to its
- * neighbours and must be its own; `collector_max_delay` counts tens of microseconds. What was sent before is forgotten: after a further
- * start let a second pass before you tell of the first link that is up, or more LACPDUs could go than three a second.
+ * down and duplexes full then: tell the library by myrkosti_line of each port that is otherwise. Every port begins with the settings given
+ * here, so all have one address: give each its own by myrkosti_settings before its link comes up. `system` and `system_priority` name this
+ * switch to its neighbours and must be its own; `collector_max_delay` counts tens of microseconds. What was sent before is forgotten: after a
+ * further start let a second pass before you tell of the first link that is up, or more LACPDUs could go than three a second.
  * Answers 0, 1 (memory size or port count) or 4.
  */
 uint32_t myrkosti_start(uint8_t *table, size_t table_len, uint32_t ports,
@@ -141,11 +141,18 @@ uint32_t myrkosti_receive(uint8_t *table, size_t table_len, uint32_t port,
  */
 uint32_t myrkosti_tick(uint8_t *table, size_t table_len);
 
-/* The link of a port is up (true) or down now. A value as it is changes nothing. Answers 0, 1 or 2. */
-uint32_t myrkosti_link(uint8_t *table, size_t table_len, uint32_t port, bool up);
-
-/* The duplex of a port is full (true) or half now; at half duplex LACP is off. A value as it is changes nothing. Answers 0, 1 or 2. */
-uint32_t myrkosti_duplex(uint8_t *table, size_t table_len, uint32_t port, bool full);
+/*
+ * Link and duplex of a port as they are now: `up` false is down, `full` false is half. Pass both, as the driver reads them together, whenever
+ * either changes. With both as they were the call changes nothing, so you may also repeat what you read. At half duplex LACP is off: nothing is
+ * to be fetched, from the moment in which the port comes up. What a change does:
+ *
+ *   to up, full   LACP is on and waits to hear the partner (EXPIRED), whom it gives up after three seconds of silence
+ *   to up, half   LACP is off (LACP_DISABLED): the partner is forgotten for the default block, and the port leaves its trunk
+ *   to down       the port carries no longer (PORT_DISABLED) but keeps its partner and its aggregator, whatever the duplex does in the same call
+ *
+ * Where the link is up before and after, a change of duplex acts as down, then up, within the call. Answers 0, 1 or 2.
+ */
+uint32_t myrkosti_line(uint8_t *table, size_t table_len, uint32_t port, bool up, bool full);
 
 /*
  * A port has these settings from now on. Equal settings change nothing. Another key, port priority or Aggregation takes the port out of its

@@ -95,8 +95,7 @@ static void refuse_tables(void)
     IS(start(table, SIZE, 0, NOBODY), MYRKOSTI_TABLE_WRONG);
     IS(start(table, SIZE, PORTS, wrong), MYRKOSTI_DEFAULT_WRONG);
     IS(myrkosti_tick(table, SIZE), MYRKOSTI_TABLE_WRONG);
-    IS(myrkosti_link(table, SIZE, 1, true), MYRKOSTI_TABLE_WRONG);
-    IS(myrkosti_duplex(table, SIZE, 1, true), MYRKOSTI_TABLE_WRONG);
+    IS(myrkosti_line(table, SIZE, 1, true, true), MYRKOSTI_TABLE_WRONG);
     IS(settings(table, 1, 1, NOBODY), MYRKOSTI_TABLE_WRONG);
     IS(myrkosti_fetch(table, SIZE, 1, out, sizeof out), MYRKOSTI_TABLE_WRONG);
     IS(myrkosti_receive(table, SIZE, 1, out, 0, out, sizeof out, &sent), MYRKOSTI_TABLE_WRONG);
@@ -121,8 +120,8 @@ static void refuse_arguments(uint8_t *table)
     memcpy(before, table, SIZE);
     wrong[14] = MYRKOSTI_SYNCHRONIZATION;
     write_lacpdu(frame, 1, 0x07);
-    IS(myrkosti_link(table, SIZE, 0, true), MYRKOSTI_NO_SUCH_PORT);
-    IS(myrkosti_duplex(table, SIZE, PORTS + 1, true), MYRKOSTI_NO_SUCH_PORT);
+    IS(myrkosti_line(table, SIZE, 0, true, true), MYRKOSTI_NO_SUCH_PORT);
+    IS(myrkosti_line(table, SIZE, PORTS + 1, true, false), MYRKOSTI_NO_SUCH_PORT);
     IS(settings(table, 4000000000u, 1, wrong), MYRKOSTI_NO_SUCH_PORT);
     IS(settings(table, 1, 1, wrong), MYRKOSTI_DEFAULT_WRONG);
     IS(myrkosti_port(table, SIZE, 0, record), MYRKOSTI_NO_SUCH_PORT);
@@ -160,8 +159,8 @@ static void form_a_trunk(uint8_t *table)
 {
     uint8_t frame[MYRKOSTI_FRAME], out[MYRKOSTI_FRAME + 1];
     uint32_t holding, attached, distributing, count, lowest, sent = 0;
-    IS(myrkosti_link(table, SIZE, 1, true), MYRKOSTI_DONE);
-    IS(myrkosti_link(table, SIZE, 2, true), MYRKOSTI_DONE);
+    IS(myrkosti_line(table, SIZE, 1, true, true), MYRKOSTI_DONE);
+    IS(myrkosti_line(table, SIZE, 2, true, true), MYRKOSTI_DONE);
     hear(table, 1);
     hear(table, 2);
     for (int i = 0; i < 20; i++) {
@@ -193,7 +192,7 @@ static void form_a_trunk(uint8_t *table)
     }
     IS(settings(table, 2, 1, NOBODY), MYRKOSTI_DONE);
     IS(myrkosti_fetch(table, SIZE, 2, out, sizeof out), MYRKOSTI_TOO_MANY_SENDS);
-    IS(myrkosti_duplex(table, SIZE, 1, false), MYRKOSTI_DONE);
+    IS(myrkosti_line(table, SIZE, 1, true, false), MYRKOSTI_DONE);
     IS(field(table, 1, MYRKOSTI_AT_RECEIVE), 3);
     IS(myrkosti_aggregator(table, SIZE, 1, &holding, &attached, &distributing, &count, &lowest), MYRKOSTI_DONE);
     IS(holding, 1);
@@ -221,7 +220,7 @@ static void limit_sends(void)
 {
     uint8_t table[SIZE];
     IS(start(table, SIZE, PORTS, NOBODY), MYRKOSTI_DONE);
-    IS(myrkosti_link(table, SIZE, 1, true), MYRKOSTI_DONE);
+    IS(myrkosti_line(table, SIZE, 1, true, true), MYRKOSTI_DONE);
     for (uint16_t key = 2; key < 5; key++) {
         IS(fetch_anew(table, key), MYRKOSTI_DONE);
         IS(myrkosti_tick(table, SIZE), MYRKOSTI_DONE);
@@ -261,6 +260,180 @@ static void range_ages(void)
     }
 }
 
+/* ---- link and duplex ---- */
+
+/* a default partner that is in sync and aggregatable, so that a port carries at half duplex too */
+static const uint8_t IN_SYNC[MYRKOSTI_BLOCK] = {0, 1, 0, 0, 0, 0, 0, 7, 0, 1, 0, 1, 0, 1, 0x3e};
+
+struct line {
+    bool up, full;
+};
+
+/* in the order in which the sixteen changes are listed, as old and as new values */
+static const struct line LINES[4] = {{true, true}, {true, false}, {false, true}, {false, false}};
+
+static uint32_t set_line(uint8_t *table, struct line line)
+{
+    return myrkosti_line(table, SIZE, 1, line.up, line.full);
+}
+
+static uint32_t fetch(uint8_t *table)
+{
+    uint8_t out[MYRKOSTI_FRAME];
+    return myrkosti_fetch(table, SIZE, 1, out, sizeof out);
+}
+
+static void pass(uint8_t *table, int ticks)
+{
+    while (ticks-- > 0) {
+        IS(myrkosti_tick(table, SIZE), MYRKOSTI_DONE);
+    }
+}
+
+/* port 1 has these values: up, and it distributes; down, and it did so at full duplex until its link fell. Nothing was due then */
+static void arrive(uint8_t *table, struct line line)
+{
+    IS(start(table, SIZE, PORTS, IN_SYNC), MYRKOSTI_DONE);
+    if (line.up && !line.full) {
+        IS(set_line(table, line), MYRKOSTI_DONE);
+        pass(table, 20);
+    } else {
+        IS(set_line(table, LINES[0]), MYRKOSTI_DONE);
+        hear(table, 1);
+        pass(table, 20);
+        IS(fetch(table), MYRKOSTI_DONE);
+    }
+    IS(field(table, 1, MYRKOSTI_AT_MUX), 4);
+    IS(field(table, 1, MYRKOSTI_AT_NTT), 0);
+    if (!line.up) {
+        IS(set_line(table, line), MYRKOSTI_DONE);
+    }
+}
+
+enum { PORT_DISABLED = 1, EXPIRED = 2, LACP_DISABLED = 3 };
+enum { NO_PERIODIC = 0, FAST_PERIODIC = 1 };
+enum { WAITING = 1, ATTACHED = 2 };
+
+/* what a change leaves in the fields that it may touch, and what a fetch is answered then */
+struct change {
+    uint8_t receive, periodic, mux, ntt, state, current_while, periodic_timer, wait_timer;
+    const uint8_t *system; /* the partner's */
+    uint8_t partner_state;
+    uint32_t fetched;
+};
+
+#define NOWHERE {0}
+#define TO_LACP_DISABLED {LACP_DISABLED, NO_PERIODIC, WAITING, 0, 0x47, 0, 0, 20, IN_SYNC + 2, 0x3a, MYRKOSTI_NOTHING_TO_SEND}
+#define TO_PORT_DISABLED(ntt, state, system, partner_state) \
+    {PORT_DISABLED, NO_PERIODIC, ATTACHED, ntt, state, 0, 0, 0, system, partner_state, MYRKOSTI_NOTHING_TO_SEND}
+#define TO_EXPIRED(ntt, state, system, partner_state) \
+    {EXPIRED, FAST_PERIODIC, ATTACHED, ntt, state, 30, 10, 0, system, partner_state, ntt ? MYRKOSTI_DONE : MYRKOSTI_NOTHING_TO_SEND}
+
+/* the rows are old values, the columns new ones */
+static const struct change CHANGES[4][4] = {
+    /* up, full: a fall keeps the partner, whatever the duplex; NTT, which ATTACHED sets, stays at full duplex alone */
+    {NOWHERE, TO_LACP_DISABLED, TO_PORT_DISABLED(1, 0x0f, THEIRS, 0x37), TO_PORT_DISABLED(0, 0x0f, THEIRS, 0x37)},
+    /* up, half, carrying on its default block: the fall to ATTACHED sets NTT, and at full duplex LACP is on */
+    {TO_EXPIRED(1, 0xcf, IN_SYNC + 2, 0x32), NOWHERE, TO_PORT_DISABLED(1, 0x4f, IN_SYNC + 2, 0x32),
+     TO_PORT_DISABLED(0, 0x4f, IN_SYNC + 2, 0x32)},
+    /* down, full: what the fall made due is still due */
+    {TO_EXPIRED(1, 0x8f, THEIRS, 0x37), TO_LACP_DISABLED, NOWHERE, TO_PORT_DISABLED(0, 0x0f, THEIRS, 0x37)},
+    /* down, half: nothing is due, and nothing becomes so */
+    {TO_EXPIRED(0, 0x8f, THEIRS, 0x37), TO_LACP_DISABLED, TO_PORT_DISABLED(0, 0x0f, THEIRS, 0x37), NOWHERE},
+};
+
+/* puts into the record what the change is to leave there */
+static void put_change(uint8_t *record, struct line line, const struct change *change)
+{
+    record[MYRKOSTI_AT_RECEIVE] = change->receive;
+    record[MYRKOSTI_AT_PERIODIC] = change->periodic;
+    record[MYRKOSTI_AT_MUX] = change->mux;
+    record[MYRKOSTI_AT_NTT] = change->ntt;
+    record[MYRKOSTI_AT_LINK] = line.up;
+    record[MYRKOSTI_AT_DUPLEX] = line.full;
+    record[MYRKOSTI_AT_ACTOR_STATE] = change->state;
+    record[MYRKOSTI_AT_CURRENT_WHILE + 1] = change->current_while;
+    record[MYRKOSTI_AT_PERIODIC_TIMER + 1] = change->periodic_timer;
+    record[MYRKOSTI_AT_WAIT_TIMER] = change->wait_timer;
+    put_block(record + MYRKOSTI_AT_PARTNER, change->system, 1, change->partner_state);
+}
+
+/* from each of the four values to each: every octet of the table, and the answer to a fetch */
+static void change_lines(void)
+{
+    for (unsigned from = 0; from < 4; from++) {
+        for (unsigned to = 0; to < 4; to++) {
+            uint8_t table[SIZE], expected[SIZE];
+            const struct change *change = &CHANGES[from][to];
+            arrive(table, LINES[from]);
+            memcpy(expected, table, SIZE);
+            if (from != to) {
+                put_change(expected + MYRKOSTI_HEADER, LINES[to], change);
+            }
+            IS(set_line(table, LINES[to]), MYRKOSTI_DONE);
+            char what[64];
+            snprintf(what, sizeof what, "the table after the change from line %u to line %u", from, to);
+            check(memcmp(table, expected, SIZE) == 0, what);
+            if (from != to) {
+                snprintf(what, sizeof what, "a fetch after the change from line %u to line %u", from, to);
+                check(fetch(table) == change->fetched, what);
+            }
+            memcpy(expected, table, SIZE);
+            IS(set_line(table, LINES[to]), MYRKOSTI_DONE);
+            IS(memcmp(table, expected, SIZE), 0);
+        }
+    }
+}
+
+/* a port that comes up at half duplex never speaks, also where it begins to carry; at full duplex it would at once */
+static void come_up_at_half_duplex(void)
+{
+    uint8_t table[SIZE];
+    IS(start(table, SIZE, PORTS, IN_SYNC), MYRKOSTI_DONE);
+    IS(field(table, 1, MYRKOSTI_AT_NTT), 1);
+    IS(myrkosti_line(table, SIZE, 1, true, false), MYRKOSTI_DONE);
+    IS(field(table, 1, MYRKOSTI_AT_RECEIVE), LACP_DISABLED);
+    IS(field(table, 1, MYRKOSTI_AT_ACTOR_STATE), 0x47);
+    for (int i = 0; i < 40; i++) {
+        IS(fetch(table), MYRKOSTI_NOTHING_TO_SEND);
+        pass(table, 1);
+    }
+    IS(field(table, 1, MYRKOSTI_AT_ACTOR_STATE), 0x7f);
+    IS(start(table, SIZE, PORTS, IN_SYNC), MYRKOSTI_DONE);
+    IS(myrkosti_line(table, SIZE, 1, true, true), MYRKOSTI_DONE);
+    IS(fetch(table), MYRKOSTI_DONE);
+}
+
+/* up and full, then down and half: one call keeps the partner, two by way of half duplex have forgotten it */
+static void fall_at_once_or_by_way_of_half_duplex(void)
+{
+    uint8_t once[SIZE], twice[SIZE];
+    arrive(once, LINES[0]);
+    memcpy(twice, once, SIZE);
+    IS(myrkosti_line(once, SIZE, 1, false, false), MYRKOSTI_DONE);
+    IS(field(once, 1, MYRKOSTI_AT_PARTNER + 7), THEIRS[5]);
+    IS(field(once, 1, MYRKOSTI_AT_ACTOR_STATE) & MYRKOSTI_DEFAULTED, 0);
+    IS(field(once, 1, MYRKOSTI_AT_MUX), ATTACHED);
+    IS(myrkosti_line(twice, SIZE, 1, true, false), MYRKOSTI_DONE);
+    IS(myrkosti_line(twice, SIZE, 1, false, false), MYRKOSTI_DONE);
+    IS(field(twice, 1, MYRKOSTI_AT_PARTNER + 7), IN_SYNC[7]);
+    IS(field(twice, 1, MYRKOSTI_AT_ACTOR_STATE) & MYRKOSTI_DEFAULTED, MYRKOSTI_DEFAULTED);
+    IS(field(twice, 1, MYRKOSTI_AT_MUX), WAITING);
+}
+
+/* values as they are change nothing, also in a table that no run makes: a down port that distributes, for which steps 2 to 6 have work */
+static void repeat_a_line(void)
+{
+    uint8_t table[SIZE], before[SIZE];
+    IS(start(table, SIZE, PORTS, NOBODY), MYRKOSTI_DONE);
+    table[MYRKOSTI_HEADER + MYRKOSTI_AT_MUX] = 4;
+    memcpy(before, table, SIZE);
+    IS(myrkosti_line(table, SIZE, 1, false, true), MYRKOSTI_DONE);
+    IS(memcmp(table, before, SIZE), 0);
+    IS(myrkosti_line(table, SIZE, 2, true, true), MYRKOSTI_DONE);
+    IS(field(table, 1, MYRKOSTI_AT_MUX), ATTACHED);
+}
+
 int main(void)
 {
     uint8_t table[SIZE];
@@ -271,6 +444,10 @@ int main(void)
     form_a_trunk(table);
     limit_sends();
     range_ages();
+    change_lines();
+    come_up_at_half_duplex();
+    fall_at_once_or_by_way_of_half_duplex();
+    repeat_a_line();
     printf("C interface: %u checks passed, %u failed\n", passed, failed);
     return failed != 0;
 }
