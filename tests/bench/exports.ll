@@ -41,19 +41,12 @@ define i32 @myrkosti_tick(ptr %table, i64 %length) nounwind {
   ret i32 %answer
 }
 
-define i32 @myrkosti_link(ptr %table, i64 %length, i32 %port, i8 %up) nounwind {
+define i32 @myrkosti_line(ptr %table, i64 %length, i32 %port, i8 %up, i8 %full) nounwind {
   %lent = alloca [16 x i8], align 8
   call void @lend(ptr %lent, ptr %table, i64 %length)
   %u = trunc i8 %up to i1
-  %answer = call i32 @"myrkosti::myrkosti_link"(ptr %lent, i32 %port, i1 zeroext %u)
-  ret i32 %answer
-}
-
-define i32 @myrkosti_duplex(ptr %table, i64 %length, i32 %port, i8 %full) nounwind {
-  %lent = alloca [16 x i8], align 8
-  call void @lend(ptr %lent, ptr %table, i64 %length)
   %f = trunc i8 %full to i1
-  %answer = call i32 @"myrkosti::myrkosti_duplex"(ptr %lent, i32 %port, i1 zeroext %f)
+  %answer = call i32 @"myrkosti::myrkosti_line"(ptr %lent, i32 %port, i1 zeroext %u, i1 zeroext %f)
   ret i32 %answer
 }
 

@@ -49,7 +49,7 @@ static void bring_up(uint8_t *table, const struct scene *scene)
 {
     start(&SIDES[0], table, scene);
     for (uint32_t port = 1; port <= scene->ports; port++)
-        SIDES[0].link(table, scene->size, port, true);
+        SIDES[0].line(table, scene->size, port, true, true);
 }
 
 /* every port hears its neighbour: one for all, or one each */
@@ -211,12 +211,12 @@ static uint32_t report_aggregator(const struct side *side, const struct scene *s
 
 static uint32_t fall(const struct side *side, const struct scene *scene, struct area *area)
 {
-    return side->link(area->table, scene->size, 1, false);
+    return side->line(area->table, scene->size, 1, false, true);
 }
 
 static uint32_t halve(const struct side *side, const struct scene *scene, struct area *area)
 {
-    return side->duplex(area->table, scene->size, 1, false);
+    return side->line(area->table, scene->size, 1, true, false);
 }
 
 static uint32_t set_key(const struct side *side, const struct scene *scene, struct area *area)

@@ -9,8 +9,7 @@ uint32_t model_start(uint8_t *table, size_t table_len, uint32_t ports,
 uint32_t model_receive(uint8_t *table, size_t table_len, uint32_t port,
                        const uint8_t *frame, size_t frame_len, uint8_t *out, size_t out_len, uint32_t *sent);
 uint32_t model_tick(uint8_t *table, size_t table_len);
-uint32_t model_link(uint8_t *table, size_t table_len, uint32_t port, bool up);
-uint32_t model_duplex(uint8_t *table, size_t table_len, uint32_t port, bool full);
+uint32_t model_line(uint8_t *table, size_t table_len, uint32_t port, bool up, bool full);
 uint32_t model_settings(uint8_t *table, size_t table_len, uint32_t port,
                         const uint8_t address[6], uint16_t key, uint16_t port_priority,
                         bool activity, bool timeout, bool aggregation, const uint8_t partner[MYRKOSTI_BLOCK]);
@@ -22,11 +21,10 @@ uint32_t model_aggregator(const uint8_t *table, size_t table_len, uint32_t aggre
 #endif
 
 const struct side SIDES[] = {
-    {"library", myrkosti_start, myrkosti_receive, myrkosti_tick, myrkosti_link, myrkosti_duplex, myrkosti_settings, myrkosti_fetch,
-     myrkosti_port, myrkosti_aggregator},
+    {"library", myrkosti_start, myrkosti_receive, myrkosti_tick, myrkosti_line, myrkosti_settings, myrkosti_fetch, myrkosti_port,
+     myrkosti_aggregator},
 #ifndef WITHOUT_MODEL
-    {"model", model_start, model_receive, model_tick, model_link, model_duplex, model_settings, model_fetch, model_port,
-     model_aggregator},
+    {"model", model_start, model_receive, model_tick, model_line, model_settings, model_fetch, model_port, model_aggregator},
 #endif
 };
 const size_t SIDE_COUNT = sizeof SIDES / sizeof SIDES[0];

@@ -13,8 +13,7 @@ struct side {
     uint32_t (*receive)(uint8_t *table, size_t table_len, uint32_t port,
                         const uint8_t *frame, size_t frame_len, uint8_t *out, size_t out_len, uint32_t *sent);
     uint32_t (*tick)(uint8_t *table, size_t table_len);
-    uint32_t (*link)(uint8_t *table, size_t table_len, uint32_t port, bool up);
-    uint32_t (*duplex)(uint8_t *table, size_t table_len, uint32_t port, bool full);
+    uint32_t (*line)(uint8_t *table, size_t table_len, uint32_t port, bool up, bool full);
     uint32_t (*settings)(uint8_t *table, size_t table_len, uint32_t port,
                          const uint8_t address[6], uint16_t key, uint16_t port_priority,
                          bool activity, bool timeout, bool aggregation, const uint8_t partner[MYRKOSTI_BLOCK]);

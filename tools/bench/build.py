@@ -14,7 +14,7 @@ CROSS = "" if X86_64 else "x86_64-linux-gnu-"
 EMULATOR = [] if X86_64 else [f"/opt/rattle/on/{platform.machine()}/toolchain/bin/qemu-x86_64"]
 C = ["-O2", "-std=c11", "-Wall", "-Wextra", "-Wpedantic", "-Werror", "-I", "include", "-I", "tests/bench"]
 # The calls whose entry takes a bool: exports.ll writes that entry in its own way, so its code may differ from the archive's.
-TAKE_BOOLS = {f".text.myrkosti_{call}" for call in ("start", "settings", "link", "duplex")}
+TAKE_BOOLS = {f".text.myrkosti_{call}" for call in ("start", "settings", "line")}
 
 
 def run(*words, **more):

@@ -107,5 +107,5 @@ def budget(counts):
 
 
 def text(texts):
-    return wrapped(f"The archive has {number(texts['all'])} octets of code and constants and no data (`size`, x86-64). A program that calls all ten "
+    return wrapped(f"The archive has {number(texts['all'])} octets of code and constants and no data (`size`, x86-64). A program that calls all nine "
                    f"functions takes {number(texts['linked'])}, one that reads no report {number(texts['without reports'])} (`--gc-sections`).")
