@@ -162,7 +162,7 @@ def stands(world):
 def forms(world):
     """Both links come up and are heard at once: Ready after the wait, and then a trunk."""
     for port in BOTH:
-        world.switch.link(port, True)
+        world.switch.line(port, up=True, full=True)
     world.settle()
     world.until(WAIT - 1, world.ours_is({}), world.theirs_is(set()))
     world.until(WAIT, world.ours_is({FIRST: BOTH}), world.theirs_is(BOTH))
@@ -196,12 +196,12 @@ def comes_back(world, *what):
 def cut(world, port):
     """A link goes down at both ends: the other carries without a break, also when it comes back."""
     name, stays = world.cables[port], other(port)
-    world.switch.link(port, False)
+    world.switch.line(port, up=False, full=True)
     world.neighbour.up(name, False)
     world.settle()
     world.ours_is({FIRST: {stays}})()
     world.until(world.now + 2 * SHORT + SOON, world.ours_is({FIRST: {stays}}), world.theirs_is({stays}))
-    world.switch.link(port, True)
+    world.switch.line(port, up=True, full=True)
     world.neighbour.up(name, True)
     return comes_back(world, world.carries(stays))
 

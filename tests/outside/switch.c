@@ -4,8 +4,7 @@
  *
  *   start PORTS SYSTEM_PRIORITY SYSTEM DELAY SETTINGS
  *   settings PORT SETTINGS            SETTINGS: ADDRESS KEY PORT_PRIORITY ACTIVITY TIMEOUT AGGREGATION PARTNER
- *   link PORT UP
- *   duplex PORT FULL
+ *   line PORT UP FULL
  *   tick
  *   receive PORT FRAME                answer, Response
  *   fetch PORT                        answer, LACPDU
@@ -128,16 +127,11 @@ static void do_settings(void)
     say(myrkosti_settings(table, size, port, s.address, s.key, s.priority, s.activity, s.timeout, s.aggregation, s.partner));
 }
 
-static void do_link(void)
+static void do_line(void)
 {
     uint32_t port = number(UINT32_MAX);
-    say(myrkosti_link(table, size, port, flag()));
-}
-
-static void do_duplex(void)
-{
-    uint32_t port = number(UINT32_MAX);
-    say(myrkosti_duplex(table, size, port, flag()));
+    bool up = flag();
+    say(myrkosti_line(table, size, port, up, flag()));
 }
 
 static void do_tick(void)
@@ -181,7 +175,7 @@ static const struct {
     const char *name;
     void (*act)(void);
 } COMMANDS[] = {
-    {"start", do_start}, {"settings", do_settings}, {"link", do_link}, {"duplex", do_duplex}, {"tick", do_tick},
+    {"start", do_start}, {"settings", do_settings}, {"line", do_line}, {"tick", do_tick},
     {"receive", do_receive}, {"fetch", do_fetch}, {"port", do_port}, {"aggregator", do_aggregator},
 };
 

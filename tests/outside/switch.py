@@ -166,13 +166,9 @@ class Switch:
         """Gives a port other settings."""
         self.done("settings", port, *settings.words())
 
-    def link(self, port, up):
-        """The link of a port is up or down."""
-        self.done("link", port, int(up))
-
-    def duplex(self, port, full):
-        """The duplex of a port is full or half."""
-        self.done("duplex", port, int(full))
+    def line(self, port, up, full):
+        """The link of a port is up or down, and its duplex full or half."""
+        self.done("line", port, int(up), int(full))
 
     def tick(self):
         """A tenth of a second passes."""

@@ -209,7 +209,7 @@ class Tour:
 def bring_up(tour, actor):
     """One port from the start until it distributes, all fields distinct."""
     tour.switch.start(1, OURS, SETTINGS)
-    tour.switch.link(1, True)
+    tour.switch.line(1, up=True, full=True)
     tour.send()
     for _ in range(5):
         tour.hear(1, actor, tour.switch.actor(1))
@@ -244,7 +244,7 @@ def some_settings(chance):
 def random_step(tour, chance, friends):
     """One random event on a random port, a good LACPDU being the likeliest."""
     switch, port = tour.switch, chance.choice(tour.switch.ports)
-    event = chance.choices(("good", "any", "marker", "ticks", "long", "link", "duplex", "settings"), (8, 2, 3, 6, 1, 1, 1, 1))[0]
+    event = chance.choices(("good", "any", "marker", "ticks", "long", "line", "settings"), (8, 2, 3, 6, 1, 2, 1))[0]
     if event == "good":
         state = chance.choice((0x0f, 0x1f, 0x3f, 0x3d, 0x3e, 0x07))
         tour.hear(port, friends[port]._replace(state=state), switch.actor(port))
@@ -257,10 +257,8 @@ def random_step(tour, chance, friends):
         tour.ticks(chance.randint(1, 25))
     elif event == "long":
         tour.ticks(chance.choice((60, 310)))
-    elif event == "link":
-        switch.link(port, not switch.port(port).link)
-    elif event == "duplex":
-        switch.duplex(port, not switch.port(port).duplex)
+    elif event == "line":
+        switch.line(port, up=chance.random() < 0.7, full=chance.random() < 0.7)
     else:
         switch.set(port, some_settings(chance))
     tour.send()
@@ -273,7 +271,7 @@ def random_tour(tour, chance):
     friend = some_block(chance)
     friends = {port: friend._replace(port=port + 100, port_priority=chance.getrandbits(16)) for port in tour.switch.ports}
     for port in tour.switch.ports:
-        tour.switch.link(port, True)
+        tour.switch.line(port, up=True, full=True)
     tour.send()
     for _ in range(STEPS):
         random_step(tour, chance, friends)
@@ -327,7 +325,7 @@ def hear_odd_frames(tour):
 def bring_up_quietly(switch):
     """A port that distributes, by way of a partner that is in sync by default."""
     switch.start(1, OURS, SETTINGS._replace(partner=THEIRS))
-    switch.link(1, True)
+    switch.line(1, up=True, full=True)
     for _ in range(60):
         switch.tick()
 
