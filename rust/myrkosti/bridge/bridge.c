@@ -4,8 +4,8 @@
  *
  * A batch is its length in octets (4), then its requests, one after the other. A request is
  *
- *    0       call: 0 table_size, 1 start, 2 receive, 3 tick, 4 link, 5 duplex, 6 settings, 7 fetch, 8 port, 9 aggregator
- *    1       flags: bit 0 activity, up or full; bit 1 timeout; bit 2 aggregation
+ *    0       call: 0 table_size, 1 start, 2 receive, 3 tick, 4 line, 5 settings, 6 fetch, 7 port, 8 aggregator
+ *    1       flags: bit 0 activity or up; bit 1 timeout or full; bit 2 aggregation
  *    2-5     ports, port or aggregator
  *    6-7     system priority          8-9     CollectorMaxDelay
  *   10-11    key                     12-13    port priority
@@ -140,7 +140,7 @@ static uint8_t *perform(const uint8_t **request, const uint8_t *end, uint8_t *re
     uint16_t system_priority = (uint16_t)number(r + 6, 2), delay = (uint16_t)number(r + 8, 2);
     uint16_t key = (uint16_t)number(r + 10, 2), priority = (uint16_t)number(r + 12, 2);
     const uint8_t *system = r + 14, *address = r + 20, *partner = r + 26;
-    bool first = r[1] & 1, timeout = r[1] & 2, aggregation = r[1] & 4;
+    bool first = r[1] & 1, second = r[1] & 2, third = r[1] & 4;
     uint8_t record[MYRKOSTI_RECORD];
     memset(&sent, UNTOUCHED, sizeof sent);
     memset(five, UNTOUCHED, sizeof five);
@@ -149,19 +149,15 @@ static uint8_t *perform(const uint8_t **request, const uint8_t *end, uint8_t *re
     switch (r[0]) {
     case 0: answer = myrkosti_table_size(n); break;
     case 1:
-        answer = myrkosti_start(table, table_len, n, system_priority, system, delay, address, key, priority, first, timeout, aggregation,
-                                partner);
+        answer = myrkosti_start(table, table_len, n, system_priority, system, delay, address, key, priority, first, second, third, partner);
         break;
     case 2: answer = myrkosti_receive(table, table_len, n, frame, frame_len, out, out_len, &sent); break;
     case 3: answer = myrkosti_tick(table, table_len); break;
-    case 4: answer = myrkosti_link(table, table_len, n, first); break;
-    case 5: answer = myrkosti_duplex(table, table_len, n, first); break;
-    case 6:
-        answer = myrkosti_settings(table, table_len, n, address, key, priority, first, timeout, aggregation, partner);
-        break;
-    case 7: answer = myrkosti_fetch(table, table_len, n, out, out_len); break;
-    case 8: answer = myrkosti_port(table, table_len, n, record); break;
-    case 9: answer = myrkosti_aggregator(table, table_len, n, &five[0], &five[1], &five[2], &five[3], &five[4]); break;
+    case 4: answer = myrkosti_line(table, table_len, n, first, second); break;
+    case 5: answer = myrkosti_settings(table, table_len, n, address, key, priority, first, second, third, partner); break;
+    case 6: answer = myrkosti_fetch(table, table_len, n, out, out_len); break;
+    case 7: answer = myrkosti_port(table, table_len, n, record); break;
+    case 8: answer = myrkosti_aggregator(table, table_len, n, &five[0], &five[1], &five[2], &five[3], &five[4]); break;
     default: fail("no such call"); return reply;
     }
 

@@ -1,8 +1,8 @@
 //! The control side of link aggregation (LACP and Marker, IEEE Std 802.3ad-2000, Clause 43) for an access switch: a safe
 //! interface to `libmyrkosti`, whose calls are proved to meet their contracts.
 //!
-//! A [`Table`] is one Aggregation System of 1 to 32 ports. You tell it what happens (frames, ticks, links, duplex,
-//! settings), send what it gives you to send, and read from its reports which ports form one trunk:
+//! A [`Table`] is one Aggregation System of 1 to 32 ports. You tell it what happens (frames, ticks, link and
+//! duplex, settings), send what it gives you to send, and read from its reports which ports form one trunk:
 //!
 //! ```
 //! use myrkosti::{Block, Received, Refusal, Settings, SystemId, Table, FRAME};
@@ -19,7 +19,7 @@
 //!     default_partner: Block::default(),
 //! };
 //! let mut table = Table::start(2, ours, 0, &settings)?;
-//! table.link(1, true)?;
+//! table.line(1, true, true)?; // up, at full duplex
 //!
 //! let mut out = [0; FRAME];
 //! assert_eq!(table.fetch(1, &mut out)?.len(), FRAME); // send it on port 1

@@ -23,7 +23,7 @@ pub struct Table<M = Box<[u8]>> {
 /// let mut memory = [0; 68]; // Table::size(1)
 /// TableRef::start_in(&mut memory[..], 1, SystemId::default(), 0, &settings)?;
 /// let mut table = Table::from_memory(&mut memory[..]);
-/// table.link(1, true)?;
+/// table.line(1, true, true)?;
 /// assert!(table.port(1)?.link_up);
 /// # Ok(())
 /// # }
@@ -71,8 +71,8 @@ pub struct AggregatorReport {
 }
 
 impl Table {
-    /// A table of that many ports, each with these settings. Links are down and duplexes full: tell it of each link that is up.
-    /// `system` names this switch and must be its own; `collector_max_delay` counts tens of microseconds.
+    /// A table of that many ports, each with these settings. Links are down and duplexes full: tell it by [`Table::line`] of each
+    /// port that is otherwise. `system` names this switch and must be its own; `collector_max_delay` counts tens of microseconds.
     ///
     /// # Errors
     /// [`Refusal::TableWrong`] for a count outside 1 to 32, [`Refusal::DefaultWrong`].
@@ -184,20 +184,14 @@ impl<M: AsRef<[u8]> + AsMut<[u8]>> Table<M> {
         answered(raw::tick(self.memory.as_mut()))
     }
 
-    /// The link of a port is up or down now. A value as it is changes nothing.
+    /// The link of a port is up or down now, and its duplex full or half: both as the driver reads them together. With both as they
+    /// were nothing changes. At half duplex LACP is off, and a port that comes up so has nothing to send. A port whose link falls
+    /// keeps its partner, whatever its duplex does in the same call; an up port that goes to half duplex forgets it.
     ///
     /// # Errors
     /// [`Refusal::TableWrong`], [`Refusal::NoSuchPort`].
-    pub fn link(&mut self, port: u32, up: bool) -> Result<(), Refusal> {
-        answered(raw::link(self.memory.as_mut(), port, up))
-    }
-
-    /// The duplex of a port is full or half now; at half duplex LACP is off. A value as it is changes nothing.
-    ///
-    /// # Errors
-    /// [`Refusal::TableWrong`], [`Refusal::NoSuchPort`].
-    pub fn duplex(&mut self, port: u32, full: bool) -> Result<(), Refusal> {
-        answered(raw::duplex(self.memory.as_mut(), port, full))
+    pub fn line(&mut self, port: u32, up: bool, full: bool) -> Result<(), Refusal> {
+        answered(raw::line(self.memory.as_mut(), port, up, full))
     }
 
     /// A port has these settings from now on. Equal settings change nothing. Another key, port priority or Aggregation takes the

@@ -52,7 +52,7 @@ fn two_links_become_a_trunk() {
     let mut table = Table::start(2, OURS, 0, &settings()).unwrap();
     let mut out = [0xFF; FRAME + 1];
     for port in [1, 2] {
-        table.link(port, true).unwrap();
+        table.line(port, true, true).unwrap();
         let frame = lacpdu(port as u16, &actor(&table, port));
         assert_eq!(table.receive(port, &frame, &mut out), Ok(Received::Lacpdu));
         assert_eq!(out, [0xFF; FRAME + 1]);
@@ -77,7 +77,7 @@ fn two_links_become_a_trunk() {
     assert_eq!(table.fetch(2, &mut out), Err(Refusal::NothingToSend));
     table.settings(2, &settings()).unwrap();
     assert_eq!(table.fetch(2, &mut out), Err(Refusal::TooManySends));
-    table.duplex(1, false).unwrap();
+    table.line(1, true, false).unwrap();
     let record = table.port(1).unwrap();
     assert_eq!((record.receive, record.full_duplex), (ReceiveState::LacpDisabled, false));
     assert_eq!(table.aggregator(1).unwrap().lowest, None);
@@ -88,7 +88,7 @@ fn two_links_become_a_trunk() {
 fn a_fourth_lacpdu_goes_once_eleven_ticks_came_after_the_first() {
     let mut table = Table::start(1, OURS, 0, &settings()).unwrap();
     let mut out = [0; FRAME];
-    table.link(1, true).unwrap();
+    table.line(1, true, true).unwrap();
     for key in 2..5 {
         table.settings(1, &Settings { key, ..settings() }).unwrap();
         assert_eq!(table.fetch(1, &mut out).map(<[u8]>::len), Ok(FRAME));
@@ -104,6 +104,27 @@ fn a_fourth_lacpdu_goes_once_eleven_ticks_came_after_the_first() {
 }
 
 #[test]
+fn one_call_carries_link_and_duplex() {
+    let mut table = Table::start(1, OURS, 0, &settings()).unwrap();
+    let mut out = [0; FRAME];
+    table.line(1, true, false).unwrap();
+    assert_eq!(table.fetch(1, &mut out), Err(Refusal::NothingToSend));
+    table.line(1, true, true).unwrap();
+    let frame = lacpdu(1, &actor(&table, 1));
+    table.receive(1, &frame, &mut out).unwrap();
+    for _ in 0..20 {
+        table.tick().unwrap();
+    }
+    let trunk = table.clone();
+    table.line(1, true, true).unwrap();
+    assert_eq!(table, trunk);
+    table.line(1, false, false).unwrap();
+    let record = table.port(1).unwrap();
+    assert_eq!((record.link_up, record.full_duplex, record.receive), (false, false, ReceiveState::PortDisabled));
+    assert_eq!((record.mux, record.partner.system), (MuxState::Attached, THEIRS));
+}
+
+#[test]
 fn refusals() {
     assert_eq!(Table::start(0, OURS, 0, &settings()), Err(Refusal::TableWrong));
     assert_eq!(Table::start(33, OURS, 0, &settings()), Err(Refusal::TableWrong));
@@ -113,8 +134,7 @@ fn refusals() {
     let mut out = [0xFF; FRAME];
     let frame = lacpdu(1, &Block::default());
     for port in [0, 3, u32::MAX] {
-        assert_eq!(table.link(port, true), Err(Refusal::NoSuchPort));
-        assert_eq!(table.duplex(port, false), Err(Refusal::NoSuchPort));
+        assert_eq!(table.line(port, true, false), Err(Refusal::NoSuchPort));
         assert_eq!(table.settings(port, &wrong_default()), Err(Refusal::NoSuchPort));
         assert_eq!(table.fetch(port, &mut out), Err(Refusal::NoSuchPort));
         assert_eq!(table.receive(port, &frame, &mut out), Err(Refusal::NoSuchPort));
@@ -149,8 +169,7 @@ fn any_memory() {
                 assert!(all_ones || result == Err(Refusal::TableWrong), "{length} of {octet}: {result:?}");
             };
             wrong(table.tick());
-            wrong(table.link(1, true));
-            wrong(table.duplex(1, true));
+            wrong(table.line(1, true, true));
             wrong(table.settings(1, &settings()));
             wrong(table.fetch(1, &mut out).map(|_| ()));
             wrong(table.receive(1, &[], &mut out).map(|_| ()));
@@ -166,7 +185,7 @@ fn lent_memory() {
     let mut memory = [0xA5; 68];
     assert_eq!(Table::size(1), Some(memory.len()));
     let mut table = TableRef::start_in(&mut memory[..], 1, OURS, 0, &settings()).unwrap();
-    table.lend().link(1, true).unwrap();
+    table.lend().line(1, true, true).unwrap();
     assert!(table.port(1).unwrap().link_up);
     let memory = table.into_memory();
     assert_eq!(memory.len(), 68);
@@ -177,7 +196,7 @@ fn lent_memory() {
 #[test]
 fn long_areas() {
     let mut table = Table::start(1, OURS, 0, &settings()).unwrap();
-    table.link(1, true).unwrap();
+    table.line(1, true, true).unwrap();
     let mut out = vec![0xFF; 1_000_000];
     assert_eq!(table.fetch(1, &mut out).map(<[u8]>::len), Ok(FRAME));
     assert!(out[FRAME..].iter().all(|octet| *octet == 0xFF));

@@ -97,7 +97,7 @@ fn arguments(call: &Call) -> Arguments<'_> {
         Call::TableSize { ports } => Arguments { number: ports, ..none },
         Call::Start { ports, system_priority, system, collector_max_delay, settings } => Arguments {
             call: 1,
-            flags: flags(&settings),
+            flags: own_bits(&settings),
             number: ports,
             system_priority,
             collector_max_delay,
@@ -107,19 +107,23 @@ fn arguments(call: &Call) -> Arguments<'_> {
         },
         Call::Receive { port, ref frame } => Arguments { call: 2, number: port, frame, ..none },
         Call::Tick => Arguments { call: 3, ..none },
-        Call::Link { port, up } => Arguments { call: 4, flags: u8::from(up), number: port, ..none },
-        Call::Duplex { port, full } => Arguments { call: 5, flags: u8::from(full), number: port, ..none },
+        Call::Line { port, up, full } => Arguments { call: 4, flags: flags([up, full, false]), number: port, ..none },
         Call::Settings { port, settings } => {
-            Arguments { call: 6, flags: flags(&settings), number: port, settings, ..none }
+            Arguments { call: 5, flags: own_bits(&settings), number: port, settings, ..none }
         }
-        Call::Fetch { port } => Arguments { call: 7, number: port, ..none },
-        Call::Port { port } => Arguments { call: 8, number: port, ..none },
-        Call::Aggregator { aggregator } => Arguments { call: 9, number: aggregator, ..none },
+        Call::Fetch { port } => Arguments { call: 6, number: port, ..none },
+        Call::Port { port } => Arguments { call: 7, number: port, ..none },
+        Call::Aggregator { aggregator } => Arguments { call: 8, number: aggregator, ..none },
     }
 }
 
-fn flags(settings: &SettingsArguments) -> u8 {
-    u8::from(settings.activity) | u8::from(settings.timeout) << 1 | u8::from(settings.aggregation) << 2
+fn own_bits(settings: &SettingsArguments) -> u8 {
+    flags([settings.activity, settings.timeout, settings.aggregation])
+}
+
+/// Bits 0, 1 and 2.
+fn flags([first, second, third]: [bool; 3]) -> u8 {
+    u8::from(first) | u8::from(second) << 1 | u8::from(third) << 2
 }
 
 fn encode(request: &Request, to: &mut Vec<u8>) {
@@ -252,14 +256,9 @@ pub fn tick(table: &mut [u8]) -> u32 {
     change(table, Call::Tick)
 }
 
-/// The link of a port is up or down now. Answers 0, 1 or 2.
-pub fn link(table: &mut [u8], port: u32, up: bool) -> u32 {
-    change(table, Call::Link { port, up })
-}
-
-/// The duplex of a port is full or half now. Answers 0, 1 or 2.
-pub fn duplex(table: &mut [u8], port: u32, full: bool) -> u32 {
-    change(table, Call::Duplex { port, full })
+/// The link of a port is up or down now, and its duplex full or half. Answers 0, 1 or 2.
+pub fn line(table: &mut [u8], port: u32, up: bool, full: bool) -> u32 {
+    change(table, Call::Line { port, up, full })
 }
 
 /// A port has these settings from now on. Answers 0, 1, 2 or 4.

@@ -32,8 +32,7 @@ mod library {
             sent: *mut u32,
         ) -> u32;
         pub fn myrkosti_tick(table: *mut u8, table_len: usize) -> u32;
-        pub fn myrkosti_link(table: *mut u8, table_len: usize, port: u32, up: bool) -> u32;
-        pub fn myrkosti_duplex(table: *mut u8, table_len: usize, port: u32, full: bool) -> u32;
+        pub fn myrkosti_line(table: *mut u8, table_len: usize, port: u32, up: bool, full: bool) -> u32;
         pub fn myrkosti_settings(
             table: *mut u8,
             table_len: usize,
@@ -128,16 +127,10 @@ pub fn tick(table: &mut [u8]) -> u32 {
     unsafe { library::myrkosti_tick(table.as_mut_ptr(), table.len()) }
 }
 
-/// The link of a port is up or down now. Answers 0, 1 or 2.
-pub fn link(table: &mut [u8], port: u32, up: bool) -> u32 {
+/// The link of a port is up or down now, and its duplex full or half. Answers 0, 1 or 2.
+pub fn line(table: &mut [u8], port: u32, up: bool, full: bool) -> u32 {
     // SAFETY: `table` is writable for its whole length; a Rust bool is a C bool.
-    unsafe { library::myrkosti_link(table.as_mut_ptr(), table.len(), port, up) }
-}
-
-/// The duplex of a port is full or half now. Answers 0, 1 or 2.
-pub fn duplex(table: &mut [u8], port: u32, full: bool) -> u32 {
-    // SAFETY: as for `link`.
-    unsafe { library::myrkosti_duplex(table.as_mut_ptr(), table.len(), port, full) }
+    unsafe { library::myrkosti_line(table.as_mut_ptr(), table.len(), port, up, full) }
 }
 
 /// A port has these settings from now on. Answers 0, 1, 2 or 4.
@@ -235,8 +228,7 @@ fn perform_one(request: &Request) -> Reply {
         ),
         Call::Receive { port, frame } => receive(table, *port, frame, out, sent),
         Call::Tick => tick(table),
-        Call::Link { port, up } => link(table, *port, *up),
-        Call::Duplex { port, full } => duplex(table, *port, *full),
+        Call::Line { port, up, full } => line(table, *port, *up, *full),
         Call::Settings { port, settings: s } => {
             settings(table, *port, &s.address, s.key, s.port_priority, s.activity, s.timeout, s.aggregation, &s.partner)
         }

@@ -35,17 +35,12 @@ pub enum Call {
     },
     /// [`tick`](super::tick).
     Tick,
-    /// [`link`](super::link).
-    Link {
+    /// [`line`](super::line).
+    Line {
         /// Port, from 1.
         port: u32,
         /// The link is up.
         up: bool,
-    },
-    /// [`duplex`](super::duplex).
-    Duplex {
-        /// Port, from 1.
-        port: u32,
         /// The duplex is full.
         full: bool,
     },

@@ -17,7 +17,7 @@ mod machine;
 
 mod many;
 
-pub use machine::{aggregator, duplex, fetch, link, port, receive, settings, start, table_size, tick};
+pub use machine::{aggregator, fetch, line, port, receive, settings, start, table_size, tick};
 pub use many::{perform, Call, Reply, Request, SettingsArguments, Unreachable};
 
 /// Answered where the library could not be reached, which happens only under an emulator. Nothing was changed then, but what
