@@ -67,16 +67,10 @@ pub unsafe extern "C" fn model_tick(table: *mut u8, table_len: usize) -> u32 {
     model::tick(from_raw_parts_mut(table, table_len))
 }
 
-/// The link of a port is up or down now.
+/// The link of a port is up or down now, and its duplex full or half.
 #[no_mangle]
-pub unsafe extern "C" fn model_link(table: *mut u8, table_len: usize, port: u32, up: bool) -> u32 {
-    model::link(from_raw_parts_mut(table, table_len), port, up)
-}
-
-/// The duplex of a port is full or half now.
-#[no_mangle]
-pub unsafe extern "C" fn model_duplex(table: *mut u8, table_len: usize, port: u32, full: bool) -> u32 {
-    model::duplex(from_raw_parts_mut(table, table_len), port, full)
+pub unsafe extern "C" fn model_line(table: *mut u8, table_len: usize, port: u32, up: bool, full: bool) -> u32 {
+    model::line(from_raw_parts_mut(table, table_len), port, up, full)
 }
 
 /// A port has these settings from now on.

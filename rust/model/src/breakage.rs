@@ -49,11 +49,16 @@ pub enum Breakage {
     DefaultAppliedAtOnce,
     /// A Marker Response repeats the octets of the Marker from 30 on.
     ResponseRepeatsPadding,
+    /// Link and duplex are two calls, as before request M-103, the duplex first: from up and full to down and half the partner is
+    /// forgotten on the way.
+    LineAsTwoCalls,
+    /// The same with the link first: from up and half to down and full NTT is cleared before LACP is on.
+    LinkBeforeDuplex,
 }
 
 impl Breakage {
     /// Every breakage, with the name by which it is asked for.
-    pub const ALL: [(&'static str, Breakage); 22] = [
+    pub const ALL: [(&'static str, Breakage); 24] = [
         ("partners-timeout", Breakage::PartnersTimeout),
         ("compares-after-recording", Breakage::ComparesAfterRecording),
         ("expired-records-default", Breakage::ExpiredRecordsDefault),
@@ -76,6 +81,8 @@ impl Breakage {
         ("buffer-tested-after-frame", Breakage::BufferTestedAfterFrame),
         ("default-applied-at-once", Breakage::DefaultAppliedAtOnce),
         ("response-repeats-padding", Breakage::ResponseRepeatsPadding),
+        ("line-as-two-calls", Breakage::LineAsTwoCalls),
+        ("link-before-duplex", Breakage::LinkBeforeDuplex),
     ];
 
     /// The breakage of that name.

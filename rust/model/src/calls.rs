@@ -65,11 +65,15 @@ fn own_bits(activity: bool, timeout: bool, aggregation: bool) -> u8 {
 
 /// The end of an accepted call that changes something: periodic machines, then steps 3 to 6, over all ports.
 fn finish(mut table: Table, memory: &mut [u8]) {
+    work(&mut table);
+    table.write(memory);
+}
+
+fn work(table: &mut Table) {
     for port in &mut table.ports {
         port.periodic_machine();
     }
     table.settle();
-    table.write(memory);
 }
 
 /// The octets of a table's memory; 0 for a count outside 1 to 32.
@@ -204,36 +208,47 @@ impl Port {
         self.ages = self.ages.map(|age| age.map(|age| age + 1).filter(|age| *age <= oldest));
     }
 
-    /// The link falls, and then link and duplex are these: the Receive machine sees both.
-    fn relinked(&mut self, up: bool, full: bool) {
+    /// Whether the link is up, and whether the duplex is full.
+    fn line(&self) -> (bool, bool) {
+        (self.link, self.full_duplex)
+    }
+
+    /// The link falls at the duplex that was, and then link and duplex are these: the Receive machine sees both, and nothing between.
+    fn relined(&mut self, new: (bool, bool)) {
         self.link = false;
         self.receive_machine();
-        self.link = up;
-        self.full_duplex = full;
+        (self.link, self.full_duplex) = new;
         self.receive_machine();
     }
 }
 
-/// The link of a port is up or down now.
-pub fn link(table: &mut [u8], port: u32, up: bool) -> u32 {
+/// The link of a port is up or down now, and its duplex full or half (request M-103): one event, and none where both are as they
+/// were.
+pub fn line(table: &mut [u8], port: u32, up: bool, full: bool) -> u32 {
     number(open(table, port).map(|mut read| {
-        let record = &mut read.ports[port as usize - 1];
-        if record.link != up {
-            record.relinked(up, record.full_duplex);
-            finish(read, table);
+        let at = port as usize - 1;
+        let (old, new) = (read.ports[at].line(), (up, full));
+        if old == new {
+            return;
         }
+        if let Some(way) = by_way_of(old, new).filter(|way| *way != old && *way != new) {
+            read.ports[at].relined(way);
+            work(&mut read);
+        }
+        read.ports[at].relined(new);
+        finish(read, table);
     }))
 }
 
-/// The duplex of a port is full or half now.
-pub fn duplex(table: &mut [u8], port: u32, full: bool) -> u32 {
-    number(open(table, port).map(|mut read| {
-        let record = &mut read.ports[port as usize - 1];
-        if record.full_duplex != full {
-            record.relinked(record.link, full);
-            finish(read, table);
-        }
-    }))
+/// What two calls would stop at on the way: nothing, but in the breakages.
+fn by_way_of(old: (bool, bool), new: (bool, bool)) -> Option<(bool, bool)> {
+    if breakage::is(Breakage::LineAsTwoCalls) {
+        Some((old.0, new.1))
+    } else if breakage::is(Breakage::LinkBeforeDuplex) {
+        Some((new.0, old.1))
+    } else {
+        None
+    }
 }
 
 /// A port has these settings from now on.

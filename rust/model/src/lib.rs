@@ -26,4 +26,4 @@ pub mod record;
 pub mod select;
 pub mod wire;
 
-pub use calls::{aggregator, duplex, fetch, link, port, receive, settings, start, table_size, tick};
+pub use calls::{aggregator, fetch, line, port, receive, settings, start, table_size, tick};

@@ -3,7 +3,7 @@
 mod common;
 
 use common::{far, lacpdu, marker, set, Bench, Set};
-use model::record::{Mux, Periodic, Receive};
+use model::record::{Mux, Periodic, Port, Receive};
 use model::wire::{Block, State, FRAME};
 
 fn distributing(bits: u8) -> Bench {
@@ -225,6 +225,70 @@ fn half_duplex_clears_ntt_for_good() {
 }
 
 #[test]
+fn up_at_half_duplex_never_speaks() {
+    let mut t = Bench::start(1, 5, 0x3C);
+    assert!(t.port(1).ntt);
+    t.line(1, true, false);
+    let p = t.port(1);
+    assert_eq!((p.receive, p.actor_state.0, p.ntt), (Receive::LacpDisabled, 0x45, false));
+    for _ in 0..40 {
+        assert_eq!(t.fetch(1), 10);
+        t.ticks(1);
+    }
+    assert_eq!(t.port(1).mux, Mux::Distributing);
+    let mut t = distributing(5);
+    t.link(1, false);
+    t.line(1, true, false);
+    let p = t.port(1);
+    assert_eq!((p.receive, p.mux, p.wait_while, p.ntt), (Receive::LacpDisabled, Mux::Waiting, 20, false));
+}
+
+#[test]
+fn down_and_half_at_once_keeps_the_partner() {
+    let mut t = distributing(5);
+    let (memory, kept) = (t.memory.clone(), t.port(1).partner.system);
+    t.line(1, false, false);
+    let p = t.port(1);
+    assert_eq!((p.receive, p.mux, p.selected, p.ntt), (Receive::PortDisabled, Mux::Attached, true, false));
+    assert_eq!((p.partner.system, p.actor_state.0), (kept, 0x0D));
+    t.line(1, true, true);
+    let p = t.port(1);
+    assert_eq!((p.receive, p.mux, p.partner.system, p.ntt), (Receive::Expired, Mux::Attached, kept, false));
+    t.memory = memory;
+    t.duplex(1, false);
+    t.link(1, false);
+    let p = t.port(1);
+    assert_eq!((p.receive, p.mux, p.partner.system), (Receive::PortDisabled, Mux::Waiting, [0; 6]));
+}
+
+#[test]
+fn down_and_full_at_once_after_half_duplex() {
+    for (default, mux, ntt) in [(0x3C, Mux::Distributing, true), (0x04, Mux::Attached, false)] {
+        let mut t = Bench::start(1, 5, default);
+        t.line(1, true, false);
+        t.ticks(20);
+        assert_eq!((t.port(1).mux, t.port(1).ntt), (mux, false));
+        t.line(1, false, true);
+        let p = t.port(1);
+        assert_eq!((p.receive, p.mux, p.ntt), (Receive::PortDisabled, Mux::Attached, ntt));
+        t.line(1, true, true);
+        assert_eq!(t.fetch(1), if ntt { 0 } else { 10 });
+    }
+}
+
+#[test]
+fn a_down_port_changes_its_duplex() {
+    let mut t = distributing(5);
+    t.link(1, false);
+    let fallen = t.port(1);
+    t.duplex(1, false);
+    let half = Port { full_duplex: false, ntt: false, ..fallen.clone() };
+    assert_eq!(t.port(1), half);
+    t.duplex(1, true);
+    assert_eq!(t.port(1), Port { full_duplex: true, ..half });
+}
+
+#[test]
 fn duplex_change_on_an_up_port() {
     let mut t = Bench::start(1, 5, 0x3C);
     t.duplex(1, false);
@@ -321,8 +385,7 @@ fn inconsistent_tables() {
     assert_eq!(t.hand(1, &lacpdu()), 5);
     assert_eq!(t.hand(1, &marker(1)), 0);
     assert_eq!(t.fetch(1), 10);
-    t.link(1, false);
-    t.duplex(1, true);
+    t.line(1, false, true);
     assert_eq!(t.memory, before);
     assert_eq!(t.settings(1, Set { default: t.port(1).default, ..set(5, 0) }), 4);
     t.poke(1, |p| (p.link, p.current_while, p.selected) = (true, 0, true));

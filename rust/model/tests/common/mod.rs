@@ -72,12 +72,20 @@ impl Bench {
         }
     }
 
-    pub fn link(&mut self, n: u32, up: bool) {
-        assert_eq!(model::link(&mut self.memory, n, up), 0);
+    pub fn line(&mut self, n: u32, up: bool, full: bool) {
+        assert_eq!(model::line(&mut self.memory, n, up, full), 0);
     }
 
+    /// The link alone: the duplex is as it was.
+    pub fn link(&mut self, n: u32, up: bool) {
+        let full = self.port(n as usize).full_duplex;
+        self.line(n, up, full);
+    }
+
+    /// The duplex alone: the link is as it was.
     pub fn duplex(&mut self, n: u32, full: bool) {
-        assert_eq!(model::duplex(&mut self.memory, n, full), 0);
+        let up = self.port(n as usize).link;
+        self.line(n, up, full);
     }
 
     pub fn settings(&mut self, n: u32, set: Set) -> u32 {
