@@ -24,8 +24,7 @@ pub fn by_model(request: &Request) -> Reply {
         ),
         Call::Receive { port, frame } => model::receive(table, *port, frame, out, sent),
         Call::Tick => model::tick(table),
-        Call::Link { port, up } => model::link(table, *port, *up),
-        Call::Duplex { port, full } => model::duplex(table, *port, *full),
+        Call::Line { port, up, full } => model::line(table, *port, *up, *full),
         Call::Settings { port, settings: s } => model::settings(
             table,
             *port,

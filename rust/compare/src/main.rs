@@ -213,23 +213,25 @@ mod tests {
 
     #[test]
     fn library_and_model_agree() {
-        let difference = Comparison::new().run(1, Limit { calls: 20_000, time: Duration::MAX });
+        let mut comparison = Comparison::new();
+        let difference = comparison.run(1, Limit { calls: 20_000, time: Duration::MAX });
         assert!(difference.unwrap().is_none());
+        assert!(comparison.tally.least_line() > 0, "{}", comparison.tally);
     }
 
     /// A table that library and model hold alike.
     struct Both(Vec<u8>);
 
     impl Both {
-        /// One port, active.
-        fn start() -> Both {
+        /// One port.
+        fn start(settings: SettingsArguments) -> Both {
             let mut both = Both(vec![0xA5; model::table_size(1) as usize]);
             let start = Call::Start {
                 ports: 1,
                 system_priority: 1,
                 system: [0, 0, 0, 0, 0, 9],
                 collector_max_delay: 0,
-                settings: settings(0),
+                settings,
             };
             assert_eq!(both.call(start), 0);
             both
@@ -237,12 +239,34 @@ mod tests {
 
         /// Both perform the call, with the same reply; its answer.
         fn call(&mut self, call: Call) -> u32 {
-            let out = if matches!(call, Call::Fetch { .. }) { vec![0; world::FRAME] } else { Vec::new() };
+            let out = vec![0; world::FRAME];
             let request = Request { call, table: self.0.clone(), out };
             let reply = by_model(&request);
             assert_eq!(raw::perform(from_ref(&request)).unwrap(), from_ref(&reply));
             self.0 = reply.table;
             reply.answer
+        }
+
+        fn ticks(&mut self, count: u32) {
+            for _ in 0..count {
+                assert_eq!(self.call(Call::Tick), 0);
+            }
+        }
+
+        /// The port has this link and duplex; it distributes where it is up, and did where it is down.
+        fn carrying((up, full): (bool, bool)) -> Both {
+            let partner = [0, 1, 0, 0, 0, 0, 0, 7, 0, 1, 0, 1, 0, 1, 0x3C];
+            let mut both = Both::start(SettingsArguments { aggregation: true, partner, ..settings(0) });
+            assert_eq!(both.call(Call::Line { port: 1, up: true, full: full || !up }), 0);
+            if full || !up {
+                let actor = [0, 1, 0, 0, 0, 0, 0, 5, 0, 1, 0, 1, 0, 1, 0x3D];
+                let frame = world::frame(1, &actor, &world::says_of_itself(&both.0, 1));
+                assert_eq!(both.call(Call::Receive { port: 1, frame }), 0);
+            }
+            both.ticks(20);
+            assert_eq!(both.0[world::HEADER + 2], 4);
+            assert_eq!(both.call(Call::Line { port: 1, up, full }), 0);
+            both
         }
 
         /// Another own address, so that an LACPDU is due; then a fetch.
@@ -262,8 +286,8 @@ mod tests {
 
     #[test]
     fn a_fourth_lacpdu_goes_once_eleven_ticks_came_after_the_first() {
-        let mut both = Both::start();
-        assert_eq!(both.call(Call::Link { port: 1, up: true }), 0);
+        let mut both = Both::start(settings(0));
+        assert_eq!(both.call(Call::Line { port: 1, up: true, full: true }), 0);
         for address in 1..=3 {
             assert_eq!(both.fetch_anew(address), 0);
         }
@@ -279,12 +303,29 @@ mod tests {
 
     #[test]
     fn a_stored_age_is_at_most_ten() {
-        let mut both = Both::start();
+        let mut both = Both::start(settings(0));
         for (place, age) in (14..17).flat_map(|place| (0..=255).map(move |age| (place, age))) {
             let kept = both.0.clone();
             both.0[world::HEADER + place] = age;
             assert_eq!(both.call(Call::Port { port: 1 }), u32::from((11..=254).contains(&age)));
             both.0 = kept;
+        }
+    }
+
+    #[test]
+    fn every_change_of_link_and_duplex() {
+        let lines = [(true, true), (true, false), (false, true), (false, false)];
+        for (old, (up, full)) in lines.into_iter().flat_map(|old| lines.map(|new| (old, new))) {
+            let mut both = Both::carrying(old);
+            let before = both.0.clone();
+            for _ in 0..2 {
+                assert_eq!(both.call(Call::Line { port: 1, up, full }), 0);
+                assert_eq!(world::line_of(&both.0, 1), (up, full));
+                assert_eq!(both.0 == before, old == (up, full));
+            }
+            let fetched = both.call(Call::Fetch { port: 1 });
+            assert!(fetched == 10 || up && full);
+            both.ticks(31);
         }
     }
 

@@ -9,7 +9,7 @@ use std::collections::VecDeque;
 /// What a run is about.
 #[derive(Clone, Copy, Debug, PartialEq, Eq)]
 pub enum Kind {
-    /// Neighbours that speak, are silent, move; links, duplex, settings.
+    /// Neighbours that speak, are silent, move; link and duplex, settings.
     Realistic,
     /// Frames of every length and with changed octets.
     DamagedFrames,
@@ -32,8 +32,11 @@ enum Plan {
     Hear(u32),
     /// The far end is in sync, and collects or does not; it says so.
     HearCollecting(u32, bool),
+    /// The link alone: the duplex is as it was.
     Link(u32, bool),
+    /// The duplex alone: the link is as it was.
     Duplex(u32, bool),
+    Line(u32, bool, bool),
     Settings(u32),
     Fetch(u32),
 }
@@ -61,6 +64,7 @@ enum Action {
     LinkFlap,
     AllUp,
     Duplex,
+    Line,
     Settings,
     Fetch,
     FetchAll,
@@ -88,6 +92,7 @@ const REALISTIC: &[(u32, Action)] = &[
     (16, Action::LinkFlap),
     (10, Action::AllUp),
     (14, Action::Duplex),
+    (14, Action::Line),
     (30, Action::Settings),
     (70, Action::Fetch),
     (16, Action::FetchAll),
@@ -108,9 +113,10 @@ const BALANCED: &[(u32, Action)] = &[
     (20, Action::Tick),
     (2, Action::Ticks),
     (20, Action::Hear),
-    (20, Action::Link),
+    (10, Action::Link),
     (4, Action::LinkFlap),
-    (24, Action::Duplex),
+    (10, Action::Duplex),
+    (20, Action::Line),
     (20, Action::Settings),
     (14, Action::Fetch),
     (2, Action::FetchTooMuch),
@@ -199,8 +205,9 @@ impl Scenario {
                 self.world.set_collecting(port, collecting);
                 Call::Receive { port, frame: self.world.lacpdu(random, &self.table, port) }
             }
-            Plan::Link(port, up) => Call::Link { port, up },
-            Plan::Duplex(port, full) => Call::Duplex { port, full },
+            Plan::Link(port, up) => Call::Line { port, up, full: world::line_of(&self.table, port).1 },
+            Plan::Duplex(port, full) => Call::Line { port, up: world::line_of(&self.table, port).0, full },
+            Plan::Line(port, up, full) => Call::Line { port, up, full },
             Plan::Settings(port) => {
                 Call::Settings { port, settings: self.world.next_settings(random, &self.table, port) }
             }
@@ -257,6 +264,14 @@ impl Scenario {
                 self.ticks(random.of(&[0, 1, 5, 15]));
                 if random.percent(60) {
                     self.plans.push_back(Plan::Duplex(port, true));
+                }
+            }
+            Action::Line => {
+                self.plans.push_back(Plan::Line(port, random.flag(), random.flag()));
+                if random.percent(60) {
+                    self.plans.push_back(Plan::Fetch(port));
+                    self.ticks(random.of(&[0, 1, 5, 20]));
+                    self.plans.push_back(Plan::Line(port, random.percent(80), random.percent(80)));
                 }
             }
             Action::Settings => self.plans.push_back(Plan::Settings(port)),
@@ -334,7 +349,7 @@ impl Scenario {
         if random.percent(60) {
             settings.partner[14] ^= random.of(&[0x08, 0x10, 0x18]);
         }
-        let call = match random.below(10) {
+        let call = match random.below(9) {
             0 if random.percent(80) => Call::TableSize { ports: random.below(40) },
             0 => Call::TableSize { ports: random.bits() as u32 },
             1 => match self.world.start(random) {
@@ -345,12 +360,11 @@ impl Scenario {
                 call => call,
             },
             2 => Call::Tick,
-            3 => Call::Link { port, up: random.flag() },
-            4 => Call::Duplex { port, full: random.flag() },
-            5 => Call::Settings { port, settings },
-            6 => Call::Fetch { port },
-            7 => Call::Port { port },
-            8 => Call::Aggregator { aggregator: port },
+            3 => Call::Line { port, up: random.flag(), full: random.flag() },
+            4 => Call::Settings { port, settings },
+            5 => Call::Fetch { port },
+            6 => Call::Port { port },
+            7 => Call::Aggregator { aggregator: port },
             _ if random.flag() => Call::Receive { port, frame: self.world.lacpdu(random, &self.table, port) },
             _ => match self.damaged(random) {
                 Call::Receive { frame, .. } => Call::Receive { port, frame },

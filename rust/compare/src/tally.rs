@@ -1,5 +1,6 @@
 //! How many calls of each kind and each answer were compared.
 
+use crate::world;
 use myrkosti::raw::{Call, Reply, Request};
 use std::collections::BTreeMap;
 use std::fmt;
@@ -11,10 +12,18 @@ pub struct Tally {
     receive: [u64; 6],
     periodic: [u64; 4],
     mux: [u64; 5],
+    /// Accepted line calls, by the old and by the new values.
+    lines: [[u64; 4]; 4],
 }
 
-const CALLS: [&str; 10] =
-    ["table_size", "start", "receive", "tick", "link", "duplex", "settings", "fetch", "port", "aggregator"];
+const CALLS: [&str; 9] = ["table_size", "start", "receive", "tick", "line", "settings", "fetch", "port", "aggregator"];
+
+const LINES: [(&str, (bool, bool)); 4] = [
+    ("up full", (true, true)),
+    ("up half", (true, false)),
+    ("down full", (false, true)),
+    ("down half", (false, false)),
+];
 
 fn place(call: &Call) -> usize {
     match call {
@@ -22,12 +31,11 @@ fn place(call: &Call) -> usize {
         Call::Start { .. } => 1,
         Call::Receive { .. } => 2,
         Call::Tick => 3,
-        Call::Link { .. } => 4,
-        Call::Duplex { .. } => 5,
-        Call::Settings { .. } => 6,
-        Call::Fetch { .. } => 7,
-        Call::Port { .. } => 8,
-        Call::Aggregator { .. } => 9,
+        Call::Line { .. } => 4,
+        Call::Settings { .. } => 5,
+        Call::Fetch { .. } => 6,
+        Call::Port { .. } => 7,
+        Call::Aggregator { .. } => 8,
     }
 }
 
@@ -36,6 +44,10 @@ impl Tally {
     pub fn count(&mut self, request: &Request, reply: &Reply) {
         let answer = if matches!(request.call, Call::TableSize { .. }) { 0 } else { reply.answer };
         *self.counts.entry((place(&request.call), answer)).or_default() += 1;
+        if let (Call::Line { port, up, full }, 0) = (&request.call, reply.answer) {
+            let place = |line| LINES.iter().position(|(_, other)| *other == line).unwrap_or(0);
+            self.lines[place(world::line_of(&request.table, *port))][place((*up, *full))] += 1;
+        }
         if reply.answer == 0 {
             for record in reply.table.get(11..).unwrap_or_default().chunks_exact(57) {
                 let raise = |counts: &mut [u64], state: u8| {
@@ -48,6 +60,12 @@ impl Tally {
                 raise(&mut self.mux, record[2]);
             }
         }
+    }
+
+    /// The least of the sixteen pairs of old and new link and duplex.
+    #[cfg(test)]
+    pub fn least_line(&self) -> u64 {
+        self.lines.iter().flatten().copied().min().unwrap_or(0)
     }
 
     /// All calls compared.
@@ -70,6 +88,18 @@ impl fmt::Display for Tally {
                     Some(count) => write!(f, "{count:>9}")?,
                     None => write!(f, "{:>9}", "-")?,
                 }
+            }
+            writeln!(f)?;
+        }
+        write!(f, "{:<11}", "line, from")?;
+        for (name, _) in LINES {
+            write!(f, "{:>14}", format!("to {name}"))?;
+        }
+        writeln!(f)?;
+        for ((name, _), counts) in LINES.iter().zip(self.lines) {
+            write!(f, "  {name:<9}")?;
+            for count in counts {
+                write!(f, "{count:>14}")?;
             }
             writeln!(f)?;
         }

@@ -60,8 +60,14 @@ fn block(priority: u16, system: [u8; 6], key: u16, port_priority: u16, port: u16
     block
 }
 
+/// Whether the link of a port is up and its duplex full, as the table has it; both where there is no such port.
+pub fn line_of(table: &[u8], port: u32) -> (bool, bool) {
+    let at = HEADER + RECORD * (port as usize).saturating_sub(1);
+    table.get(at..at + RECORD).map_or((true, true), |record| (record[6] == 1, record[7] == 1))
+}
+
 /// The actor block of a port, as the table has it; zeros where there is no such port.
-fn says_of_itself(table: &[u8], port: u32) -> [u8; BLOCK] {
+pub fn says_of_itself(table: &[u8], port: u32) -> [u8; BLOCK] {
     let at = HEADER + RECORD * (port as usize).saturating_sub(1);
     let (Some(header), Some(record)) = (table.get(..HEADER), table.get(at..at + RECORD)) else {
         return [0; BLOCK];
