@@ -160,18 +160,25 @@ impl Network {
             LinkChange::Silence | LinkChange::Speak => self.silent[port.index()] = change == LinkChange::Silence,
             LinkChange::Up | LinkChange::Down => {
                 for end in [Some(port), self.cabling.far(port)].into_iter().flatten() {
-                    self.table_mut(end).link(end.number, change == LinkChange::Up)?;
+                    self.set_link(end, change == LinkChange::Up)?;
                 }
             }
         }
         Ok(())
     }
 
+    /// The link of a port is up or down now, its duplex as it was.
+    fn set_link(&mut self, port: Port, up: bool) -> Result<(), Refusal> {
+        let table = self.table_mut(port);
+        let full = table.port(port.number)?.full_duplex;
+        table.line(port.number, up, full)
+    }
+
     fn set(&mut self, setting: Setting, port: Port) -> Result<(), Refusal> {
         let table = self.table_mut(port);
-        let mut settings = table.port(port.number)?.settings;
+        let Record { link_up, mut settings, .. } = table.port(port.number)?;
         match setting {
-            Setting::FullDuplex(full) => return table.duplex(port.number, full),
+            Setting::FullDuplex(full) => return table.line(port.number, link_up, full),
             Setting::Key(key) => settings.key = key,
             Setting::ShortTimeout(short) => settings.short_timeout = short,
             Setting::Active(active) => settings.activity = active,
@@ -181,7 +188,7 @@ impl Network {
 
     fn move_cable(&mut self, (a, b): (Port, Port)) -> Result<(), Refusal> {
         for end in [Some(a), self.cabling.far(a), Some(b), self.cabling.far(b)].into_iter().flatten() {
-            self.table_mut(end).link(end.number, false)?;
+            self.set_link(end, false)?;
         }
         self.cabling.join(a, b);
         self.silent[a.index()] = false;
