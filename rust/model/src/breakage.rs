@@ -52,7 +52,7 @@ pub enum Breakage {
     /// Link and duplex are two calls, as before request M-103, the duplex first: from up and full to down and half the partner is
     /// forgotten on the way.
     LineAsTwoCalls,
-    /// The same with the link first: from up and half to down and full NTT is cleared before LACP is on.
+    /// The same with the link first: from down and half to up and full the partner is forgotten on the way.
     LinkBeforeDuplex,
 }
 

@@ -277,6 +277,34 @@ fn down_and_full_at_once_after_half_duplex() {
 }
 
 #[test]
+fn no_order_of_two_calls_does_what_one_call_does() {
+    let (up_full, up_half, down_full, down_half) = ((true, true), (true, false), (false, true), (false, false));
+    for (old, new, duplex_first, link_first) in [
+        (down_full, up_half, true, true),
+        (up_full, down_half, false, true),
+        (up_half, down_full, false, false),
+        (down_half, up_full, true, false),
+    ] {
+        let mut begun = Bench::start(1, 5, 0x3C);
+        begun.line(1, true, old != up_half);
+        if old != up_half {
+            begun.rx(1, far(5, 1, 0x3D));
+        }
+        begun.ticks(20);
+        assert_eq!(begun.port(1).mux, Mux::Distributing);
+        begun.line(1, old.0, old.1);
+        let by_way_of = |(up, full)| {
+            let mut t = Bench { memory: begun.memory.clone() };
+            t.line(1, up, full);
+            t.line(1, new.0, new.1);
+            t.memory
+        };
+        let once = by_way_of(new);
+        assert_eq!((by_way_of((old.0, new.1)) == once, by_way_of((new.0, old.1)) == once), (duplex_first, link_first));
+    }
+}
+
+#[test]
 fn a_down_port_changes_its_duplex() {
     let mut t = distributing(5);
     t.link(1, false);
