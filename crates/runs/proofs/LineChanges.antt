@@ -21,13 +21,14 @@ use Rattle.work.specs.Work.{worked, afterOne, afterStart, heardAt, afterHeard, 
 use Rattle.control.specs.After.{answer, changedBy, after}
 use Rattle.claims.specs.Run.{run}
 use Rattle.runs.specs.Cases.{ticks}
-use Rattle.runs.specs.LineChanges.{LineChanges, begun, atUpFull, atUpHalf, atDownFull, atDownHalf}
+use Rattle.runs.specs.LineChanges.{LineChanges, begun, atUpFull, waiting, atUpHalf, atDownFull, atDownHalf}
 
 pub line-changes : LineChanges
-unfolding sameAddress sameSystem sameNumbers sameParty sameView maintained inSync recordDefault recordPdu updateSelected updateDefaultSelected updateNtt initialized portDisabled expired lacpDisabled defaulted heard current moved received receiveChoice receiveStep receiveRun lined periodicChoice periodicStep periodicRun due sent silent quieted ticked muxChoice muxStep detached placed attachedIf muxRun lawful blank Settings·started advanced individual sameKeys sameGroup joins firstFrom lowest ruleOf waitsFor hasWaiting holdsBack heldBack ready mapFrom mustMove reselected selectedAll attachedAll climbed settled isDisplaced displacedIf displaced sameOctets foreign unknown wrongLength wrongMarkerType illegal classOf codesInRange timersInRange agesInRange recordInRange encoded decoded recordAt portAt portsFrom ports recordsOctets tableOctets firstInRange tableInRange worked afterOne afterStart heardAt afterHeard afterTick afterLine afterSend answer changedBy after run ticks begun atUpFull atUpHalf atDownFull atDownHalf
+unfolding sameAddress sameSystem sameNumbers sameParty sameView maintained inSync recordDefault recordPdu updateSelected updateDefaultSelected updateNtt initialized portDisabled expired lacpDisabled defaulted heard current moved received receiveChoice receiveStep receiveRun lined periodicChoice periodicStep periodicRun due sent silent quieted ticked muxChoice muxStep detached placed attachedIf muxRun lawful blank Settings·started advanced individual sameKeys sameGroup joins firstFrom lowest ruleOf waitsFor hasWaiting holdsBack heldBack ready mapFrom mustMove reselected selectedAll attachedAll climbed settled isDisplaced displacedIf displaced sameOctets foreign unknown wrongLength wrongMarkerType illegal classOf codesInRange timersInRange agesInRange recordInRange encoded decoded recordAt portAt portsFrom ports recordsOctets tableOctets firstInRange tableInRange worked afterOne afterStart heardAt afterHeard afterTick afterLine afterSend answer changedBy after run ticks begun atUpFull waiting atUpHalf atDownFull atDownHalf
 line-changes = record {
   from-up-full = refl;
   from-up-half = refl;
+  from-waiting = refl;
   from-down-full = refl;
   from-down-half = refl;
 }

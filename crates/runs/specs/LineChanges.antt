@@ -43,9 +43,13 @@ unfoldable pub atUpFull : List ℕ
 atUpFull =
     ticks 20 (run (ticks 20 (run begun (line 1 upFull ∷ receive 1 (frame 5 1 0x3D 1 0x05) (zeros 124) ∷ []))) (fetch 1 (zeros 124) ∷ []))
 
--- up at half duplex, and distributing by the default block
+-- up at half duplex, and waiting to attach
+unfoldable pub waiting : List ℕ
+waiting = run begun (line 1 upHalf ∷ [])
+
+-- and distributing by the default block
 unfoldable pub atUpHalf : List ℕ
-atUpHalf = ticks 20 (run begun (line 1 upHalf ∷ []))
+atUpHalf = ticks 20 waiting
 
 -- down, from where it distributed by an LACPDU
 unfoldable pub atDownFull : List ℕ
@@ -60,7 +64,8 @@ atDownHalf = after (line 1 downHalf) atUpFull
 abbrev pub changed : List ℕ → List Port
 changed t = map (λ l. portAt (after (line 1 l) t) 0) (upFull ∷ upHalf ∷ downFull ∷ downHalf ∷ [])
 
--- a machine's state, and its timer
+-- the record with this receive state and current-while, periodic state and timer, mux state and wait; NTT, line, Actor_Oper_Port_State and
+-- partner block in force. It is SELECTED and holds aggregator 1, and no send is remembered
 abbrev pub is : Receive → ℕ → Periodic → ℕ → Mux → ℕ → Bool → Line → ℕ → Block → Port
 is r c q g m w n l a b =
     port (phase r q m Selected) 1 n l (stateOf a) (timers (Ticks·of c) (Ticks·of g) (Ticks·of w)) (ages noSend noSend noSend) (ownOf alone) b
@@ -72,8 +77,7 @@ heard o = block 5 1 o
 abbrev pub default : ℕ → Block
 default o = withState (alone .default) (stateOf o)
 
--- receive state and current-while, periodic state and timer, mux state and wait; NTT, line, Actor_Oper_Port_State and the partner block in
--- force. SELECTED, on aggregator 1, and no send remembered, in each
+-- from each line to all four. Both values as they are leave the record; a fall keeps the partner that was heard, and half duplex does not
 pub record LineChanges : Type 0 where
   pub from-up-full : changed atUpFull
       ≡ is Current 860 SlowPeriodic 260 Distributing 0 false upFull 0x3D (heard 0x3D)
@@ -86,6 +90,13 @@ pub record LineChanges : Type 0 where
       ∷ is LacpDisabled 0 NoPeriodic 0 Distributing 0 false upHalf 0x7D (default 0x38)
       ∷ is PortDisabled 0 NoPeriodic 0 Attached 0 true downFull 0x4D (default 0x30)
       ∷ is PortDisabled 0 NoPeriodic 0 Attached 0 false downHalf 0x4D (default 0x30)
+      ∷ []
+  -- the same from one that carries nothing yet: no mux falls, so nothing sets NTT
+  pub from-waiting : changed waiting
+      ≡ is Expired 30 FastPeriodic 10 Waiting 20 false upFull 0xC5 (default 0x32)
+      ∷ is LacpDisabled 0 NoPeriodic 0 Waiting 20 false upHalf 0x45 (default 0x38)
+      ∷ is PortDisabled 0 NoPeriodic 0 Waiting 20 false downFull 0x45 (default 0x30)
+      ∷ is PortDisabled 0 NoPeriodic 0 Waiting 20 false downHalf 0x45 (default 0x30)
       ∷ []
   pub from-down-full : changed atDownFull
       ≡ is Expired 30 FastPeriodic 10 Attached 0 true upFull 0x8D (heard 0x37)
