@@ -286,7 +286,7 @@ MUTANTS = [
         ("machine/specs/Ages.antt", "(ages 0 (g .first) (g .third)) (ages 0 (g .first) (g .second)))", "(ages 0 noSend (g .third)) (ages 0 (g .first) (g .second)))"),
         ("machine/src/ages.rt", "                second: self.first,\n                third: self.third,\n            };\n        }\n        Ages {",
          "                second: NO_SEND,\n                third: self.third,\n            };\n        }\n        Ages {"))),
-    Mutant("the line call", "NTT kept at half duplex", ("half-silent",), "machine::states::Line::is_silent", (
+    Mutant("9 the line call", "NTT kept at half duplex", ("half-silent",), "machine::states::Line::is_silent", (
         ("machine/specs/States.antt", "silentOn l passive = not (l .full) || (l .up && passive)", "silentOn l passive = l .full && (l .up && passive)"),
         ("machine/src/states.rt", "!self.full | (self.up & passive)", "self.full & (self.up & passive)"))),
     Mutant("case 07, 3F, 3D", "Aggregation and Defaulted exchanged", ("active-short", "in-trunk", "in-trunk-long"), "frame::state::PortState::octet", (

@@ -6,8 +6,8 @@ use mathlib.Core.Bool.{Bool, true, false, cond, not, _&&_, true≢false}
 use mathlib.Core.List.{List, [], _∷_, map}
 use native.Mathlib.Omega.{arith}
 use lib.ListN.{length, getD, set, length-set}
-use lib.Seq.{getD-set-same}
 use lib.Dec.{eqb}
+use borrow.Author.Tests.{eqb-true, eq-eqb}
 use Rattle.frame.specs.declared.block.Block.{Block}
 use Rattle.frame.specs.Block.{blockOf}
 use Rattle.frame.specs.Wire.{actorPart, partnerPart}
@@ -46,9 +46,8 @@ use Rattle.claims.proofs.Steps.{heard-line, run-line}
 use Rattle.claims.proofs.Sound.{Before, in-ports, tick-before, line-before, settings-before, heard-before, send-ports}
 use Rattle.claims.proofs.Calls.{named, numbered, heard-on, after-accepted, call-sound, run-sound, never-stuck}
 use Rattle.claims.proofs.Rule.{port-firm}
-use Rattle.claims.proofs.Counts.{again-count}
+use Rattle.claims.proofs.Counts.{call-count, run-count}
 use Rattle.claims.proofs.Locality.{again-at}
-use Rattle.claims.proofs.LivePartner.{at-same, ticked-line}
 use Rattle.claims.proofs.Views.{work-view, set-view}
 
 -- ---- both values as they are
@@ -109,7 +108,7 @@ lined-line l p e =
 
 advanced-line : (p : Port) → advanced p .line ≡ p .line
 unfolding advanced
-advanced-line p = run-line (ticked p) ∙ ticked-line p
+advanced-line p = run-line (ticked p) ∙ unfold ticked in refl
 
 changed-line : (b : Bool) (x : Settings) (p : Port)
     → withNtt (withActor (withOwn (cond b p (unselected p)) (ownOf x)) (ownBits x (p .actor))) true .line ≡ p .line
@@ -144,153 +143,124 @@ displaced-line r a ps i d h =
     let p = getD ps i d in
     ap (λ (q : Port). q .line) (sweep-at (displacedIf r a) 0 ps i d h) ∙ moved-line (not (eqb (0 + i) r) && isDisplaced a p) p
 
--- ---- each call, from t to u
-
-record Keeps (t u : List ℕ) (i : ℕ) : Type 0 where
-  size : countIn u ≡ countIn t
-  kept : portAt u i .line ≡ portAt t i .line
-
-unchanged : (t : List ℕ) (i : ℕ) → Keeps t t i
-unchanged t i = record { size = refl; kept = refl }
-
--- the work after a call's own change keeps every line
-work-line : (t : List ℕ) (s : Sound t) (i : ℕ) → i < countIn t → (ps : List Port) → Before t ps
-    → portAt (again t (worked (ours t) ps)) i .line ≡ getD ps i (decoded []) .line
-work-line t s i h ps b = work-view (λ p. p .line) (λ p. refl) (λ p. refl) t s i h ps b
+-- ---- what each call leaves of the line of port i
 
 module _ (t : List ℕ) (s : Sound t) (i : ℕ) (h : i < countIn t) where
+  work-line : (ps : List Port) → Before t ps → portAt (again t (worked (ours t) ps)) i .line ≡ getD ps i (decoded []) .line
+  work-line ps b = work-view (λ p. p .line) (λ p. refl) (λ p. refl) t s i h ps b
+
+  -- one record is changed, and keeps its line
+  set-line : (m : ℕ) (q : Port) → (eqb i m ≡ true → q .line ≡ portAt t m .line) → getD (set (ports t) m q) i (decoded []) .line ≡ portAt t i .line
+  set-line m q f =
+      set-view (λ p. p .line) t s i h m q (portAt t i .line) (λ is. f is ∙ ap (λ (k : ℕ). portAt t k .line) (sym (eqb-true i m is))) (λ other. refl)
+
   -- the call itself
-  given : (l : Line) → (countIn (afterLine t i l) ≡ countIn t) × (portAt (afterLine t i l) i .line ≡ l)
+  given : (l : Line) → portAt (afterLine t i l) i .line ≡ l
   unfolding afterLine afterOne
   given l = by (sameLine l (portAt t i .line)) refl
     where
-      ps : List Port
-      ps = set (ports t) i (lined l (portAt t i))
+      q : Port
+      q = lined l (portAt t i)
 
-      by : (b : Bool) → sameLine l (portAt t i .line) ≡ b → (countIn (cond b t (again t (worked (ours t) ps))) ≡ countIn t)
-          × (portAt (cond b t (again t (worked (ours t) ps))) i .line ≡ l)
-      by true e = (refl, sym (line-true l (portAt t i .line) e))
-      by false e = (
-        again-count t (worked (ours t) ps),
-        work-line t s i h ps (line-before t s i h l)
-            ∙ ap (λ (p : Port). p .line) (getD-set-same (ports t) i (lined l (portAt t i)) (decoded []) (in-ports t s i h))
-            ∙ lined-line l (portAt t i) e,
-      )
+      by : (b : Bool) → sameLine l (portAt t i .line) ≡ b → portAt (cond b t (again t (worked (ours t) (set (ports t) i q)))) i .line ≡ l
+      by true e = sym (line-true l (portAt t i .line) e)
+      by false e =
+          work-line (set (ports t) i q) (line-before t s i h l)
+          ∙ set-view (λ p. p .line) t s i h i q l (λ is. lined-line l (portAt t i) e) (λ other. absurd (true≢false (sym (eq-eqb i i refl) ∙ other)))
 
-  -- work before which the record's line is as it was
-  work-keeps : (ps : List Port) → Before t ps → getD ps i (decoded []) .line ≡ portAt t i .line → Keeps t (again t (worked (ours t) ps)) i
-  work-keeps ps b e = record {
-    size = again-count t (worked (ours t) ps);
-    kept = work-line t s i h ps b ∙ e;
-  }
-
-  set-line : (m : ℕ) (q : Port) → (eqb i m ≡ true → q .line ≡ portAt t m .line) → getD (set (ports t) m q) i (decoded []) .line ≡ portAt t i .line
-  set-line m q f = set-view (λ p. p .line) t s i h m q (portAt t i .line) (λ e. f e ∙ ap (λ (p : Port). p .line) (at-same t s i h m e)) (λ e. refl)
-
-  other-keeps : (m : ℕ) → m < countIn t → (l : Line) → eqb i m ≡ false → Keeps t (afterLine t m l) i
+  other-line : (m : ℕ) → m < countIn t → (l : Line) → eqb i m ≡ false → portAt (afterLine t m l) i .line ≡ portAt t i .line
   unfolding afterLine afterOne
-  other-keeps m g l f = by (sameLine l (portAt t m .line))
+  other-line m g l f = by (sameLine l (portAt t m .line))
     where
-      by : (b : Bool) → Keeps t (cond b t (again t (worked (ours t) (set (ports t) m (lined l (portAt t m)))))) i
-      by true = unchanged t i
-      by false =
-          work-keeps (set (ports t) m (lined l (portAt t m))) (line-before t s m g l)
-          (set-line m (lined l (portAt t m)) (λ e. absurd (true≢false (sym e ∙ f))))
+      q : Port
+      q = lined l (portAt t m)
 
-  settings-keeps : (m : ℕ) → m < countIn t → (x : Settings) → ownFits (ownOf x) ≡ true → Keeps t (afterSettings t m x) i
+      by : (b : Bool) → portAt (cond b t (again t (worked (ours t) (set (ports t) m q)))) i .line ≡ portAt t i .line
+      by true = refl
+      by false = work-line (set (ports t) m q) (line-before t s m g l) ∙ set-line m q (λ e. absurd (true≢false (sym e ∙ f)))
+
+  settings-line : (m : ℕ) → m < countIn t → (x : Settings) → ownFits (ownOf x) ≡ true → portAt (afterSettings t m x) i .line ≡ portAt t i .line
   unfolding afterSettings afterOne
-  settings-keeps m g x o = by (sameSettings x (portAt t m))
+  settings-line m g x o = by (sameSettings x (portAt t m))
     where
-      by : (b : Bool) → Keeps t (cond b t (again t (worked (ours t) (set (ports t) m (configured x (portAt t m)))))) i
-      by true = unchanged t i
-      by false =
-          work-keeps (set (ports t) m (configured x (portAt t m))) (settings-before t s m g x o)
-          (set-line m (configured x (portAt t m)) (λ e. configured-line x (portAt t m)))
+      q : Port
+      q = configured x (portAt t m)
 
-  send-keeps : (m : ℕ) → m < countIn t → Keeps t (afterSend t m) i
+      by : (b : Bool) → portAt (cond b t (again t (worked (ours t) (set (ports t) m q)))) i .line ≡ portAt t i .line
+      by true = refl
+      by false = work-line (set (ports t) m q) (settings-before t s m g x o) ∙ set-line m q (λ e. configured-line x (portAt t m))
+
+  send-line : (m : ℕ) → m < countIn t → portAt (afterSend t m) i .line ≡ portAt t i .line
   unfolding afterSend
-  send-keeps m g = record {
-    size = again-count t (set (ports t) m (sent (portAt t m)));
-    kept =
-        ap (λ (p : Port). p .line) (again-at t (set (ports t) m (sent (portAt t m))) (send-ports t s m g) i (decoded []) h)
-        ∙ set-line m (sent (portAt t m)) (λ e. sent-line (portAt t m));
-  }
+  send-line m g =
+      let q = sent (portAt t m) in
+      ap (λ (p : Port). p .line) (again-at t (set (ports t) m q) (send-ports t s m g) i (decoded []) h) ∙ set-line m q (λ e. sent-line (portAt t m))
 
-  tick-keeps : Keeps t (afterTick t) i
+  tick-line : portAt (afterTick t) i .line ≡ portAt t i .line
   unfolding afterTick
-  tick-keeps =
-      work-keeps (map advanced (ports t)) (tick-before t s)
-      (ap (λ (p : Port). p .line) (map-at advanced (ports t) i (decoded []) (decoded []) (in-ports t s i h))
-      ∙ advanced-line (getD (ports t) i (decoded [])) ∙ ap (λ (p : Port). p .line) (ports-at t i (decoded []) h))
+  tick-line =
+      work-line (map advanced (ports t)) (tick-before t s)
+      ∙ ap (λ (p : Port). p .line) (map-at advanced (ports t) i (decoded []) (decoded []) (in-ports t s i h))
+      ∙ advanced-line (getD (ports t) i (decoded [])) ∙ ap (λ (p : Port). p .line) (ports-at t i (decoded []) h)
 
-  frame-keeps : (n : ℕ) (frame out : List ℕ) → Octets frame → (a : Answer) → answer (receive n frame out) t ≡ a → Keeps t (afterFrame a t (n - 1) frame) i
-  frame-keeps n frame out o Done e = unchanged t i
-  frame-keeps n frame out o Lacpdu e = unfold afterHeard in
+  frame-line : (n : ℕ) (frame out : List ℕ) → Octets frame → (a : Answer) → answer (receive n frame out) t ≡ a
+      → portAt (afterFrame a t (n - 1) frame) i .line ≡ portAt t i .line
+  frame-line n frame out o Done e = refl
+  frame-line n frame out o Lacpdu e = unfold afterHeard in
       let x = heard-on t n frame out e in
       let a = blockOf (actorPart frame) in
       let q = heardAt t (n - 1) frame in
       let here : i < length (set (ports t) (n - 1) q) = rw (length-set (ports t) (n - 1) q, ports-length) h in
-      work-keeps (displaced (n - 1) a (set (ports t) (n - 1) q)) (heard-before t s (n - 1) (x .below) frame o (x .up) (x .full))
-      (displaced-line (n - 1) a (set (ports t) (n - 1) q) i (decoded []) here ∙ set-line (n - 1) q (λ y. heard-at-line t (n - 1) frame))
-  frame-keeps n frame out o Marker e = unchanged t i
-  frame-keeps n frame out o (Refused r) e = unchanged t i
+      work-line (displaced (n - 1) a (set (ports t) (n - 1) q)) (heard-before t s (n - 1) (x .below) frame o (x .up) (x .full))
+      ∙ displaced-line (n - 1) a (set (ports t) (n - 1) q) i (decoded []) here ∙ set-line (n - 1) q (λ y. heard-at-line t (n - 1) frame)
+  frame-line n frame out o Marker e = refl
+  frame-line n frame out o (Refused r) e = refl
 
-  changed-keeps : (c : Call) → Takes c → accepted (answer c t) ≡ true → relines c i ≡ false → Keeps t (changedBy c t) i
+  changed-keeps : (c : Call) → Takes c → accepted (answer c t) ≡ true → relines c i ≡ false → portAt (changedBy c t) i .line ≡ portAt t i .line
   unfolding changedBy
   changed-keeps (start count system delay x) k e f = absurd (true≢false f)
-  changed-keeps (receive n frame out) k e f = frame-keeps n frame out (k .0) (answer (receive n frame out) t) refl
-  changed-keeps tick k e f = tick-keeps
-  changed-keeps (line n l) k e f = other-keeps (n - 1) (unfold answer in named t n Done e) l f
-  changed-keeps (configure n x) k e f = settings-keeps (n - 1) (unfold answer in named t n (withDefault x Done) e) x k
-  changed-keeps (fetch n out) k e f = send-keeps (n - 1) (unfold answer in named t n (withRoom out (dueAnswer (due (portAt t (n - 1))))) e)
-  changed-keeps (report n) k e f = unchanged t i
-  changed-keeps (aggregator n) k e f = unchanged t i
+  changed-keeps (receive n frame out) k e f = frame-line n frame out (k .0) (answer (receive n frame out) t) refl
+  changed-keeps tick k e f = tick-line
+  changed-keeps (line n l) k e f = other-line (n - 1) (unfold answer in named t n Done e) l f
+  changed-keeps (configure n x) k e f = settings-line (n - 1) (unfold answer in named t n (withDefault x Done) e) x k
+  changed-keeps (fetch n out) k e f = send-line (n - 1) (unfold answer in named t n (withRoom out (dueAnswer (due (portAt t (n - 1))))) e)
+  changed-keeps (report n) k e f = refl
+  changed-keeps (aggregator n) k e f = refl
 
-  unless-keeps : (a : Answer) (u : List ℕ) → (accepted a ≡ true → Keeps t u i) → Keeps t (unless a t u) i
-  unless-keeps Done u f = f refl
-  unless-keeps Lacpdu u f = f refl
-  unless-keeps Marker u f = f refl
-  unless-keeps (Refused r) u f = unchanged t i
-
-  call-keeps : (c : Call) → Takes c → relines c i ≡ false → Keeps t (after c t) i
-  call-keeps c k f = unfold after in unless-keeps (answer c t) (changedBy c t) (λ e. changed-keeps c k e f)
+  call-keeps : (c : Call) → Takes c → relines c i ≡ false → portAt (after c t) i .line ≡ portAt t i .line
+  unfolding after
+  call-keeps c k f = by (answer c t) (λ e. changed-keeps c k e f)
+    where
+      by : (a : Answer) → (accepted a ≡ true → portAt (changedBy c t) i .line ≡ portAt t i .line)
+          → portAt (unless a t (changedBy c t)) i .line ≡ portAt t i .line
+      by Done g = g refl
+      by Lacpdu g = g refl
+      by Marker g = g refl
+      by (Refused r) g = refl
 
 -- ---- runs
 
-run-keeps : (i : ℕ) (t : List ℕ) (cs : List Call) → Sound t → i < countIn t → AllTake cs → NoneRelines cs i → Keeps t (run t cs) i
+run-keeps : (i : ℕ) (t : List ℕ) (cs : List Call) → Sound t → i < countIn t → AllTake cs → NoneRelines cs i → portAt (run t cs) i .line ≡ portAt t i .line
 unfolding run
-run-keeps i t [] s h k f = unchanged t i
+run-keeps i t [] s h k f = refl
 run-keeps i t (c ∷ cs) s h k f =
-    let a = call-keeps t s i h c (k .0) (f .0) in
-    let b = run-keeps i (after c t) cs (call-sound t s c (k .0)) (rw (a .size) h) (k .1) (f .1) in
-    record { size = b .size ∙ a .size; kept = b .kept ∙ a .kept }
+    run-keeps i (after c t) cs (call-sound t s c (k .0)) (rw (call-count t s c) h) (k .1) (f .1) ∙ call-keeps t s i h c (k .0) (f .0)
 
--- the table after an accepted line call
-record Given (t : List ℕ) (n : ℕ) (l : Line) : Type 0 where
-  size : countIn (after (line n l) t) ≡ countIn t
-  taken : portAt (after (line n l) t) (n - 1) .line ≡ l
-
-after-line : (t : List ℕ) → Sound t → (n : ℕ) (l : Line) → accepted (answer (line n l) t) ≡ true → Given t n l
+after-line : (t : List ℕ) → Sound t → (n : ℕ) (l : Line) → accepted (answer (line n l) t) ≡ true → portAt (after (line n l) t) (n - 1) .line ≡ l
 unfolding changedBy
 after-line t s n l e =
-    let g = given t s (n - 1) (unfold answer in named t n Done e) l in
-    let is : after (line n l) t ≡ afterLine t (n - 1) l = after-accepted t (line n l) e in
-    record {
-      size = ap (λ (u : List ℕ). countIn u) is ∙ g .0;
-      taken = ap (λ (u : List ℕ). portAt u (n - 1) .line) is ∙ g .1;
-    }
+    ap (λ (u : List ℕ). portAt u (n - 1) .line) (after-accepted t (line n l) e) ∙ given t s (n - 1) (unfold answer in named t n Done e) l
 
 pub line-taken : LineTaken
-line-taken t m n l e = after-line t (never-stuck t m) n l e .taken
+line-taken t m n l e = after-line t (never-stuck t m) n l e
 
 pub stays-silent : StaysSilent
 stays-silent t m n l e f cs k r =
     let s = never-stuck t m in
     let u = after (line n l) t in
-    let g = after-line t s n l e in
     let sound : Sound u = call-sound t s (line n l) tt in
-    let here : n - 1 < countIn u = rw (g .size) (unfold answer in named t n Done e) in
-    let a = run-keeps (n - 1) u cs sound here k r in
+    let here : n - 1 < countIn u = rw (call-count t s (line n l)) (unfold answer in named t n Done e) in
     let number : isNumber (run u cs) n ≡ true =
-    ap (λ (c : ℕ). within 1 n c) (a .size ∙ g .size) ∙ (unfold answer in numbered t n Done e) in
-    sound-silent (run u cs) (run-sound u sound cs k) n number (ap (λ (x : Line). x .full) (a .kept ∙ g .taken) ∙ f)
+    ap (λ (c : ℕ). within 1 n c) (run-count u sound cs k ∙ call-count t s (line n l)) ∙ (unfold answer in numbered t n Done e) in
+    sound-silent (run u cs) (run-sound u sound cs k) n number
+    (ap (λ (x : Line). x .full) (run-keeps (n - 1) u cs sound here k r ∙ after-line t s n l e) ∙ f)

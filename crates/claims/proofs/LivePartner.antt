@@ -166,7 +166,7 @@ ticked-choice : (p : Port) → receiveChoice (ticked p) ≡ receiveNext (p .phas
 unfolding receiveChoice ticked
 ticked-choice p = refl
 
-pub ticked-line : (p : Port) → ticked p .line ≡ p .line
+ticked-line : (p : Port) → ticked p .line ≡ p .line
 unfolding ticked
 ticked-line p = refl
 
@@ -290,7 +290,7 @@ module _ (t : List ℕ) (s : Sound t) (i : ℕ) (h : i < countIn t) where
   set-lasting : (m : ℕ) (q : Port) → (eqb i m ≡ true → lastingOf q ≡ lastingOf (portAt t i)) → lastingOf (getD (set (ports t) m q) i (decoded [])) ≡ lastingOf (portAt t i)
   set-lasting m q f = set-view (λ p. lastingOf p) t s i h m q (lastingOf (portAt t i)) f (λ e. refl)
 
-  pub at-same : (m : ℕ) → eqb i m ≡ true → portAt t m ≡ portAt t i
+  at-same : (m : ℕ) → eqb i m ≡ true → portAt t m ≡ portAt t i
   at-same m e = ap (portAt t) (sym (eqb-true i m e))
 
   line-goes : (m : ℕ) → m < countIn t → (l : Line) → (eqb i m ≡ true → toHalf (portAt t m .line) l ≡ false) → Goes t (afterLine t m l) i

@@ -262,8 +262,7 @@ module _ (t : List ℕ) (s : Sound t) (n : ℕ) (some : 1 ≤ n) (h : n - 1 < co
   call-at (receive m frame out) g =
       left (receive m frame out) (λ e. unfold changedBy in frame-ages t s (n - 1) h m frame out (g .0) (answer (receive m frame out) t) refl)
   call-at tick g = either tick (map suc l) (λ e. tick-at) (λ e. absurd (true≢false (sym tick-accepted ∙ e)))
-  call-at (line m v) g =
-      left (line m v) (λ e. unfold changedBy in line-ages t s (n - 1) h (m - 1) (unfold answer in named t m Done e) v)
+  call-at (line m x) g = left (line m x) (λ e. unfold changedBy in line-ages t s (n - 1) h (m - 1) (unfold answer in named t m Done e) x)
   call-at (configure m x) g =
       left (configure m x) (λ e. unfold changedBy in settings-ages t s (n - 1) h (m - 1) (unfold answer in named t m (withDefault x Done) e) x g)
   call-at (fetch m out) g =
@@ -390,7 +389,7 @@ behind n t (receive m frame out ∷ cs) f l a r =
     sooner n t (receive m frame out) cs l a r a r refl refl (behind n (after (receive m frame out) t) cs (f .1) l a r)
 behind n t (tick ∷ cs) f l a r =
     sooner n t tick cs l a r (suc a) (map suc r) (map-append l (a ∷ r)) (omega arith) (behind n (after tick t) cs (f .1) (map suc l) (suc a) (map suc r))
-behind n t (line m v ∷ cs) f l a r = sooner n t (line m v) cs l a r a r refl refl (behind n (after (line m v) t) cs (f .1) l a r)
+behind n t (line m x ∷ cs) f l a r = sooner n t (line m x) cs l a r a r refl refl (behind n (after (line m x) t) cs (f .1) l a r)
 behind n t (configure m x ∷ cs) f l a r = sooner n t (configure m x) cs l a r a r refl refl (behind n (after (configure m x) t) cs (f .1) l a r)
 behind n t (fetch m out ∷ cs) f l a r =
     let c = fetch m out in

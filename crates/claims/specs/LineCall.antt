@@ -13,7 +13,7 @@ use Rattle.control.specs.Call.{Call, start, receive, tick, line, configure, fet
 use Rattle.control.specs.After.{answer, after}
 use Rattle.claims.specs.Run.{AllTake, accepted, run, Made}
 
--- an accepted line call leaves its port with both values
+-- 9: an accepted line call leaves its port with both values
 abbrev pub LineTaken : Type 0
 LineTaken = (t : List ℕ) → Made t → (n : ℕ) (l : Line) → accepted (answer (line n l) t) ≡ true → portAt (after (line n l) t) (n - 1) .line ≡ l
 

@@ -24,7 +24,7 @@ abbrev pub sendsBy : ℕ → Call → List ℕ → List ℕ → List ℕ
 sendsBy n (start count system delay s) t l = cond (accepted (answer (start count system delay s) t)) [] l
 sendsBy n (receive m frame out) t l = l
 sendsBy n tick t l = map suc l
-sendsBy n (line m v) t l = l
+sendsBy n (line m x) t l = l
 sendsBy n (configure m s) t l = l
 sendsBy n (fetch m out) t l = cond (eqb n m && accepted (answer (fetch m out) t)) (0 ∷ l) l
 sendsBy n (report m) t l = l
@@ -68,7 +68,7 @@ abbrev pub isTick : Call → Bool
 isTick (start count system delay s) = false
 isTick (receive m frame out) = false
 isTick tick = true
-isTick (line m v) = false
+isTick (line m l) = false
 isTick (configure m s) = false
 isTick (fetch m out) = false
 isTick (report m) = false

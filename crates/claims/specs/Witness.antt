@@ -140,16 +140,9 @@ says t = every saysMux (ports t)
 abbrev pub rests : List ℕ → Bool
 rests t = sameOctets (again t (worked (ours t) (map receiveRun (ports t)))) t
 
-abbrev pub lent : List ℕ
-lent = replicate 124 7
-
 -- a refused call leaves table and buffer
 abbrev pub silently : Call → List ℕ → Bool
 silently c t = not (accepted (answer c t)) && (sameOctets (after c t) t && sameOctets (outgoing c t) (bufferOf c))
-
--- nothing is due on port 1
-abbrev pub quiet : List ℕ → Bool
-quiet t = not (portAt t 0 .ntt) && silently (fetch 1 lent) t
 
 -- port i, from 0, has one record in both tables
 abbrev pub keeps : ℕ → List ℕ → List ℕ → Bool
@@ -175,6 +168,13 @@ live f p = sameBlocks (lasting (p .partner)) (lasting (blockOf (actorPart f))) &
 
 abbrev pub setsAre : Sets → ℕ → ℕ → ℕ → ℕ → ℕ → Bool
 setsAre s h a d n l = eqb (s .holding) h && (eqb (s .attached) a && (eqb (s .distributing) d && (eqb (s .count) n && eqb (s .lowest) l)))
+
+abbrev pub lent : List ℕ
+lent = replicate 124 7
+
+-- nothing is due on port 1
+abbrev pub quiet : List ℕ → Bool
+quiet t = not (portAt t 0 .ntt) && silently (fetch 1 lent) t
 
 -- ---- sends of port 1
 
@@ -228,7 +228,7 @@ pub record Witness : Type 0 where
   pub fourth-in-time : fourth 11 ≡ 0
   pub sends-spread : sends 1 begun spread [] ≡ 0 ∷ 2 ∷ 3 ∷ []
   pub ages-spread : portAt (run begun spread) 0 .ages ≡ ages 0 2 3
-  -- the line call
+  -- 9
   pub line-taken : map (λ t. portAt t 0 .line) (fallen ∷ halved ∷ dropped ∷ []) ≡ downFull ∷ upHalf ∷ downHalf ∷ []
   pub line-repeated : sameOctets (after (line 1 upFull) trunk) trunk ≡ true
   pub half-silent : every quiet (halved ∷ dropped ∷ []) ≡ true
