@@ -1,5 +1,6 @@
 -- A table's octets as a header and a list of records, and answer 1's check on any memory.
-use Prim.Native.Nat.{ℕ, zero, suc, _+_}
+use Prim.Native.Nat.{ℕ, zero, suc, _+_, _<_}
+use mathlib.Core.Path.{_≡_}
 use mathlib.Core.Bool.{Bool, true, _&&_}
 use mathlib.Core.List.{List, [], _∷_, _++_}
 use lib.ListN.{length, take, drop, getD}
@@ -51,3 +52,7 @@ tableInRange t =
     leb headerSize (length t)
     && (within 1 (countIn t) mostPorts
     && (eqb (length t) (tableSize (countIn t)) && firstInRange (countIn t) (countIn t) t))
+
+-- a table in range, and one of its ports, from 0
+abbrev pub InTable : List ℕ → ℕ → Type 0
+InTable t i = (tableInRange t ≡ true) × (i < countIn t)

@@ -4,10 +4,9 @@ ghost use mathlib.Core.Path.{_≡_};
 ghost use Prim.Native.Nat.{_+_, _≤_};
 ghost use lib.ListN.{length};
 ghost use Rattle.octets.specs.Octets.{putAt};
-ghost use Rattle.table.specs.Layout.{place, tableSize, recordSize};
+ghost use Rattle.table.specs.Layout.{headerSize, place, tableSize, recordSize};
 ghost use Rattle.table.specs.Record.{encoded};
-ghost use Rattle.table.specs.Range.{recordInRange};
-ghost use Rattle.table.specs.Table.{portAt, recordAt, firstInRange, tableInRange};
+ghost use Rattle.table.specs.Table.{countIn, portAt, recordAt, firstInRange, tableInRange};
 use crate::layout::HEADER;
 use crate::layout::MOST_PORTS;
 use crate::layout::RECORD;
@@ -28,13 +27,29 @@ pub mod layout;
 pub mod range;
 pub mod record;
 
+// The port count in the header.
+pub fn count(table: &[u8]) -> usize
+    requires { ⌜ headerSize ≤ length (now table) ⌝ }
+    ensures { λ r. ⌜ r ≡ countIn (now (table .entry)) ⌝ }
+{
+    table[0] as usize
+}
+
+// The part of the table that is record `i`, from 0.
+fn record_at(table: &[u8], i: usize) -> &[u8]
+    requires { ⌜ place i + recordSize ≤ length (now table) ⌝ }
+    ensures { λ r. ⌜ (now r ≡ recordAt (now (table .entry)) i) × (length (now r) ≡ recordSize) ⌝ }
+{
+    let at = place_of(i);
+    &table[at..at + RECORD]
+}
+
 // The record of port `i`, from 0.
 pub fn load(table: &[u8], i: usize) -> Port
     requires { ⌜ place i + recordSize ≤ length (now table) ⌝ }
     ensures { λ r. ⌜ r ≡ portAt (now (table .entry)) i ⌝ }
 {
-    let at = place_of(i);
-    read_record(&table[at..at + RECORD])
+    read_record(record_at(table, i))
 }
 
 // The states of port `i`, from 0, without the rest of its record.
@@ -42,8 +57,7 @@ pub fn phase(table: &[u8], i: usize) -> Phase
     requires { ⌜ place i + recordSize ≤ length (now table) ⌝ }
     ensures { λ r. ⌜ r ≡ portAt (now (table .entry)) i .phase ⌝ }
 {
-    let at = place_of(i);
-    phase_in(&table[at..at + RECORD])
+    phase_in(record_at(table, i))
 }
 
 // The aggregator that port `i`, from 0, holds.
@@ -51,8 +65,7 @@ pub fn aggregator(table: &[u8], i: usize) -> u8
     requires { ⌜ place i + recordSize ≤ length (now table) ⌝ }
     ensures { λ r. ⌜ r ≡ portAt (now (table .entry)) i .aggregator ⌝ }
 {
-    let at = place_of(i);
-    aggregator_in(&table[at..at + RECORD])
+    aggregator_in(record_at(table, i))
 }
 
 // The timers of port `i`, from 0.
@@ -60,8 +73,7 @@ pub fn timers(table: &[u8], i: usize) -> Timers
     requires { ⌜ place i + recordSize ≤ length (now table) ⌝ }
     ensures { λ r. ⌜ r ≡ portAt (now (table .entry)) i .timers ⌝ }
 {
-    let at = place_of(i);
-    timers_in(&table[at..at + RECORD])
+    timers_in(record_at(table, i))
 }
 
 // Writes the record of port `i`, from 0; every other octet stays.
@@ -73,15 +85,6 @@ pub fn store(table: &mut [u8], i: usize, p: Port)
     write_record(p, &mut table[at..at + RECORD]);
 }
 
-// Whether record `i`, from 0, of a table of `count` ports is in range.
-fn is_record_at(table: &[u8], i: usize, count: u8) -> bool
-    requires { ⌜ place i + recordSize ≤ length (now table) ⌝ }
-    ensures { λ r. ⌜ r ≡ recordInRange count (recordAt (now (table .entry)) i) ⌝ }
-{
-    let at = place_of(i);
-    is_record(count, &table[at..at + RECORD])
-}
-
 // Whether every record of a table of `count` ports is in range.
 fn has_records(table: &[u8], count: u8) -> bool
     requires { ⌜ tableSize count ≤ length (now table) ⌝ }
@@ -91,7 +94,7 @@ fn has_records(table: &[u8], count: u8) -> bool
     let mut good = true;
     let mut i: usize = 0;
     while i < n {
-        good = good & is_record_at(table, i, count);
+        good = good & is_record(count, record_at(table, i));
         i += 1;
     }
     good

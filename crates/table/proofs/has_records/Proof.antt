@@ -19,8 +19,11 @@ loop-holds : tie.Need-loop-holds Inv-loop μ-loop
 unfolding firstInRange
 loop-holds c = (search needs, refl)
 
-is-record-at-requires : tie.Need-is-record-at-requires Inv-loop μ-loop
-is-record-at-requires c κs = search needs
+record-at-requires : tie.Need-record-at-requires Inv-loop μ-loop
+record-at-requires c κs = search needs
+
+is-record-requires : tie.Need-is-record-requires Inv-loop μ-loop
+is-record-requires c κs = search needs
 
 add-i : tie.Need-add-i Inv-loop μ-loop
 add-i c = search needs
@@ -30,7 +33,7 @@ loop-less c = search needs
 
 loop-again : tie.Need-loop-again Inv-loop μ-loop
 unfolding firstInRange
-loop-again c = (search needs, rw (c .before .before .loop .inv .1, c .is-record-at .ensures, add-one))
+loop-again c = (search needs, rw (c .before .before .before .loop .inv .1, c .is-record .ensures, c .before .record-at .ensures .0, add-one))
 
 returns : tie.Need-returns Inv-loop μ-loop
 returns c =
@@ -40,4 +43,4 @@ returns c =
 pub has-records-spec : {M : Type 1} → statement M
 has-records-spec =
     tie.close
-    (tie.spec Inv-loop μ-loop loop-holds is-record-at-requires add-i loop-less loop-again returns)
+    (tie.spec Inv-loop μ-loop loop-holds record-at-requires is-record-requires add-i loop-less loop-again returns)

@@ -1,42 +1,19 @@
--- `timers` meets its contract: the part that it reads is that of record i, and its timers are read there. Assumes nothing.
-use native.Mathlib.Nat.{add-sub-cancel-left}
+-- `timers` meets its contract: the timers as the octets of record i tell of them. Assumes nothing.
 use Rattle.table.specs.Record.{decoded}
-use Rattle.table.specs.Table.{portAt, recordAt}
+use Rattle.table.specs.Table.{portAt}
 use borrow.Author.Needs.{needs}
 use Rattle.table.proofs.timers.Statement.{statement}
 use Rattle.table.proofs.timers.Tie as tie
 
-place-of-requires : tie.Need-place-of-requires
-place-of-requires c κs = search needs
-
-add-timers-in : tie.Need-add-timers-in
-add-timers-in c = search needs
-
-sub-timers-in : tie.Need-sub-timers-in
-sub-timers-in c = search needs
-
-part-timers-in-start : tie.Need-part-timers-in-start
-part-timers-in-start c = search needs
-
-part-timers-in-end : tie.Need-part-timers-in-end
-part-timers-in-end c = search needs
+record-at-requires : tie.Need-record-at-requires
+record-at-requires c κs = search needs
 
 timers-in-requires : tie.Need-timers-in-requires
 timers-in-requires c κs = search needs
 
 returns : tie.Need-returns
-unfolding portAt recordAt decoded
-returns c =
-    rw (c .timers-in .ensures, c .before .before .place-of .ensures, add-sub-cancel-left)
+unfolding portAt decoded
+returns c = rw (c .timers-in .ensures, c .before .record-at .ensures .0)
 
 pub timers-spec : {M : Type 1} → statement M
-timers-spec =
-    tie.close
-    (tie.spec
-    place-of-requires
-    add-timers-in
-    sub-timers-in
-    part-timers-in-start
-    part-timers-in-end
-    timers-in-requires
-    returns)
+timers-spec = tie.close (tie.spec record-at-requires timers-in-requires returns)
