@@ -305,7 +305,7 @@ MUTANTS = [
         ("machine/specs/Time.antt", "aggregateWaitTime = 20", "aggregateWaitTime = 19"),
         ("machine/src/entry.rt", "AGGREGATE_WAIT_TIME: u16 = 20", "AGGREGATE_WAIT_TIME: u16 = 19"))),
     Mutant("case 4 and 6", "each port attached on its own timer", ("joined-24",), "", (
-        ("trunk/specs/Settled.antt", "attachedAll ps = map (λ p. attachedIf (ready (p .aggregator) ps) p) ps", "attachedAll ps = map (λ p. attachedIf (eqb (p .timers .wait .0) 0) p) ps"),)),
+        ("trunk/specs/Settled.antt", "attachedAll ps = map (attaching ps) ps", "attachedAll ps = map (λ p. attachedIf (eqb (p .timers .wait .0) 0) p) ps"),)),
     Mutant("case 3, 5 and 2", "a partner that aggregates taken for individual", ("sharing", "learned"), "trunk::select::is_individual", (
         ("trunk/specs/Selection.antt", "not (c .partnerAggregation)", "c .partnerAggregation"),
         ("trunk/src/select.rt", "(!partner.state.aggregation | same_system(system, ours))", "(partner.state.aggregation | same_system(system, ours))"),

@@ -52,7 +52,7 @@ fn set_of(table: &[u8], standing: Standing, k: u8) -> u32
     ensures { λ r. ⌜ r ≡ setOf (stands standing k) (ports (now (table .entry))) ⌝ }
 {
     let mut set: u32 = 0;
-    let mut i = table[0] as usize;
+    let mut i = table::count(table);
     while 0 < i {
         i -= 1;
         set = set * 2 + weigh(stands_to(table, i, standing, k));

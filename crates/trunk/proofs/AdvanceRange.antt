@@ -28,6 +28,7 @@ use Rattle.port.specs.Receive.{receiveTaken, receiveChoice, receiveStep, receiv
 use Rattle.port.specs.Transmit.{ticked}
 use Rattle.table.specs.Range.{timersInRange, ageInRange, agesInRange, blockFits, portInRange}
 use Rattle.table.proofs.RangeLaws.{both, joined, Ranged, ranged, ranged-is}
+use Rattle.trunk.specs.Advanced.{advanced}
 use Rattle.trunk.proofs.RangeKept.{default-fits}
 
 -- ---- timers and ages
@@ -197,3 +198,7 @@ module _ (count : ℕ) where
   receive-ranged p e =
       let q = receiveTaken (receiveChoice p) p in
       receive-taken (receiveChoice q) q (receive-taken (receiveChoice p) p e)
+
+  pub advanced-ranged : (p : Port) → portInRange count p ≡ true → portInRange count (advanced p) ≡ true
+  unfolding advanced
+  advanced-ranged p e = receive-ranged (ticked p) (ticked-ranged p e)

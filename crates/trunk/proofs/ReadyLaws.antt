@@ -18,8 +18,8 @@ use Rattle.port.specs.declared.record.Port.{Port}
 use Rattle.port.specs.Record.{withAggregator, withWait, withMux, withSelected}
 use Rattle.port.specs.Mux.{muxEntered, muxTaken, muxChoice, muxStep, attachedIf}
 use Rattle.trunk.specs.Ready.{waitsFor, hasWaiting, holdsBack, heldBack, ready}
-use Rattle.trunk.specs.Settled.{mapFrom}
-use Rattle.trunk.proofs.SweepLaws.{below, doneTo, done-length, done-next}
+use Rattle.trunk.specs.Settled.{mapFrom, attaching}
+use Rattle.trunk.proofs.SweepLaws.{below, doneTo, each, done-length, done-next}
 
 -- ---- one port
 
@@ -111,10 +111,6 @@ ready-free k ps e = by (hasWaiting k ps) e
     by true e = not-true (heldBack k ps) e
     by false e = absurd (false≢true e)
 
--- the attaching step of one port, in the list as it was
-abbrev pub attaching : List Port → ℕ → Port → Port
-attaching ps j p = attachedIf (ready (p .aggregator) ps) p
-
 module _ (ps : List Port) (d : Port) where
   -- attaching a SELECTED member changes nothing in who is held back. (An UNSELECTED one that waits with its timer running would leave
   -- WAITING and hold nothing back any more.)
@@ -134,23 +130,23 @@ module _ (ps : List Port) (d : Port) where
 
   module _ (chosen : (j : ℕ) → j < length ps → getD ps j d .phase .selected ≡ Selected) where
     -- nor do the first i of them
-    pub held-meanwhile : (k i : ℕ) → heldBack k (doneTo (attaching ps) i ps) ≡ heldBack k ps
-    held-meanwhile k i = held-sweep k (below (attaching ps) i) 0 ps d (λ j h. by j h (ltb (0 + j) i))
+    pub held-meanwhile : (k i : ℕ) → heldBack k (doneTo (each (attaching ps)) i ps) ≡ heldBack k ps
+    held-meanwhile k i = held-sweep k (below (each (attaching ps)) i) 0 ps d (λ j h. by j h (ltb (0 + j) i))
       where
-        by : (j : ℕ) → j < length ps → (b : Bool) → holdsBack k (cond b (attaching ps (0 + j) (getD ps j d)) (getD ps j d)) ≡ holdsBack k (getD ps j d)
+        by : (j : ℕ) → j < length ps → (b : Bool) → holdsBack k (cond b (attaching ps (getD ps j d)) (getD ps j d)) ≡ holdsBack k (getD ps j d)
         by j h true = holds-kept k j h (chosen j h)
         by j h false = refl
 
     -- what Ready says of a port's aggregator while it still waits is what it said before any port was attached
     pub ready-meanwhile : (i : ℕ) → i < length ps → waits (getD ps i d .phase .mux) ≡ true
-        → ready (getD ps i d .aggregator) (doneTo (attaching ps) i ps) ≡ ready (getD ps i d .aggregator) ps
+        → ready (getD ps i d .aggregator) (doneTo (each (attaching ps)) i ps) ≡ ready (getD ps i d .aggregator) ps
     unfolding ready
     ready-meanwhile i h w =
         let k = getD ps i d .aggregator in
         let before : hasWaiting k ps ≡ true = some-waits k ps i d h (waits-own (getD ps i d) w) in
-        let next : getD (doneTo (attaching ps) i ps) i d ≡ getD ps i d = done-next (attaching ps) ps i d h in
-        let still : hasWaiting k (doneTo (attaching ps) i ps) ≡ true =
-        some-waits k (doneTo (attaching ps) i ps) i d (rw (done-length (attaching ps) ps i) h) (rw next (waits-own (getD ps i d) w)) in
+        let next : getD (doneTo (each (attaching ps)) i ps) i d ≡ getD ps i d = done-next (each (attaching ps)) ps i d h in
+        let still : hasWaiting k (doneTo (each (attaching ps)) i ps) ≡ true =
+        some-waits k (doneTo (each (attaching ps)) i ps) i d (rw (done-length (each (attaching ps)) ps i) h) (rw next (waits-own (getD ps i d) w)) in
         rw (before, still, held-meanwhile k i)
 
 -- `chosen` is needed: of two ports that wait for aggregator 1, an UNSELECTED one whose timer runs and one whose timer has run out, the
@@ -165,7 +161,7 @@ module _ (p : Port) where
   unfolding unchosen ready hasWaiting heldBack holdsBack waitsFor
   not-ready = refl
 
-  ready-then : ready 1 (doneTo (attaching unchosen) 1 unchosen) ≡ true
+  ready-then : ready 1 (doneTo (each (attaching unchosen)) 1 unchosen) ≡ true
   unfolding unchosen ready hasWaiting heldBack holdsBack waitsFor mapFrom attachedIf muxStep muxChoice
   ready-then = refl
 

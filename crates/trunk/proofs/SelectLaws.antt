@@ -12,7 +12,7 @@ use Rattle.trunk.specs.Selection.{sameGroup, nobody, joins, firstFrom, l
 use Rattle.port.specs.declared.record.Port.{Port}
 use Rattle.port.specs.Mux.{detached, placed}
 use Rattle.trunk.specs.Selection.{ruleOf}
-use Rattle.trunk.specs.Settled.{mustMove, reselected}
+use Rattle.trunk.specs.Settled.{mustMove, reselected, selecting}
 use Rattle.trunk.specs.Worked.{Worked}
 use Rattle.trunk.proofs.SweepLaws.{doneTo, done-keeps}
 use Rattle.trunk.proofs.TableWork.{map-port-at, next-is}
@@ -60,9 +60,6 @@ unfolding reselected
 reselected-unmoved k p e = rw e
 
 -- ---- steps 3 and 4, port after port: the rule reads the same in the partly selected table
-
-abbrev pub selecting : SystemId → List Port → ℕ → Port → Port
-selecting ours ps i p = reselected (ruleOf ours (map compared ps) i) p
 
 pub select-same : (ours : SystemId) {t u : List ℕ} (i : ℕ) → Worked t u (doneTo (selecting ours (ports t)) i (ports t)) → i < countIn t
     → selecting ours (ports u) i (portAt u i) ≡ selecting ours (ports t) i (portAt t i)

@@ -19,11 +19,11 @@ use Rattle.port.proofs.MuxLaws.{mux-keeps, detached-keeps, placed-keeps, attach
 use Rattle.port.proofs.TransmitLaws.{quieted-keeps}
 use Rattle.trunk.specs.Selection.{sharesGroup, ruleOf}
 use Rattle.trunk.specs.Ready.{ready}
-use Rattle.trunk.specs.Settled.{mapFrom, isUnselected, mustMove, reselected, selectedAll, attachedAll, climbed, settled}
-use Rattle.trunk.proofs.SweepLaws.{doneTo, sweep-length, sweep-at, sweep-keeps, sweep-map}
+use Rattle.trunk.specs.Settled.{mapFrom, isUnselected, mustMove, reselected, selecting, selectedAll, attaching, attachedAll, climbed, settled}
+use Rattle.trunk.proofs.SweepLaws.{doneTo, each, sweep-length, sweep-at, sweep-keeps, sweep-map}
 use Rattle.trunk.proofs.TableWork.{map-at}
 use Rattle.trunk.proofs.KeepLaws.{reselected-compared, attached-compared, climbed-compared}
-use Rattle.trunk.proofs.ReadyLaws.{attaching, ready-meanwhile}
+use Rattle.trunk.proofs.ReadyLaws.{ready-meanwhile}
 use Rattle.trunk.proofs.GroupLaws.{rule-shared, rule-apart}
 
 -- ---- one port
@@ -75,23 +75,23 @@ map-keeps g f keeps (p ∷ ps) = λ k. keeps p k ∷ map-keeps g f keeps ps k
 pub attached-compares : (ps : List Port) → map compared (attachedAll ps) ≡ map compared ps
 unfolding attachedAll
 attached-compares ps =
-    map-keeps compared (λ (p : Port). attachedIf (ready (p .aggregator) ps) p) (λ p. attached-compared (ready (p .aggregator) ps) p) ps
+    map-keeps compared (attaching ps) (λ p. attached-compared (ready (p .aggregator) ps) p) ps
 
 pub attached-length : (ps : List Port) → length (attachedAll ps) ≡ length ps
 unfolding attachedAll
-attached-length ps = length-map ps (λ (p : Port). attachedIf (ready (p .aggregator) ps) p)
+attached-length ps = length-map ps (attaching ps)
 
 pub attached-at : (ps : List Port) (i : ℕ) (d : Port) → i < length ps
     → getD (attachedAll ps) i d ≡ attachedIf (ready (getD ps i d .aggregator) ps) (getD ps i d)
 unfolding attachedAll
-attached-at ps i d h = map-at (λ (p : Port). attachedIf (ready (p .aggregator) ps) p) ps i d d h
+attached-at ps i d h = map-at (attaching ps) ps i d d h
 
 module _ (ours : SystemId) (ps : List Port) where
   -- what the rule reads is kept by steps 3 and 4, and by all of them
   pub selected-compares : map compared (selectedAll ours ps) ≡ map compared ps
   unfolding selectedAll
   selected-compares =
-      sweep-keeps compared (λ i p. reselected (ruleOf ours (map compared ps) i) p) (λ i p. reselected-compared (ruleOf ours (map compared ps) i) p) 0 ps
+      sweep-keeps compared (selecting ours ps) (λ i p. reselected-compared (ruleOf ours (map compared ps) i) p) 0 ps
 
   pub settled-compares : map compared (settled ours ps) ≡ map compared ps
   unfolding settled
@@ -101,7 +101,7 @@ module _ (ours : SystemId) (ps : List Port) where
   -- and so is the number of ports
   pub selected-length : length (selectedAll ours ps) ≡ length ps
   unfolding selectedAll
-  selected-length = sweep-length (λ i p. reselected (ruleOf ours (map compared ps) i) p) 0 ps
+  selected-length = sweep-length (selecting ours ps) 0 ps
 
   pub settled-length : length (settled ours ps) ≡ length ps
   unfolding settled
@@ -113,7 +113,7 @@ module _ (ours : SystemId) (ps : List Port) where
     unfolding selectedAll
     selected-at =
         let e : 0 + i ≡ i = omega arith in
-        sweep-at (λ i p. reselected (ruleOf ours (map compared ps) i) p) 0 ps i d h
+        sweep-at (selecting ours ps) 0 ps i d h
         ∙ ap (λ (k : ℕ). reselected (ruleOf ours (map compared ps) k) (getD ps i d)) e
 
     pub settled-from : getD (settled ours ps) i d ≡ climbed (getD (attachedAll (selectedAll ours ps)) i d)
@@ -163,12 +163,12 @@ module _ (ours : SystemId) (ps : List Port) where
 
   -- while a port waits there, Ready of its aggregator is what it was before any port was attached
   pub ready-selected : (i : ℕ) (d : Port) → i < length ps → waits (getD (selectedAll ours ps) i d .phase .mux) ≡ true
-      → ready (getD (selectedAll ours ps) i d .aggregator) (doneTo (attaching (selectedAll ours ps)) i (selectedAll ours ps))
+      → ready (getD (selectedAll ours ps) i d .aggregator) (doneTo (each (attaching (selectedAll ours ps))) i (selectedAll ours ps))
       ≡ ready (getD (selectedAll ours ps) i d .aggregator) (selectedAll ours ps)
   ready-selected i d h w =
       ready-meanwhile (selectedAll ours ps) d (λ j k. selected-chosen j d (rw selected-length at k)) i (rw selected-length h) w
 
 -- so step 5 is a sweep
-pub attached-sweep : (ps : List Port) → mapFrom (attaching ps) 0 ps ≡ attachedAll ps
+pub attached-sweep : (ps : List Port) → mapFrom (each (attaching ps)) 0 ps ≡ attachedAll ps
 unfolding attachedAll
-attached-sweep ps = sweep-map (λ (p : Port). attachedIf (ready (p .aggregator) ps) p) 0 ps
+attached-sweep ps = sweep-map (attaching ps) 0 ps

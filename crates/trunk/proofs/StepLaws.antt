@@ -14,12 +14,12 @@ use Rattle.port.specs.Mux.{attachedIf}
 use Rattle.table.specs.Table.{countIn, ports, portAt}
 use Rattle.table.proofs.StoreLaws.{ports-length, ports-at}
 use Rattle.trunk.specs.Ready.{hasWaiting, holdsBack, heldBack, ready}
-use Rattle.trunk.specs.Settled.{selectedAll, AllSelected}
+use Rattle.trunk.specs.Settled.{selectedAll, attaching, AllSelected}
 use Rattle.trunk.specs.Worked.{Worked}
-use Rattle.trunk.proofs.SweepLaws.{doneTo}
+use Rattle.trunk.proofs.SweepLaws.{doneTo, each}
 use Rattle.trunk.proofs.TableWork.{next-is}
 use Rattle.trunk.proofs.SettledLaws.{selected-chosen, selected-length}
-use Rattle.trunk.proofs.ReadyLaws.{attaching, attached-other, attached-stays, some-waits, waits-own, ready-meanwhile}
+use Rattle.trunk.proofs.ReadyLaws.{attached-other, attached-stays, some-waits, waits-own, ready-meanwhile}
 
 -- ---- every port is SELECTED after step 4
 
@@ -48,11 +48,11 @@ ready-is k ps e = rw e
 
 -- a port that waits has a waiting port, itself; one that does not is left alone either way
 pub attach-ready : (ps : List Port) (i : ℕ) (d : Port) → i < length ps
-    → attachedIf (not (heldBack (getD ps i d .aggregator) ps)) (getD ps i d) ≡ attaching ps i (getD ps i d)
+    → attachedIf (not (heldBack (getD ps i d .aggregator) ps)) (getD ps i d) ≡ attaching ps (getD ps i d)
 attach-ready ps i d h = by (waits (getD ps i d .phase .mux)) refl
   where
     by : (w : Bool) → waits (getD ps i d .phase .mux) ≡ w
-        → attachedIf (not (heldBack (getD ps i d .aggregator) ps)) (getD ps i d) ≡ attaching ps i (getD ps i d)
+        → attachedIf (not (heldBack (getD ps i d .aggregator) ps)) (getD ps i d) ≡ attaching ps (getD ps i d)
     by true e =
         ap (λ (b : Bool). attachedIf b (getD ps i d))
         (sym (ready-is (getD ps i d .aggregator) ps (some-waits (getD ps i d .aggregator) ps i d h (waits-own (getD ps i d) e))))
@@ -60,37 +60,37 @@ attach-ready ps i d h = by (waits (getD ps i d .phase .mux)) refl
 
 -- a port that waits and is not held back attaches
 pub attach-free : (ps : List Port) (i : ℕ) (d : Port) → i < length ps
-    → waits (getD ps i d .phase .mux) && not (heldBack (getD ps i d .aggregator) ps) ≡ true → attachedIf true (getD ps i d) ≡ attaching ps i (getD ps i d)
+    → waits (getD ps i d .phase .mux) && not (heldBack (getD ps i d .aggregator) ps) ≡ true → attachedIf true (getD ps i d) ≡ attaching ps (getD ps i d)
 attach-free ps i d h e = by (waits (getD ps i d .phase .mux)) (heldBack (getD ps i d .aggregator) ps) refl e
   where
-    by : (w b : Bool) → heldBack (getD ps i d .aggregator) ps ≡ b → w && not b ≡ true → attachedIf true (getD ps i d) ≡ attaching ps i (getD ps i d)
+    by : (w b : Bool) → heldBack (getD ps i d .aggregator) ps ≡ b → w && not b ≡ true → attachedIf true (getD ps i d) ≡ attaching ps (getD ps i d)
     by true false x e = ap (λ (b : Bool). attachedIf (not b) (getD ps i d)) (sym x) ∙ attach-ready ps i d h
     by true true x e = absurd (false≢true e)
     by false b x e = absurd (false≢true e)
 
 -- a SELECTED port that does not wait, or is held back, is left alone
 pub attach-held : (ps : List Port) (i : ℕ) (d : Port) → i < length ps → getD ps i d .phase .selected ≡ Selected
-    → waits (getD ps i d .phase .mux) && not (heldBack (getD ps i d .aggregator) ps) ≡ false → attaching ps i (getD ps i d) ≡ getD ps i d
+    → waits (getD ps i d .phase .mux) && not (heldBack (getD ps i d .aggregator) ps) ≡ false → attaching ps (getD ps i d) ≡ getD ps i d
 attach-held ps i d h s e = by (waits (getD ps i d .phase .mux)) (heldBack (getD ps i d .aggregator) ps) refl refl e
   where
     by : (w b : Bool) → waits (getD ps i d .phase .mux) ≡ w → heldBack (getD ps i d .aggregator) ps ≡ b → w && not b ≡ false
-        → attaching ps i (getD ps i d) ≡ getD ps i d
+        → attaching ps (getD ps i d) ≡ getD ps i d
     by false b w x e = attached-other _ (getD ps i d) w
     by true true w x e = sym (attach-ready ps i d h) ∙ ap (λ (b : Bool). attachedIf (not b) (getD ps i d)) x ∙ attached-stays (getD ps i d) w s
     by true false w x e = absurd (true≢false e)
 
 -- in the partly attached table, port i is still SELECTED
-pub still-selected : {t u : List ℕ} (i : ℕ) → AllSelected (ports t) → Worked t u (doneTo (attaching (ports t)) i (ports t)) → i < countIn t
+pub still-selected : {t u : List ℕ} (i : ℕ) → AllSelected (ports t) → Worked t u (doneTo (each (attaching (ports t))) i (ports t)) → i < countIn t
     → portAt u i .phase .selected ≡ Selected
 still-selected {t} {u} i chosen so-far h =
     let here : getD (ports t) i (portAt t i) ≡ portAt t i = ports-at t i (portAt t i) h in
-    rw (next-is (attaching (ports t)) i so-far h) (rw here at (chosen i (portAt t i) (rw ports-length h)))
+    rw (next-is (each (attaching (ports t))) i so-far h) (rw here at (chosen i (portAt t i) (rw ports-length h)))
 
 -- in the partly attached table, the step of port i is what it was in the whole
-pub attach-same : {t u : List ℕ} (i : ℕ) → AllSelected (ports t) → Worked t u (doneTo (attaching (ports t)) i (ports t)) → i < countIn t
-    → attaching (ports u) i (portAt u i) ≡ attaching (ports t) i (portAt t i)
+pub attach-same : {t u : List ℕ} (i : ℕ) → AllSelected (ports t) → Worked t u (doneTo (each (attaching (ports t))) i (ports t)) → i < countIn t
+    → attaching (ports u) (portAt u i) ≡ attaching (ports t) (portAt t i)
 attach-same {t} {u} i chosen so-far h =
-    ap (attaching (ports u) i) (next-is (attaching (ports t)) i so-far h) ∙ by (waits (p .phase .mux)) refl
+    ap (attaching (ports u)) (next-is (each (attaching (ports t))) i so-far h) ∙ by (waits (p .phase .mux)) refl
   where
     p : Port
     p = portAt t i
@@ -101,7 +101,7 @@ attach-same {t} {u} i chosen so-far h =
     here : getD ps i p ≡ p
     here = ports-at t i p h
 
-    by : (w : Bool) → waits (p .phase .mux) ≡ w → attaching (ports u) i p ≡ attaching (ports t) i p
+    by : (w : Bool) → waits (p .phase .mux) ≡ w → attaching (ports u) p ≡ attaching (ports t) p
     by false e = attached-other _ p e ∙ sym (attached-other _ p e)
     by true e =
         ap (λ (l : List Port). attachedIf (ready (p .aggregator) l) p) (so-far .records)

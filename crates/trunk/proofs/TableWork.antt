@@ -13,17 +13,20 @@ use Rattle.table.specs.declared.layout.Header.{Header}
 use Rattle.table.specs.Layout.{place, recordSize, headerOf}
 use Rattle.table.specs.Record.{encoded}
 use Rattle.table.specs.Range.{portInRange}
-use Rattle.table.specs.Table.{tableInRange, countIn, ports, portAt}
+use Rattle.table.specs.Table.{tableInRange, InTable, countIn, ports, portAt}
 use Rattle.table.proofs.RecordLaws.{port-back}
 use Rattle.table.proofs.StoreLaws.{ports-length, ports-at, stored-length, stored-header, stored-ports}
 use Rattle.table.proofs.TableLaws.{InRange, in-range, in-range-is, inside, port-in-range, stored-in-range}
 use Rattle.trunk.specs.Settled.{mapFrom}
-use Rattle.trunk.specs.Worked.{Worked}
+use Rattle.trunk.specs.Worked.{Worked, Became}
 use Rattle.trunk.proofs.SweepLaws.{doneTo, done-next, done-none, done-more, done-all}
 
 -- record i lies within a table in range
 pub room : (t : List ℕ) → tableInRange t ≡ true → (i : ℕ) → i < countIn t → place i + recordSize ≤ length t
 room t e i h = inside t (in-range t e) i h
+
+pub lies : (t : List ℕ) (i : ℕ) → InTable t i → place i + recordSize ≤ length t
+lies t i at = room t (at .0) i (at .1)
 
 -- the record at i is in range
 pub ranged-at : (t : List ℕ) → tableInRange t ≡ true → Octets t → (i : ℕ) → i < countIn t → portInRange (countIn t) (portAt t i) ≡ true
@@ -31,7 +34,7 @@ ranged-at t e o i h = port-in-range t (in-range t e) o i h
 
 -- a store of a record in range
 pub stored : (t : List ℕ) (i : ℕ) (p : Port) → tableInRange t ≡ true → i < countIn t → portInRange (countIn t) p ≡ true
-    → Worked t (putAt (place i) (encoded p) t) (set (ports t) i p)
+    → Became t (putAt (place i) (encoded p) t) i p
 stored t i p e h r =
     let here = room t e i h in
     record {
@@ -41,12 +44,19 @@ stored t i p e h r =
       records = stored-ports i p t here (port-back (countIn t) p r) h;
     }
 
+-- load, step, store: what a step that keeps a record in range makes of port i
+pub changed-at : (f : Port → Port) {t u : List ℕ} {i : ℕ} {p q : Port} → InTable t i → Octets t
+    → ((x : Port) → portInRange (countIn t) x ≡ true → portInRange (countIn t) (f x) ≡ true)
+    → p ≡ portAt t i → q ≡ f p → u ≡ putAt (place i) (encoded q) t → Became t u i (f (portAt t i))
+changed-at f {t} {u} {i} at octets keeps loaded stepped put =
+    rw (put, stepped, loaded) (stored t i (f (portAt t i)) (at .0) (at .1) (keeps (portAt t i) (ranged-at t (at .0) octets i (at .1))))
+
 -- nothing done
 pub unworked : (t : List ℕ) → tableInRange t ≡ true → Worked t t (ports t)
 unworked t e = record { header = refl; size = refl; ranged = e; records = refl }
 
 -- a record that is left alone, as what it would be set to is what it is
-pub left-alone : (t : List ℕ) (i : ℕ) (q : Port) → tableInRange t ≡ true → i < countIn t → q ≡ portAt t i → Worked t t (set (ports t) i q)
+pub left-alone : (t : List ℕ) (i : ℕ) (q : Port) → tableInRange t ≡ true → i < countIn t → q ≡ portAt t i → Became t t i q
 left-alone t i q e h same =
     let is : q ≡ getD (ports t) i q = same ∙ sym (ports-at t i q h) in
     record {
@@ -91,7 +101,7 @@ module _ (f : ℕ → Port → Port) {t u : List ℕ} (i : ℕ) (so-far : Worked
       ∙ ports-at t i (portAt t i) h
 
   -- a turn that puts f's record at i
-  pub turn : {v : List ℕ} (q : Port) → Worked u v (set (ports u) i q) → q ≡ f i (portAt t i) → Worked t v (doneTo f (i + 1) (ports t))
+  pub turn : {v : List ℕ} (q : Port) → Became u v i q → q ≡ f i (portAt t i) → Worked t v (doneTo f (i + 1) (ports t))
   turn q done e =
       let all = then so-far done in
       record {

@@ -4,3 +4,4 @@ pub mod Settled
 pub mod Displaced
 pub mod Worked
 pub mod Advanced
+pub mod Sweep

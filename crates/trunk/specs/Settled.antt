@@ -32,13 +32,19 @@ mustMove k p = isUnselected (p .phase .selected) || not (eqb (p .aggregator) k)
 unfoldable pub reselected : ℕ → Port → Port
 reselected k p = cond (mustMove k p) (placed k (detached p)) p
 
--- steps 3 and 4: the rule afresh
-unfoldable pub selectedAll : SystemId → List Port → List Port
-selectedAll ours ps = mapFrom (λ i p. reselected (ruleOf ours (map compared ps) i) p) 0 ps
+-- steps 3 and 4, port i among these: the rule afresh
+abbrev pub selecting : SystemId → List Port → ℕ → Port → Port
+selecting ours ps i p = reselected (ruleOf ours (map compared ps) i) p
 
--- step 5: Ready is worked out once for each aggregator
+unfoldable pub selectedAll : SystemId → List Port → List Port
+selectedAll ours ps = mapFrom (selecting ours ps) 0 ps
+
+-- step 5, a port among these: Ready is worked out once for each aggregator
+abbrev pub attaching : List Port → Port → Port
+attaching ps p = attachedIf (ready (p .aggregator) ps) p
+
 unfoldable pub attachedAll : List Port → List Port
-attachedAll ps = map (λ p. attachedIf (ready (p .aggregator) ps) p) ps
+attachedAll ps = map (attaching ps) ps
 
 -- step 6; what a later request does after it has its place here
 unfoldable pub climbed : Port → Port

@@ -4,7 +4,7 @@ use mathlib.Core.Path.{_≡_}
 use mathlib.Core.Bool.{true}
 use mathlib.Core.List.{List}
 use Prim.Native.Nat.{ℕ}
-use lib.ListN.{length}
+use lib.ListN.{length, set}
 use Rattle.port.specs.declared.record.Port.{Port}
 use Rattle.table.specs.Layout.{headerOf}
 use Rattle.table.specs.Table.{tableInRange, ports}
@@ -14,3 +14,7 @@ pub record Worked (t u : List ℕ) (qs : List Port) : Type 0 where
   pub size : length u ≡ length t
   pub ranged : tableInRange u ≡ true
   pub records : ports u ≡ qs
+
+-- port i became q, and every other record stayed
+abbrev pub Became : List ℕ → List ℕ → ℕ → Port → Type 0
+Became t u i q = Worked t u (set (ports t) i q)

@@ -1,11 +1,8 @@
 // Displaced ports (43.4.8 port_moved).
 ghost use mathlib.Core.Path.{_≡_};
-ghost use mathlib.Core.Bool.{true};
-ghost use Prim.Native.Nat.{_<_};
-ghost use lib.ListN.{set};
-ghost use Rattle.table.specs.Table.{tableInRange, countIn, ports, portAt};
-ghost use Rattle.trunk.specs.Displaced.{isDisabled, isDisplaced, displacedIf, displaced};
-ghost use Rattle.trunk.specs.Worked.{Worked};
+ghost use Rattle.table.specs.Table.{InTable, portAt};
+ghost use Rattle.trunk.specs.Displaced.{isDisabled, isDisplaced, displacedIf};
+ghost use Rattle.trunk.specs.Worked.{Became};
 use frame::block::Block;
 use machine::compare::same_address;
 use machine::states::Receive;
@@ -39,9 +36,9 @@ fn is_displaced(p: Port, a: Block) -> bool
 }
 
 // What port i does when port r heard the block `a`: a port that is not displaced is left alone.
-fn displace_one(table: &mut [u8], i: usize, r: usize, a: Block)
-    requires { ⌜ (tableInRange (now table) ≡ true) × (i < countIn (now table)) ⌝ }
-    ensures { λ _. ⌜ Worked (now (table .entry)) (now (table .exit)) (set (ports (now (table .entry))) i (displacedIf r a i (portAt (now (table .entry)) i))) ⌝ }
+pub fn displace_one(table: &mut [u8], i: usize, r: usize, a: Block)
+    requires { ⌜ InTable (now table) i ⌝ }
+    ensures { λ _. ⌜ Became (now (table .entry)) (now (table .exit)) i (displacedIf r a i (portAt (now (table .entry)) i)) ⌝ }
 {
     let h = table::phase(table, i);
     let s = h.receive;
@@ -51,18 +48,5 @@ fn displace_one(table: &mut [u8], i: usize, r: usize, a: Block)
             let q = p.moved_away();
             table::store(table, i, q);
         }
-    }
-}
-
-// Port r, from 0, heard the block `a`: every other port that is displaced does INITIALIZE, then PORT_DISABLED.
-pub fn displace_all(table: &mut [u8], r: usize, a: Block)
-    requires { ⌜ tableInRange (now table) ≡ true ⌝ }
-    ensures { λ _. ⌜ Worked (now (table .entry)) (now (table .exit)) (displaced r a (ports (now (table .entry)))) ⌝ }
-{
-    let n = table[0] as usize;
-    let mut i: usize = 0;
-    while i < n {
-        displace_one(table, i, r, a);
-        i += 1;
     }
 }

@@ -1,16 +1,15 @@
 // Ready of an aggregator (43.4.8), and step 5.
 ghost use mathlib.Core.Path.{_≡_};
 ghost use mathlib.Core.Bool.{true, not, _&&_};
-ghost use Prim.Native.Nat.{_<_, _+_, _≤_};
-ghost use lib.ListN.{length, set};
+ghost use Prim.Native.Nat.{_+_, _≤_};
+ghost use lib.ListN.{length};
 ghost use Rattle.machine.specs.declared.states.Selection.the-variants.{Selected};
 ghost use Rattle.machine.specs.Mux.{waits};
-ghost use Rattle.port.specs.Mux.{attachedIf};
 ghost use Rattle.table.specs.Layout.{place, recordSize};
-ghost use Rattle.table.specs.Table.{tableInRange, countIn, ports, portAt};
-ghost use Rattle.trunk.specs.Ready.{holdsBack, heldBack, ready};
-ghost use Rattle.trunk.specs.Settled.{AllSelected, attachedAll};
-ghost use Rattle.trunk.specs.Worked.{Worked};
+ghost use Rattle.table.specs.Table.{tableInRange, InTable, ports, portAt};
+ghost use Rattle.trunk.specs.Ready.{holdsBack, heldBack};
+ghost use Rattle.trunk.specs.Settled.{AllSelected, attaching, attachedAll};
+ghost use Rattle.trunk.specs.Worked.{Worked, Became};
 
 // Whether port i waits for aggregator k with its timer still running.
 fn holds_back(table: &[u8], i: usize, k: u8) -> bool
@@ -29,7 +28,7 @@ fn is_held_back(table: &[u8], k: u8) -> bool
     requires { ⌜ tableInRange (now table) ≡ true ⌝ }
     ensures { λ r. ⌜ r ≡ heldBack k (ports (now (table .entry))) ⌝ }
 {
-    let n = table[0] as usize;
+    let n = table::count(table);
     let mut i: usize = 0;
     while i < n {
         if holds_back(table, i, k) {
@@ -42,7 +41,7 @@ fn is_held_back(table: &[u8], k: u8) -> bool
 
 // Whether port i waits and nobody holds its aggregator back.
 fn may_attach(table: &[u8], i: usize) -> bool
-    requires { ⌜ (tableInRange (now table) ≡ true) × (i < countIn (now table)) ⌝ }
+    requires { ⌜ InTable (now table) i ⌝ }
     ensures { λ r. ⌜ r ≡ waits (portAt (now (table .entry)) i .phase .mux) && not (heldBack (portAt (now (table .entry)) i .aggregator) (ports (now (table .entry)))) ⌝ }
 {
     let h = table::phase(table, i);
@@ -56,8 +55,8 @@ fn may_attach(table: &[u8], i: usize) -> bool
 // Step 5 for port i, which is SELECTED. Where it waits, its aggregator has a waiting port, so it is Ready unless somebody holds it
 // back. A port that does not wait, or is held back, is left alone.
 fn attach_one(table: &mut [u8], i: usize)
-    requires { ⌜ (tableInRange (now table) ≡ true) × (i < countIn (now table)) × (portAt (now table) i .phase .selected ≡ Selected) ⌝ }
-    ensures { λ _. ⌜ Worked (now (table .entry)) (now (table .exit)) (set (ports (now (table .entry))) i (attachedIf (ready (portAt (now (table .entry)) i .aggregator) (ports (now (table .entry)))) (portAt (now (table .entry)) i))) ⌝ }
+    requires { ⌜ InTable (now table) i × (portAt (now table) i .phase .selected ≡ Selected) ⌝ }
+    ensures { λ _. ⌜ Became (now (table .entry)) (now (table .exit)) i (attaching (ports (now (table .entry))) (portAt (now (table .entry)) i)) ⌝ }
 {
     if may_attach(table, i) {
         let p = table::load(table, i);
@@ -71,7 +70,7 @@ pub fn attach_all(table: &mut [u8])
     requires { ⌜ (tableInRange (now table) ≡ true) × AllSelected (ports (now table)) ⌝ }
     ensures { λ _. ⌜ Worked (now (table .entry)) (now (table .exit)) (attachedAll (ports (now (table .entry)))) ⌝ }
 {
-    let n = table[0] as usize;
+    let n = table::count(table);
     let mut i: usize = 0;
     while i < n {
         attach_one(table, i);

@@ -2,13 +2,12 @@
 ghost use mathlib.Core.Path.{_≡_};
 ghost use mathlib.Core.Bool.{true};
 ghost use mathlib.Core.List.{map};
-ghost use Prim.Native.Nat.{_<_, _≤_};
-ghost use lib.ListN.{set};
+ghost use Prim.Native.Nat.{_≤_};
 ghost use Rattle.port.specs.Compared.{compared};
-ghost use Rattle.table.specs.Table.{tableInRange, countIn, ports, portAt};
-ghost use Rattle.trunk.specs.Selection.{individual, sameGroup, lowest as Selection·lowest, ruleOf};
-ghost use Rattle.trunk.specs.Settled.{isUnselected, mustMove, reselected, selectedAll};
-ghost use Rattle.trunk.specs.Worked.{Worked};
+ghost use Rattle.table.specs.Table.{tableInRange, InTable, ports, portAt};
+ghost use Rattle.trunk.specs.Selection.{individual, sameGroup, lowest as Selection·lowest};
+ghost use Rattle.trunk.specs.Settled.{isUnselected, mustMove, selecting, selectedAll};
+ghost use Rattle.trunk.specs.Worked.{Worked, Became};
 use frame::block::SystemId;
 use machine::compare::same_system;
 use machine::states::Selection;
@@ -37,7 +36,7 @@ fn same_group(p: Port, q: Port, ours: SystemId) -> bool
 
 // The lowest-numbered port of port i's group, from 0; p is the record of port i.
 fn lowest(table: &[u8], i: usize, p: Port, ours: SystemId) -> usize
-    requires { ⌜ (tableInRange (now table) ≡ true) × (i < countIn (now table)) × (p ≡ portAt (now table) i) ⌝ }
+    requires { ⌜ InTable (now table) i × (p ≡ portAt (now table) i) ⌝ }
     ensures { λ r. ⌜ (r ≡ Selection·lowest ours (map compared (ports (now (table .entry)))) i) × (r ≤ i) ⌝ }
 {
     let mut j: usize = 0;
@@ -71,8 +70,8 @@ fn is_unselected(s: Selection) -> bool
 // Steps 3 and 4 for port i: the rule afresh. A port that must move goes down to DETACHED through each state, and only then to the
 // rule's aggregator; one that need not is left alone.
 fn select_one(table: &mut [u8], i: usize, ours: SystemId)
-    requires { ⌜ (tableInRange (now table) ≡ true) × (i < countIn (now table)) ⌝ }
-    ensures { λ _. ⌜ Worked (now (table .entry)) (now (table .exit)) (set (ports (now (table .entry))) i (reselected (ruleOf ours (map compared (ports (now (table .entry)))) i) (portAt (now (table .entry)) i))) ⌝ }
+    requires { ⌜ InTable (now table) i ⌝ }
+    ensures { λ _. ⌜ Became (now (table .entry)) (now (table .exit)) i (selecting ours (ports (now (table .entry))) i (portAt (now (table .entry)) i)) ⌝ }
 {
     let p = table::load(table, i);
     let k = (lowest(table, i, p, ours) + 1) as u8;
@@ -87,7 +86,7 @@ pub fn select_all(table: &mut [u8], ours: SystemId)
     requires { ⌜ tableInRange (now table) ≡ true ⌝ }
     ensures { λ _. ⌜ Worked (now (table .entry)) (now (table .exit)) (selectedAll ours (ports (now (table .entry)))) ⌝ }
 {
-    let n = table[0] as usize;
+    let n = table::count(table);
     let mut i: usize = 0;
     while i < n {
         select_one(table, i, ours);

@@ -3,31 +3,33 @@
 ghost use mathlib.Core.Path.{_≡_};
 ghost use mathlib.Core.Bool.{true};
 ghost use Prim.Native.Nat.{_+_, _<_, _≤_};
-ghost use lib.ListN.{length, set, replicate};
+ghost use lib.ListN.{length, replicate};
 ghost use Rattle.table.specs.Layout.{headerOf, tableSize, mostPorts};
 ghost use Rattle.table.specs.Range.{portInRange};
-ghost use Rattle.table.specs.Table.{tableInRange, countIn, ports};
+ghost use Rattle.table.specs.Table.{tableInRange, InTable, countIn, ports};
 ghost use Rattle.settings.specs.Settings.{started};
-ghost use Rattle.trunk.specs.Worked.{Worked};
+ghost use Rattle.trunk.specs.Worked.{Worked, Became};
 ghost use Rattle.work.specs.Work.{ours, worked, afterOne, afterStart, heardAt, afterHeard, afterTick, afterLine, afterSettings, afterSend, lacpduOf, responseOf, over};
 use frame::block::Block;
 use machine::states::Line;
 use port::record::Port;
 use settings::Settings;
 use table::layout::Header;
+use trunk::sweep::Step;
+use trunk::sweep::sweep;
 
 // The end of step 2, and steps 3 to 6.
 fn finish(table: &mut [u8])
     requires { ⌜ tableInRange (now table) ≡ true ⌝ }
     ensures { λ _. ⌜ Worked (now (table .entry)) (now (table .exit)) (worked (ours (now (table .entry))) (ports (now (table .entry)))) ⌝ }
 {
-    trunk::advance::pace_all(table);
+    sweep(table, Step::Periodic);
     trunk::settle::settle(table);
 }
 
 // Port i becomes q, and everything settles.
 fn change(table: &mut [u8], i: usize, q: Port)
-    requires { ⌜ (tableInRange (now table) ≡ true) × (i < countIn (now table)) × (portInRange (countIn (now table)) q ≡ true) ⌝ }
+    requires { ⌜ InTable (now table) i × (portInRange (countIn (now table)) q ≡ true) ⌝ }
     ensures { λ _. ⌜ now (table .exit) ≡ afterOne (now (table .entry)) i q ⌝ }
 {
     table::store(table, i, q);
@@ -39,13 +41,13 @@ pub fn advance(table: &mut [u8])
     requires { ⌜ tableInRange (now table) ≡ true ⌝ }
     ensures { λ _. ⌜ now (table .exit) ≡ afterTick (now (table .entry)) ⌝ }
 {
-    trunk::advance::tick_all(table);
+    sweep(table, Step::Tick);
     finish(table);
 }
 
 // Port i has this link and duplex now. The values as they are change nothing.
 pub fn set_line(table: &mut [u8], i: usize, line: Line)
-    requires { ⌜ (tableInRange (now table) ≡ true) × (i < countIn (now table)) ⌝ }
+    requires { ⌜ InTable (now table) i ⌝ }
     ensures { λ _. ⌜ now (table .exit) ≡ afterLine (now (table .entry)) i line ⌝ }
 {
     let p = table::load(table, i);
@@ -58,7 +60,7 @@ pub fn set_line(table: &mut [u8], i: usize, line: Line)
 
 // Port i has these settings now. Equal ones change nothing.
 pub fn configure(table: &mut [u8], i: usize, settings: Settings)
-    requires { ⌜ (tableInRange (now table) ≡ true) × (i < countIn (now table)) ⌝ }
+    requires { ⌜ InTable (now table) i ⌝ }
     ensures { λ _. ⌜ now (table .exit) ≡ afterSettings (now (table .entry)) i settings ⌝ }
 {
     let p = table::load(table, i);
@@ -70,11 +72,14 @@ pub fn configure(table: &mut [u8], i: usize, settings: Settings)
 
 // An accepted LACPDU on port i, and the ports whose partner it shows to have moved.
 pub fn hear(table: &mut [u8], i: usize, frame: &[u8])
-    requires { ⌜ (tableInRange (now table) ≡ true) × (i < countIn (now table)) × (124 ≤ length (now frame)) ⌝ }
+    requires { ⌜ InTable (now table) i × (124 ≤ length (now frame)) ⌝ }
     ensures { λ _. ⌜ now (table .exit) ≡ afterHeard (now (table .entry)) i (now (frame .entry)) ⌝ }
 {
     hear_at(table, i, frame);
-    trunk::displace::displace_all(table, i, Block::read(frame::wire::actor(frame)));
+    sweep(
+        table,
+        Step::Displaced(i, Block::read(frame::wire::actor(frame))),
+    );
     finish(table);
 }
 
@@ -88,8 +93,8 @@ fn number_of(i: usize) -> u16
 
 // Port i records what an LACPDU says (CURRENT, 43.4.12).
 fn hear_at(table: &mut [u8], i: usize, frame: &[u8])
-    requires { ⌜ (tableInRange (now table) ≡ true) × (i < countIn (now table)) × (124 ≤ length (now frame)) ⌝ }
-    ensures { λ _. ⌜ Worked (now (table .entry)) (now (table .exit)) (set (ports (now (table .entry))) i (heardAt (now (table .entry)) i (now (frame .entry)))) ⌝ }
+    requires { ⌜ InTable (now table) i × (124 ≤ length (now frame)) ⌝ }
+    ensures { λ _. ⌜ Became (now (table .entry)) (now (table .exit)) i (heardAt (now (table .entry)) i (now (frame .entry))) ⌝ }
 {
     let h = table::layout::read_header(table);
     let ours = h.system;
@@ -105,7 +110,7 @@ fn hear_at(table: &mut [u8], i: usize, frame: &[u8])
 
 // Writes the LACPDU of port i over the first 124 octets of out, and remembers the send.
 pub fn send(table: &mut [u8], i: usize, out: &mut [u8])
-    requires { ⌜ (tableInRange (now table) ≡ true) × (i < countIn (now table)) × (124 ≤ length (now out)) ⌝ }
+    requires { ⌜ InTable (now table) i × (124 ≤ length (now out)) ⌝ }
     ensures { λ _. ⌜ (now (table .exit) ≡ afterSend (now (table .entry)) i) × (now (out .exit) ≡ over (lacpduOf (now (table .entry)) i) (now (out .entry))) ⌝ }
 {
     write_due(table, i, out);
@@ -115,7 +120,7 @@ pub fn send(table: &mut [u8], i: usize, out: &mut [u8])
 
 // Writes the LACPDU of port i over the first 124 octets of out.
 fn write_due(table: &[u8], i: usize, out: &mut [u8])
-    requires { ⌜ (tableInRange (now table) ≡ true) × (i < countIn (now table)) × (124 ≤ length (now out)) ⌝ }
+    requires { ⌜ InTable (now table) i × (124 ≤ length (now out)) ⌝ }
     ensures { λ _. ⌜ now (out .exit) ≡ over (lacpduOf (now (table .entry)) i) (now (out .entry)) ⌝ }
 {
     let h = table::layout::read_header(table);
@@ -130,7 +135,7 @@ fn write_due(table: &[u8], i: usize, out: &mut [u8])
 
 // Writes port i's Response to a Marker over the first 124 octets of out.
 pub fn respond(table: &[u8], i: usize, frame: &[u8], out: &mut [u8])
-    requires { ⌜ (tableInRange (now table) ≡ true) × (i < countIn (now table)) × (124 ≤ length (now frame)) × (124 ≤ length (now out)) ⌝ }
+    requires { ⌜ InTable (now table) i × (124 ≤ length (now frame)) × (124 ≤ length (now out)) ⌝ }
     ensures { λ _. ⌜ now (out .exit) ≡ over (responseOf (now (table .entry)) i (now (frame .entry))) (now (out .entry)) ⌝ }
 {
     let p = table::load(table, i);

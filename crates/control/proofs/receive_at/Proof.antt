@@ -38,7 +38,7 @@ hear-requires c κs =
     let a = (c .before .before .before .before .before .before .before .before .before .before .before .before .before .args) in
     let p = portAt (now (a .table)) (a .i) in
     let is = (λ j. frameAnswer (sym (c .before .before .before .before .classify .ensures) j) (sym (c .before .before .before .before .before .before .before .line-at .ensures) j) (sym (c .before .before .before .before .before .mux-at .ensures) j)) ∙ sym (c .before .before .before .judge .ensures) ∙ (c .before .enum-told2 .given .1) in
-    (c .before .before .before .before .before .before .before .before .before .before .before .before .before .pre .0, c .before .before .before .before .before .before .before .before .before .before .before .before .before .pre .1, lacpdu-whole (now (a .frame)) (p .line) (p .phase .mux) is)
+    (c .before .before .before .before .before .before .before .before .before .before .before .before .before .pre, lacpdu-whole (now (a .frame)) (p .line) (p .phase .mux) is)
 
 enum-told-3 : tie.Need-enum-told-3
 enum-told-3 c = search needs
@@ -48,7 +48,7 @@ respond-requires c κs =
     let a = (c .before .before .before .before .before .before .before .before .before .before .before .before .before .before .args) in
     let p = portAt (now (a .table)) (a .i) in
     let is = (λ j. frameAnswer (sym (c .before .before .before .before .before .classify .ensures) j) (sym (c .before .before .before .before .before .before .before .before .line-at .ensures) j) (sym (c .before .before .before .before .before .before .mux-at .ensures) j)) ∙ sym (c .before .before .before .before .judge .ensures) ∙ (c .before .before .enum-told3 .given .1) in
-    (c .before .before .before .before .before .before .before .before .before .before .before .before .before .before .pre .0, c .before .before .before .before .before .before .before .before .before .before .before .before .before .before .pre .1, marker-whole (now (a .frame)) (p .line) (p .phase .mux) is, omega (arith, c .before .before .before .before .before .before .before .before .before .before .if1 .left))
+    (c .before .before .before .before .before .before .before .before .before .before .before .before .before .before .pre, marker-whole (now (a .frame)) (p .line) (p .phase .mux) is, omega (arith, c .before .before .before .before .before .before .before .before .before .before .if1 .left))
 
 enum-known-why : tie.Need-enum-known-why
 enum-known-why c = search needs

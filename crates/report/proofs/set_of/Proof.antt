@@ -38,16 +38,13 @@ turn f t i more h {set} so-far =
     ∙ ap₂ (λ (m : ℕ) (q : Port). setOf f (drop m (ports t)) * 2 + weighed (f q) 1) back (ports-at t (i - 1) p below)
     ∙ ap (λ (x : ℕ). x * 2 + weighed (f p) 1) (sym so-far))
 
-shared-slice-read-i : tie.Need-shared-slice-read-i Inv-loop μ-loop
-shared-slice-read-i c = let r = in-range _ (c .before .before .pre) .header in omega arith
-
-cast-i : tie.Need-cast-i Inv-loop μ-loop
-cast-i c = omega (arith, c .shared-slice-known2 .given 0)
+count-requires : tie.Need-count-requires Inv-loop μ-loop
+count-requires c κs = in-range _ (c .before .pre) .header
 
 loop-holds : tie.Need-loop-holds Inv-loop μ-loop
 loop-holds c =
     let t = now (c .before .before .args .table) in
-    (omega arith, sym (set-end (stands (c .before .before .args .standing) (c .before .before .args .k)) (ports t) (countIn t) (ports-length t)))
+    (omega arith, sym (set-end (stands (c .before .before .args .standing) (c .before .before .args .k)) (ports t) (c .count .result) (ports-length t ∙ sym (c .count .ensures))))
 
 sub-i : tie.Need-sub-i Inv-loop μ-loop
 sub-i c = omega arith
@@ -100,8 +97,7 @@ set-of-spec =
     (tie.spec
     Inv-loop
     μ-loop
-    shared-slice-read-i
-    cast-i
+    count-requires
     loop-holds
     sub-i
     mul-set

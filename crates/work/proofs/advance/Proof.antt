@@ -1,4 +1,6 @@
 -- `work::advance` meets its contract: a tick of all ports, then the rest of the work. Assumes nothing.
+use Rattle.trunk.specs.Advanced.{advanced}
+use Rattle.trunk.proofs.SweepLaws.{sweep-map}
 use Rattle.trunk.proofs.TableWork.{then, said}
 use Rattle.work.specs.Work.{worked, afterTick}
 use Rattle.work.proofs.WorkLaws.{made-of}
@@ -6,8 +8,8 @@ use borrow.Author.Needs.{needs}
 use Rattle.work.proofs.advance.Statement.{statement}
 use Rattle.work.proofs.advance.Tie as tie
 
-tick-all-requires : tie.Need-tick-all-requires
-tick-all-requires c κs = search needs
+sweep-requires : tie.Need-sweep-requires
+sweep-requires c κs = search needs
 
 finish-requires : tie.Need-finish-requires
 finish-requires c κs = search needs
@@ -18,9 +20,9 @@ same-length c = search needs
 returns : tie.Need-returns
 unfolding afterTick
 returns c =
-    let ticked = (c .before .before .before .before .before .before .tick-all .ensures) in
+    let ticked = said (sweep-map advanced 0 _) (c .before .before .before .before .before .before .sweep .ensures) in
     let finished = (c .before .before .finish .ensures) in
     made-of (said (λ i. worked (ticked .header i .system) (ticked .records i)) (then ticked finished)) (λ j. (c .slice-known3 .given) j .fits)
 
 pub advance-spec : {M : Type 1} → statement M
-advance-spec = tie.close (tie.spec tick-all-requires finish-requires same-length returns)
+advance-spec = tie.close (tie.spec sweep-requires finish-requires same-length returns)

@@ -3,7 +3,7 @@ use denote.Ref.{now}
 use lib.ListN.{set}
 use Rattle.table.specs.Table.{ports}
 use Rattle.trunk.specs.Worked.{Worked}
-use Rattle.trunk.proofs.TableWork.{room, stored, then, said}
+use Rattle.trunk.proofs.TableWork.{lies, stored, then, said}
 use Rattle.work.specs.Work.{worked, afterOne}
 use Rattle.work.proofs.WorkLaws.{made-of}
 use borrow.Author.Needs.{needs}
@@ -11,12 +11,12 @@ use Rattle.work.proofs.change.Statement.{statement}
 use Rattle.work.proofs.change.Tie as tie
 
 store-requires : tie.Need-store-requires
-store-requires c κs = room _ (c .before .before .pre .0) (c .before .before .args .i) (c .before .before .pre .1)
+store-requires c κs = lies _ _ (c .before .before .pre .0)
 
 finish-requires : tie.Need-finish-requires
 finish-requires c κs =
     let a = (c .before .before .before .before .before .before .args) in
-    rw (c .before .before .before .store .ensures) (stored (now (a .table)) (a .i) (a .q) (c .before .before .before .before .before .before .pre .0) (c .before .before .before .before .before .before .pre .1) (c .before .before .before .before .before .before .pre .2) .ranged)
+    rw (c .before .before .before .store .ensures) (stored (now (a .table)) (a .i) (a .q) (c .before .before .before .before .before .before .pre .0 .0) (c .before .before .before .before .before .before .pre .0 .1) (c .before .before .before .before .before .before .pre .1) .ranged)
 
 same-length : tie.Need-same-length
 same-length c = search needs
@@ -27,7 +27,7 @@ returns c =
     let a = (c .before .before .before .before .before .before .before .before .before .args) in
     let t = now (a .table) in
     let put : Worked t (c .before .before .before .before .before .before .store .last .0) (set (ports t) (a .i) (a .q)) =
-    rw (c .before .before .before .before .before .before .store .ensures) (stored t (a .i) (a .q) (c .before .before .before .before .before .before .before .before .before .pre .0) (c .before .before .before .before .before .before .before .before .before .pre .1) (c .before .before .before .before .before .before .before .before .before .pre .2)) in
+    rw (c .before .before .before .before .before .before .store .ensures) (stored t (a .i) (a .q) (c .before .before .before .before .before .before .before .before .before .pre .0 .0) (c .before .before .before .before .before .before .before .before .before .pre .0 .1) (c .before .before .before .before .before .before .before .before .before .pre .1)) in
     let finished = (c .before .before .finish .ensures) in
     made-of (said (λ i. worked (put .header i .system) (put .records i)) (then put finished)) (λ j. (c .slice-known3 .given) j .fits)
 

@@ -6,7 +6,7 @@ use Rattle.port.specs.declared.record.Port.{Port}
 use Rattle.settings.specs.Settings.{sameSettings, configured}
 use Rattle.table.specs.Range.{ownFits}
 use Rattle.table.specs.Table.{countIn, portAt}
-use Rattle.trunk.proofs.TableWork.{room, ranged-at}
+use Rattle.trunk.proofs.TableWork.{lies, ranged-at}
 use Rattle.work.specs.Work.{afterSettings}
 use Rattle.work.proofs.RangeWork.{configured-typed}
 use Rattle.work.proofs.WorkLaws.{own-typed}
@@ -15,7 +15,7 @@ use Rattle.work.proofs.configure.Statement.{statement}
 use Rattle.work.proofs.configure.Tie as tie
 
 load-requires : tie.Need-load-requires
-load-requires c κs = room _ (c .before .before .pre .0) (c .before .before .args .i) (c .before .before .pre .1)
+load-requires c κs = lies _ _ (c .before .before .pre)
 
 is-held-requires : tie.Need-is-held-requires
 is-held-requires c κs = search needs
@@ -41,8 +41,7 @@ change-requires c κs =
     let p = portAt t (a .i) in
     let is : c .configure .result ≡ configured (a .settings) p = c .configure .ensures ∙ ap (configured (a .settings)) (c .before .before .before .before .load .ensures) in
     let own = own-typed (c .configure .result .own) _ _ (c .configure .ok .1 .1 .1 .1 .1 .1 .1 .1 .1 .0 .1) in (
-      c .before .before .before .before .before .before .before .pre .0,
-      c .before .before .before .before .before .before .before .pre .1,
+      c .before .before .before .before .before .before .before .pre,
       rw is
           (configured-typed (countIn t) (a .settings) p (ap (λ (q : Port). ownFits (q .own)) (sym is) ∙ own)
           (ranged-at t (c .before .before .before .before .before .before .before .pre .0) (λ j. (c .before .before .before .before .before .before .slice-known .given) j .fits) (a .i) (c .before .before .before .before .before .before .before .pre .1))),

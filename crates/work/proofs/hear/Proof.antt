@@ -20,8 +20,8 @@ actor-requires c κs = search needs
 read-requires : tie.Need-read-requires
 read-requires c κs = search needs
 
-displace-all-requires : tie.Need-displace-all-requires
-displace-all-requires c κs = search needs
+sweep-requires : tie.Need-sweep-requires
+sweep-requires c κs = search needs
 
 finish-requires : tie.Need-finish-requires
 finish-requires c κs = search needs
@@ -30,11 +30,11 @@ same-length : tie.Need-same-length
 same-length c = search needs
 
 returns : tie.Need-returns
-unfolding afterHeard
+unfolding afterHeard displaced
 returns c =
     let i = (c .before .before .before .before .before .before .before .before .before .before .before .before .before .before .before .before .args .i) in
     let first = (c .before .before .before .before .before .before .before .before .before .before .before .before .hear-at .ensures) in
-    let second = (c .before .before .before .before .before .before .displace-all .ensures) in
+    let second = (c .before .before .before .before .before .before .sweep .ensures) in
     let third = (c .before .before .finish .ensures) in
     let a : _≡_ {A = Block} _ _ = c .before .before .before .before .before .before .before .read .ensures ∙ ap blockOf (c .before .before .before .before .before .before .before .before .actor .ensures .0) in
     made-of
@@ -45,4 +45,4 @@ returns c =
 pub hear-spec : {M : Type 1} → statement M
 hear-spec =
     tie.close
-    (tie.spec hear-at-requires actor-requires read-requires displace-all-requires finish-requires same-length returns)
+    (tie.spec hear-at-requires actor-requires read-requires sweep-requires finish-requires same-length returns)

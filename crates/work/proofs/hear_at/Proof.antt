@@ -5,7 +5,7 @@ use Rattle.frame.specs.Block.{blockOf}
 use Rattle.frame.specs.Wire.{actorPart, partnerPart}
 use Rattle.table.specs.Table.{countIn, portAt}
 use Rattle.table.proofs.TableLaws.{in-range}
-use Rattle.trunk.proofs.TableWork.{room, ranged-at, stored}
+use Rattle.trunk.proofs.TableWork.{lies, ranged-at, stored}
 use Rattle.work.specs.Work.{ours, heardAt}
 use Rattle.work.proofs.RangeWork.{part-fits, received-ranged}
 use Rattle.work.proofs.WorkLaws.{below-most}
@@ -14,13 +14,13 @@ use Rattle.work.proofs.hear_at.Statement.{statement}
 use Rattle.work.proofs.hear_at.Tie as tie
 
 read-header-requires : tie.Need-read-header-requires
-read-header-requires c κs = in-range _ (c .before .before .before .pre .0) .header
+read-header-requires c κs = in-range _ (c .before .before .before .pre .0 .0) .header
 
 load-requires : tie.Need-load-requires
-load-requires c κs = room _ (c .before .before .before .before .before .before .pre .0) (c .before .before .before .before .before .before .args .i) (c .before .before .before .before .before .before .pre .1)
+load-requires c κs = lies _ _ (c .before .before .before .before .before .before .pre .0)
 
 number-of-requires : tie.Need-number-of-requires
-number-of-requires c κs = below-most _ (c .before .before .before .before .before .before .before .pre .0) (c .before .before .before .before .before .before .before .args .i) (c .before .before .before .before .before .before .before .pre .1)
+number-of-requires c κs = below-most _ (c .before .before .before .before .before .before .before .pre .0 .0) (c .before .before .before .before .before .before .before .args .i) (c .before .before .before .before .before .before .before .pre .0 .1)
 
 actor-requires : tie.Need-actor-requires
 actor-requires c κs = search needs
@@ -32,7 +32,7 @@ receive-lacpdu-requires : tie.Need-receive-lacpdu-requires
 receive-lacpdu-requires c κs = search needs
 
 store-requires : tie.Need-store-requires
-store-requires c κs = room _ (c .before .before .before .before .before .before .before .before .before .before .before .before .pre .0) (c .before .before .before .before .before .before .before .before .before .before .before .before .args .i) (c .before .before .before .before .before .before .before .before .before .before .before .before .pre .1)
+store-requires c κs = lies _ _ (c .before .before .before .before .before .before .before .before .before .before .before .before .pre .0)
 
 same-length : tie.Need-same-length
 same-length c = search needs
@@ -43,13 +43,13 @@ returns c =
     let a = (c .before .before .before .before .before .before .before .before .before .before .before .before .before .before .before .args) in
     let t = now (a .table) in
     let l = now (a .frame) in
-    let h = (c .before .before .before .before .before .before .before .before .before .before .before .before .before .before .before .pre .1) in
+    let h = (c .before .before .before .before .before .before .before .before .before .before .before .before .before .before .before .pre .0 .1) in
     let fit =
     received-ranged (countIn t) (ours t) (a .i + 1) (blockOf (actorPart l)) (blockOf (partnerPart l)) (portAt t (a .i))
     (part-fits 18 33 l (λ j. (c .before .before .before .before .before .before .before .before .before .before .before .before .before .shared-slice-known .given) j .fits))
-    (ranged-at t (c .before .before .before .before .before .before .before .before .before .before .before .before .before .before .before .pre .0) (λ j. (c .before .before .before .before .before .before .before .before .before .before .before .before .before .before .slice-known .given) j .fits) (a .i) h) in
+    (ranged-at t (c .before .before .before .before .before .before .before .before .before .before .before .before .before .before .before .pre .0 .0) (λ j. (c .before .before .before .before .before .before .before .before .before .before .before .before .before .before .slice-known .given) j .fits) (a .i) h) in
     rw (c .before .before .store .ensures, c .before .before .before .before .receive-lacpdu .ensures, c .before .before .before .before .before .partner .ensures .0, c .before .before .before .before .before .before .actor .ensures .0, c .before .before .before .before .before .before .before .number-of .ensures, c .before .before .before .before .before .before .before .before .load .ensures, c .before .before .before .before .before .before .before .before .before .before .before .read-header .ensures)
-    (stored t (a .i) (heardAt t (a .i) l) (c .before .before .before .before .before .before .before .before .before .before .before .before .before .before .before .pre .0) h fit)
+    (stored t (a .i) (heardAt t (a .i) l) (c .before .before .before .before .before .before .before .before .before .before .before .before .before .before .before .pre .0 .0) h fit)
 
 pub hear-at-spec : {M : Type 1} → statement M
 hear-at-spec =

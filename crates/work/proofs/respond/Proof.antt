@@ -1,12 +1,12 @@
 -- `work::respond` meets its contract: the Response goes out with the port's own address. Assumes nothing.
-use Rattle.trunk.proofs.TableWork.{room}
+use Rattle.trunk.proofs.TableWork.{lies}
 use Rattle.work.specs.Work.{responseOf}
 use borrow.Author.Needs.{needs}
 use Rattle.work.proofs.respond.Statement.{statement}
 use Rattle.work.proofs.respond.Tie as tie
 
 load-requires : tie.Need-load-requires
-load-requires c κs = room _ (c .before .before .before .pre .0) (c .before .before .before .args .i) (c .before .before .before .pre .1)
+load-requires c κs = lies _ _ (c .before .before .before .pre .0)
 
 write-response-requires : tie.Need-write-response-requires
 write-response-requires c κs = search needs

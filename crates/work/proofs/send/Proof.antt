@@ -4,7 +4,7 @@ use lib.ListN.{set}
 use Rattle.port.specs.Transmit.{sent}
 use Rattle.table.specs.Table.{countIn, portAt, ports}
 use Rattle.trunk.specs.Worked.{Worked}
-use Rattle.trunk.proofs.TableWork.{room, ranged-at, stored}
+use Rattle.trunk.proofs.TableWork.{lies, ranged-at, stored}
 use Rattle.work.specs.Work.{afterSend}
 use Rattle.work.proofs.RangeWork.{sent-ranged}
 use Rattle.work.proofs.WorkLaws.{made-of}
@@ -16,13 +16,13 @@ write-due-requires : tie.Need-write-due-requires
 write-due-requires c κs = search needs
 
 load-requires : tie.Need-load-requires
-load-requires c κs = room _ (c .before .before .before .before .before .before .before .before .pre .0) (c .before .before .before .before .before .before .before .before .args .i) (c .before .before .before .before .before .before .before .before .pre .1)
+load-requires c κs = lies _ _ (c .before .before .before .before .before .before .before .before .pre .0)
 
 sent-requires : tie.Need-sent-requires
 sent-requires c κs = search needs
 
 store-requires : tie.Need-store-requires
-store-requires c κs = room _ (c .before .before .before .before .before .before .before .before .before .before .before .pre .0) (c .before .before .before .before .before .before .before .before .before .before .before .args .i) (c .before .before .before .before .before .before .before .before .before .before .before .pre .1)
+store-requires c κs = lies _ _ (c .before .before .before .before .before .before .before .before .before .before .before .pre .0)
 
 same-length : tie.Need-same-length
 same-length c = search needs
@@ -35,8 +35,8 @@ unfolding afterSend
 returns c =
     let a = (c .before .before .before .before .before .before .before .before .before .before .before .before .before .before .args) in
     let t = now (a .table) in
-    let e = (c .before .before .before .before .before .before .before .before .before .before .before .before .before .before .pre .0) in
-    let h = (c .before .before .before .before .before .before .before .before .before .before .before .before .before .before .pre .1) in
+    let e = (c .before .before .before .before .before .before .before .before .before .before .before .before .before .before .pre .0 .0) in
+    let h = (c .before .before .before .before .before .before .before .before .before .before .before .before .before .before .pre .0 .1) in
     let p = portAt t (a .i) in
     let fit = sent-ranged (countIn t) p (ranged-at t e (λ j. (c .before .before .before .before .before .before .before .before .before .before .before .before .before .slice-known .given) j .fits) (a .i) h) in
     let put : Worked t (c .before .before .store .last .0) (set (ports t) (a .i) (sent p)) =

@@ -5,7 +5,7 @@ use denote.Ref.{now}
 use Rattle.machine.specs.States.{sameLine}
 use Rattle.port.specs.declared.record.Port.{Port}
 use Rattle.table.specs.Table.{countIn, portAt}
-use Rattle.trunk.proofs.TableWork.{room, ranged-at}
+use Rattle.trunk.proofs.TableWork.{lies, ranged-at}
 use Rattle.work.specs.Work.{afterLine}
 use Rattle.work.proofs.RangeWork.{lined-ranged}
 use borrow.Author.Needs.{needs}
@@ -13,7 +13,7 @@ use Rattle.work.proofs.set_line.Statement.{statement}
 use Rattle.work.proofs.set_line.Tie as tie
 
 load-requires : tie.Need-load-requires
-load-requires c κs = room _ (c .before .before .pre .0) (c .before .before .args .i) (c .before .before .pre .1)
+load-requires c κs = lies _ _ (c .before .before .pre)
 
 same-requires : tie.Need-same-requires
 same-requires c κs = search needs
@@ -36,8 +36,7 @@ change-requires : tie.Need-change-requires
 change-requires c κs =
     let a = (c .before .before .before .before .before .before .before .before .args) in
     let t = now (a .table) in (
-      c .before .before .before .before .before .before .before .before .pre .0,
-      c .before .before .before .before .before .before .before .before .pre .1,
+      c .before .before .before .before .before .before .before .before .pre,
       rw (c .set-line .ensures, c .before .before .before .before .before .load .ensures)
           (lined-ranged (countIn t) (a .line) (portAt t (a .i)) (ranged-at t (c .before .before .before .before .before .before .before .before .pre .0) (λ j. (c .before .before .before .before .before .before .before .slice-known .given) j .fits) (a .i) (c .before .before .before .before .before .before .before .before .pre .1))),
     )

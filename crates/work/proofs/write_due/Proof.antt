@@ -1,6 +1,6 @@
 -- `work::write_due` meets its contract: header and record are read, and the LACPDU is written from them. Assumes nothing.
 use Rattle.table.proofs.TableLaws.{in-range}
-use Rattle.trunk.proofs.TableWork.{room}
+use Rattle.trunk.proofs.TableWork.{lies}
 use Rattle.work.specs.Work.{lacpduOf}
 use Rattle.work.proofs.WorkLaws.{below-most}
 use borrow.Author.Needs.{needs}
@@ -8,13 +8,13 @@ use Rattle.work.proofs.write_due.Statement.{statement}
 use Rattle.work.proofs.write_due.Tie as tie
 
 read-header-requires : tie.Need-read-header-requires
-read-header-requires c κs = in-range _ (c .before .before .pre .0) .header
+read-header-requires c κs = in-range _ (c .before .before .pre .0 .0) .header
 
 load-requires : tie.Need-load-requires
-load-requires c κs = room _ (c .before .before .before .before .before .pre .0) (c .before .before .before .before .before .args .i) (c .before .before .before .before .before .pre .1)
+load-requires c κs = lies _ _ (c .before .before .before .before .before .pre .0)
 
 number-of-requires : tie.Need-number-of-requires
-number-of-requires c κs = below-most _ (c .before .before .before .before .before .before .before .before .pre .0) (c .before .before .before .before .before .before .before .before .args .i) (c .before .before .before .before .before .before .before .before .pre .1)
+number-of-requires c κs = below-most _ (c .before .before .before .before .before .before .before .before .pre .0 .0) (c .before .before .before .before .before .before .before .before .args .i) (c .before .before .before .before .before .before .before .before .pre .0 .1)
 
 actor-block-requires : tie.Need-actor-block-requires
 actor-block-requires c κs = search needs

@@ -9,7 +9,7 @@ use Rattle.frame.specs.declared.block.Block.{Block}
 use Rattle.port.specs.declared.record.Port.{Port}
 use Rattle.port.specs.Receive.{moved}
 use Rattle.table.specs.Table.{countIn, portAt}
-use Rattle.trunk.proofs.TableWork.{room, ranged-at, stored, left-alone}
+use Rattle.trunk.proofs.TableWork.{lies, ranged-at, stored, left-alone}
 use Rattle.trunk.specs.Displaced.{isDisabled, isDisplaced, displacedIf}
 use Rattle.trunk.proofs.RangeKept.{displaced-ranged}
 use borrow.Author.Needs.{needs}
@@ -29,13 +29,13 @@ unfolding isDisplaced
 enabled r a i p e = rw (e, and-false (not (eqb i r)))
 
 phase-requires : tie.Need-phase-requires
-phase-requires c κs = room _ (c .before .before .pre .0) (c .before .before .args .i) (c .before .before .pre .1)
+phase-requires c κs = lies _ _ (c .before .before .pre)
 
 is-disabled-requires : tie.Need-is-disabled-requires
 is-disabled-requires c κs = search needs
 
 load-requires : tie.Need-load-requires
-load-requires c κs = room _ (c .before .before .before .before .before .before .pre .0) (c .before .before .before .before .before .before .args .i) (c .before .before .before .before .before .before .pre .1)
+load-requires c κs = lies _ _ (c .before .before .before .before .before .before .pre)
 
 is-displaced-requires : tie.Need-is-displaced-requires
 is-displaced-requires c κs = search needs
@@ -44,7 +44,7 @@ moved-away-requires : tie.Need-moved-away-requires
 moved-away-requires c κs = search needs
 
 store-requires : tie.Need-store-requires
-store-requires c κs = room _ (c .before .before .before .before .before .before .before .before .before .before .before .pre .0) (c .before .before .before .before .before .before .before .before .before .before .before .args .i) (c .before .before .before .before .before .before .before .before .before .before .before .pre .1)
+store-requires c κs = lies _ _ (c .before .before .before .before .before .before .before .before .before .before .before .pre)
 
 same-length : tie.Need-same-length
 same-length c = search needs

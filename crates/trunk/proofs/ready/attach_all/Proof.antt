@@ -1,16 +1,13 @@
 -- `trunk::ready::attach_all` meets its contract: the loop has done the first i records (`doneTo`), and a turn does the next. Assumes nothing.
 use Prim.Native.Nat.{_≤_, _<_, _-_}
-use mathlib.Core.Path.{_≡_, refl}
+use mathlib.Core.Path.{_≡_, sym}
 use native.Mathlib.Omega.{arith}
 use denote.Ref.{now}
-use Rattle.port.specs.Mux.{attachedIf}
 use Rattle.table.specs.Table.{countIn, ports}
 use Rattle.table.proofs.TableLaws.{in-range}
-use Rattle.trunk.specs.Ready.{ready}
-use Rattle.trunk.specs.Settled.{attachedAll}
+use Rattle.trunk.specs.Settled.{attaching, attachedAll}
 use Rattle.trunk.specs.Worked.{Worked}
-use Rattle.trunk.proofs.SweepLaws.{doneTo, sweep-map}
-use Rattle.trunk.proofs.ReadyLaws.{attaching}
+use Rattle.trunk.proofs.SweepLaws.{doneTo, each, sweep-map}
 use Rattle.trunk.proofs.StepLaws.{still-selected, attach-same}
 use Rattle.trunk.proofs.TableWork.{loop-begins, loop-ends, in-table, turn, said}
 use Rattle.trunk.proofs.ready.attach_all.Statement.{statement}
@@ -18,32 +15,29 @@ use Rattle.trunk.proofs.ready.attach_all.Tie as tie
 
 abbrev Inv-loop : tie.InvT-loop
 Inv-loop table₀ n i₀ table i =
-    (i ≤ n) × (countIn table₀ ≡ n) × Worked table₀ table (doneTo (attaching (ports table₀)) i (ports table₀))
+    (i ≤ n) × (countIn table₀ ≡ n) × Worked table₀ table (doneTo (each (attaching (ports table₀))) i (ports table₀))
 
 abbrev μ-loop : tie.MeasureT-loop
 μ-loop table₀ n i₀ table i = n - i
 
-slice-read-n : tie.Need-slice-read-n Inv-loop μ-loop
-slice-read-n c = let r = in-range _ (c .before .before .pre .0) .header in omega arith
-
-cast-n : tie.Need-cast-n Inv-loop μ-loop
-cast-n c = omega (arith, c .slice-known2 .given 0)
+count-requires : tie.Need-count-requires Inv-loop μ-loop
+count-requires c κs = in-range _ (c .before .before .pre .0) .header
 
 loop-holds : tie.Need-loop-holds Inv-loop μ-loop
 loop-holds c =
-    let t = now (c .before .before .args .table) in
-    (omega arith, refl, loop-begins (attaching (ports t)) t (c .before .before .pre .0))
+    let t = now (c .before .before .before .args .table) in
+    (omega arith, sym (c .count .ensures), loop-begins (each (attaching (ports t))) t (c .before .before .before .pre .0))
 
 attach-one-requires : tie.Need-attach-one-requires Inv-loop μ-loop
 attach-one-requires c κs =
     let inv = (c .before .before .loop .inv) in
-    let t = now (c .before .before .before .before .before .args .table) in
+    let t = now (c .before .before .before .before .before .before .args .table) in
     let i = (c .before .before .loop .i) in
     let h : i < countIn t = omega arith in
-    (inv .2 .ranged, in-table (attaching (ports t)) i (inv .2) h, still-selected i (c .before .before .before .before .before .pre .1) (inv .2) h)
+    ((inv .2 .ranged, in-table (each (attaching (ports t))) i (inv .2) h), still-selected i (c .before .before .before .before .before .before .pre .1) (inv .2) h)
 
 add-i : tie.Need-add-i Inv-loop μ-loop
-add-i c = let most = in-range _ (c .before .before .before .before .before .before .before .before .pre .0) .most in omega arith
+add-i c = let most = in-range _ (c .before .before .before .before .before .before .before .before .before .pre .0) .most in omega arith
 
 loop-less : tie.Need-loop-less Inv-loop μ-loop
 loop-less c = omega arith
@@ -52,9 +46,9 @@ loop-again : tie.Need-loop-again Inv-loop μ-loop
 loop-again c =
     let inv = (c .before .before .before .before .before .loop .inv) in
     let i = (c .before .before .before .before .before .loop .i) in
-    let t = now (c .before .before .before .before .before .before .before .before .args .table) in
+    let t = now (c .before .before .before .before .before .before .before .before .before .args .table) in
     let h : i < countIn t = omega arith in
-    (omega arith, inv .1, turn (attaching (ports t)) i (inv .2) h _ (c .before .before .attach-one .ensures) (attach-same i (c .before .before .before .before .before .before .before .before .pre .1) (inv .2) h))
+    (omega arith, inv .1, turn (each (attaching (ports t))) i (inv .2) h _ (c .before .before .attach-one .ensures) (attach-same i (c .before .before .before .before .before .before .before .before .before .pre .1) (inv .2) h))
 
 same-length : tie.Need-same-length Inv-loop μ-loop
 same-length c = (c .before .loop .inv .2 .size)
@@ -63,9 +57,9 @@ returns : tie.Need-returns Inv-loop μ-loop
 unfolding attachedAll
 returns c =
     let inv = (c .before .loop .inv) in
-    let t = now (c .before .before .before .before .args .table) in
+    let t = now (c .before .before .before .before .before .args .table) in
     let end : countIn t ≡ (c .before .loop .i) = omega arith in
-    said (sweep-map (λ p. attachedIf (ready (p .aggregator) (ports t)) p) 0 (ports t)) (loop-ends (attaching (ports t)) (c .before .loop .i) end (inv .2))
+    said (sweep-map (attaching (ports t)) 0 (ports t)) (loop-ends (each (attaching (ports t))) (c .before .loop .i) end (inv .2))
 
 pub attach-all-spec : {M : Type 1} → statement M
 attach-all-spec =
@@ -73,8 +67,7 @@ attach-all-spec =
     (tie.spec
     Inv-loop
     μ-loop
-    slice-read-n
-    cast-n
+    count-requires
     loop-holds
     attach-one-requires
     add-i

@@ -10,22 +10,22 @@ use Rattle.table.proofs.StoreLaws.{ports-length, ports-at}
 use Rattle.trunk.specs.Ready.{heldBack, ready}
 use Rattle.trunk.proofs.RangeKept.{attached-ranged}
 use Rattle.trunk.proofs.StepLaws.{attach-free, attach-held}
-use Rattle.trunk.proofs.TableWork.{room, ranged-at, stored, left-alone}
+use Rattle.trunk.proofs.TableWork.{lies, ranged-at, stored, left-alone}
 use borrow.Author.Needs.{needs}
 use Rattle.trunk.proofs.ready.attach_one.Statement.{statement}
 use Rattle.trunk.proofs.ready.attach_one.Tie as tie
 
 may-attach-requires : tie.Need-may-attach-requires
-may-attach-requires c κs = (c .before .before .pre .0, c .before .before .pre .1)
+may-attach-requires c κs = c .before .before .pre .0
 
 load-requires : tie.Need-load-requires
-load-requires c κs = room _ (c .before .before .before .before .before .pre .0) (c .before .before .before .before .before .args .i) (c .before .before .before .before .before .pre .1)
+load-requires c κs = lies _ _ (c .before .before .before .before .before .pre .0)
 
 attach-requires : tie.Need-attach-requires
 attach-requires c κs = search needs
 
 store-requires : tie.Need-store-requires
-store-requires c κs = room _ (c .before .before .before .before .before .before .before .before .pre .0) (c .before .before .before .before .before .before .before .before .args .i) (c .before .before .before .before .before .before .before .before .pre .1)
+store-requires c κs = lies _ _ (c .before .before .before .before .before .before .before .before .pre .0)
 
 same-length : tie.Need-same-length
 same-length c = search needs
@@ -34,8 +34,8 @@ returns : tie.Need-returns
 returns c =
     let a = (c .before .before .before .before .before .before .before .before .before .before .before .args) in
     let t = now (a .table) in
-    let e = (c .before .before .before .before .before .before .before .before .before .before .before .pre .0) in
-    let h = (c .before .before .before .before .before .before .before .before .before .before .before .pre .1) in
+    let e = (c .before .before .before .before .before .before .before .before .before .before .before .pre .0 .0) in
+    let h = (c .before .before .before .before .before .before .before .before .before .before .before .pre .0 .1) in
     let p = portAt t (a .i) in
     let fit = attached-ranged (countIn t) (ready (p .aggregator) (ports t)) p (ranged-at t e (λ j. (c .before .before .before .before .before .before .before .before .before .before .slice-known .given) j .fits) (a .i) h) in
     let here = ports-at t (a .i) p h in
@@ -52,13 +52,13 @@ returns-2 : tie.Need-returns-2
 returns-2 c =
     let a = (c .before .before .before .before .args) in
     let t = now (a .table) in
-    let h = (c .before .before .before .before .pre .1) in
+    let h = (c .before .before .before .before .pre .0 .1) in
     let p = portAt t (a .i) in
     let here = ports-at t (a .i) p h in
     let told : waits (p .phase .mux) && not (heldBack (p .aggregator) (ports t)) ≡ false = sym (c .before .may-attach .ensures) ∙ c .if1 .left in
     let is : attachedIf (ready (p .aggregator) (ports t)) p ≡ p =
-    rw here at (attach-held (ports t) (a .i) p (rw ports-length h) (rw here (c .before .before .before .before .pre .2)) (rw here told)) in
-    left-alone t (a .i) (attachedIf (ready (p .aggregator) (ports t)) p) (c .before .before .before .before .pre .0) h is
+    rw here at (attach-held (ports t) (a .i) p (rw ports-length h) (rw here (c .before .before .before .before .pre .1)) (rw here told)) in
+    left-alone t (a .i) (attachedIf (ready (p .aggregator) (ports t)) p) (c .before .before .before .before .pre .0 .0) h is
 
 pub attach-one-spec : {M : Type 1} → statement M
 attach-one-spec =

@@ -20,14 +20,11 @@ Inv-loop table k n i₀ i = (i ≤ n) × (countIn table ≡ n) × (heldBack k (p
 abbrev μ-loop : tie.MeasureT-loop
 μ-loop table k n i₀ i = n - i
 
-shared-slice-read-n : tie.Need-shared-slice-read-n Inv-loop μ-loop
-shared-slice-read-n c = let r = in-range _ (c .before .before .pre) .header in omega arith
-
-cast-n : tie.Need-cast-n Inv-loop μ-loop
-cast-n c = omega (arith, c .shared-slice-known2 .given 0)
+count-requires : tie.Need-count-requires Inv-loop μ-loop
+count-requires c κs = in-range _ (c .before .pre) .header
 
 loop-holds : tie.Need-loop-holds Inv-loop μ-loop
-loop-holds c = (omega arith, refl, refl)
+loop-holds c = (omega arith, sym (c .count .ensures), refl)
 
 holds-back-requires : tie.Need-holds-back-requires Inv-loop μ-loop
 holds-back-requires c κs = room _ (c .before .before .before .before .pre) (c .before .loop .i) (omega arith)
@@ -77,8 +74,7 @@ is-held-back-spec =
     (tie.spec
     Inv-loop
     μ-loop
-    shared-slice-read-n
-    cast-n
+    count-requires
     loop-holds
     holds-back-requires
     returns

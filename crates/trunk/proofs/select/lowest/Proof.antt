@@ -23,7 +23,7 @@ loop-holds : tie.Need-loop-holds Inv-loop μ-loop
 loop-holds c = (omega arith, lowest-starts (c .before .args .ours) (map compared (ports (now (c .before .args .table)))) (c .before .args .i))
 
 load-requires : tie.Need-load-requires Inv-loop μ-loop
-load-requires c κs = room (now (c .before .before .before .args .table)) (c .before .before .before .pre .0) (c .before .loop .j) (omega arith)
+load-requires c κs = room (now (c .before .before .before .args .table)) (c .before .before .before .pre .0 .0) (c .before .loop .j) (omega arith)
 
 same-group-requires : tie.Need-same-group-requires Inv-loop μ-loop
 same-group-requires c κs = tt
@@ -35,8 +35,8 @@ returns c =
     let j = (c .before .before .before .before .loop .j) in
     let less : j < a .i = (c .before .before .before .loop-test .taken) in
     let within : j < countIn t = omega arith in
-    let told = joins-at (a .ours) t (a .i) j (c .before .before .before .before .before .before .pre .1) within
-    ∙ sym (rw ((c .before .before .before .before .before .before .pre .2), (c .before .before .load .ensures)) at (c .before .same-group .ensures)) in
+    let told = joins-at (a .ours) t (a .i) j (c .before .before .before .before .before .before .pre .0 .1) within
+    ∙ sym (rw ((c .before .before .before .before .before .before .pre .1), (c .before .before .load .ensures)) at (c .before .same-group .ensures)) in
     (sym ((c .before .before .before .before .loop .inv .1) ∙ first-here _ (a .i) j less (told ∙ (c .if1 .taken))), omega arith)
 
 add-j : tie.Need-add-j Inv-loop μ-loop
@@ -52,8 +52,8 @@ loop-again c =
     let j = (c .before .before .before .before .loop .j) in
     let less : j < a .i = (c .before .before .before .loop-test .taken) in
     let within : j < countIn t = omega arith in
-    let told = joins-at (a .ours) t (a .i) j (c .before .before .before .before .before .before .pre .1) within
-    ∙ sym (rw ((c .before .before .before .before .before .before .pre .2), (c .before .before .load .ensures)) at (c .before .same-group .ensures)) in
+    let told = joins-at (a .ours) t (a .i) j (c .before .before .before .before .before .before .pre .0 .1) within
+    ∙ sym (rw ((c .before .before .before .before .before .before .pre .1), (c .before .before .load .ensures)) at (c .before .same-group .ensures)) in
     (omega arith, (c .before .before .before .before .loop .inv .1) ∙ first-further _ (a .i) j less (told ∙ (c .if1 .left)))
 
 returns-2 : tie.Need-returns-2 Inv-loop μ-loop

@@ -16,16 +16,16 @@ use Rattle.trunk.specs.Selection.{lowest, ruleOf}
 use Rattle.trunk.specs.Settled.{mustMove, reselected}
 use Rattle.trunk.proofs.RangeKept.{reselected-ranged}
 use Rattle.trunk.proofs.SelectLaws.{reselected-moves, reselected-unmoved}
-use Rattle.trunk.proofs.TableWork.{room, ranged-at, stored, left-alone}
+use Rattle.trunk.proofs.TableWork.{lies, ranged-at, stored, left-alone}
 use borrow.Author.Needs.{needs}
 use Rattle.trunk.proofs.select.select_one.Statement.{statement}
 use Rattle.trunk.proofs.select.select_one.Tie as tie
 
 load-requires : tie.Need-load-requires
-load-requires c κs = room _ (c .before .before .pre .0) (c .before .before .args .i) (c .before .before .pre .1)
+load-requires c κs = lies _ _ (c .before .before .pre)
 
 lowest-requires : tie.Need-lowest-requires
-lowest-requires c κs = (c .before .before .before .before .pre .0, c .before .before .before .before .pre .1, c .before .load .ensures)
+lowest-requires c κs = (c .before .before .before .before .pre, c .before .load .ensures)
 
 add-k : tie.Need-add-k
 add-k c = let most = in-range _ (c .before .before .before .before .before .pre .0) .most in omega arith
@@ -43,7 +43,7 @@ place-requires : tie.Need-place-requires
 place-requires c κs = search needs
 
 store-requires : tie.Need-store-requires
-store-requires c κs = room _ (c .before .before .before .before .before .before .before .before .before .before .pre .0) (c .before .before .before .before .before .before .before .before .before .before .args .i) (c .before .before .before .before .before .before .before .before .before .before .pre .1)
+store-requires c κs = lies _ _ (c .before .before .before .before .before .before .before .before .before .before .pre)
 
 same-length : tie.Need-same-length
 same-length c = search needs

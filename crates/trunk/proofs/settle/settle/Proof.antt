@@ -8,6 +8,7 @@ use Rattle.table.specs.declared.layout.Header.{Header}
 use Rattle.table.specs.Table.{ports}
 use Rattle.table.proofs.TableLaws.{in-range}
 use Rattle.trunk.specs.Settled.{selectedAll, attachedAll, climbed, settled}
+use Rattle.trunk.proofs.SweepLaws.{sweep-map}
 use Rattle.trunk.proofs.StepLaws.{all-selected}
 use Rattle.trunk.proofs.TableWork.{then, said}
 use borrow.Author.Needs.{needs}
@@ -25,8 +26,8 @@ attach-all-requires c κs =
     let chosen = (c .before .before .before .select-all .ensures) in
     (chosen .ranged, rw (chosen .records) (all-selected _ (ports (now (c .before .before .before .before .before .before .before .before .before .args .table)))))
 
-climb-all-requires : tie.Need-climb-all-requires
-climb-all-requires c κs = search needs
+sweep-requires : tie.Need-sweep-requires
+sweep-requires c κs = search needs
 
 same-length : tie.Need-same-length
 same-length c = search needs
@@ -36,7 +37,7 @@ unfolding settled
 returns c =
     let first = (c .before .before .before .before .before .before .before .before .before .before .select-all .ensures) in
     let second = (c .before .before .before .before .before .before .attach-all .ensures) in
-    let third = (c .before .before .climb-all .ensures) in
+    let third = said (sweep-map climbed 0 _) (c .before .before .sweep .ensures) in
     let ps = ports (now (c .before .before .before .before .before .before .before .before .before .before .before .before .before .before .before .before .args .table)) in
     let ours : _ ≡ _ = ap (λ (h : Header). h .system) (c .before .before .before .before .before .before .before .before .before .before .before .before .before .read-header .ensures) in
     said
@@ -50,6 +51,6 @@ settle-spec =
     read-header-requires
     select-all-requires
     attach-all-requires
-    climb-all-requires
+    sweep-requires
     same-length
     returns)
