@@ -25,7 +25,7 @@ use Rattle.table.specs.Table.{countIn, portAt, ports}
 use Rattle.table.proofs.StoreLaws.{ports-at}
 use Rattle.trunk.specs.Selection.{ruleOf}
 use Rattle.trunk.specs.Ready.{ready}
-use Rattle.trunk.specs.Settled.{settled}
+use Rattle.trunk.specs.Settled.{settled, Chosen}
 use Rattle.trunk.proofs.TableWork.{map-at}
 use Rattle.trunk.proofs.GroupLaws.{together, rule-apart}
 use Rattle.work.specs.Work.{ours, worked}
@@ -71,9 +71,9 @@ stays-earned Distributing false coll d e = absurd (entering e)
     entering : Enter Collecting ≡ Stay → ⊥
     entering x = false≢true (ap is-stay x)
 
-port-earned : (p : Port) → p .phase .selected ≡ Selected → muxChoice false p ≡ Stay → distributes (p .phase .mux) ≡ true
+port-earned : (p : Port) → Chosen p → muxChoice false p ≡ Stay → distributes (p .phase .mux) ≡ true
     → (p .partner .state .synchronization ≡ true) × (p .partner .state .collecting ≡ true)
-unfolding muxChoice
+unfolding muxChoice Chosen
 port-earned p s e d =
     let sync = p .partner .state .synchronization in
     let coll = p .partner .state .collecting in

@@ -9,63 +9,34 @@ use lib.Seq.{ext-getD, getD-set-same, getD-set-other, map-set-same}
 use lib.Dec.{eqb}
 use borrow.Author.Tests.{eqb-true, eqb-false}
 use Rattle.frame.specs.declared.block.SystemId.{SystemId}
-use Rattle.machine.specs.declared.states.Mux.{Mux}
-use Rattle.machine.specs.declared.states.Mux.the-variants.{Detached, Waiting, Attached, Collecting, Distributing}
-use Rattle.machine.specs.declared.states.Selection.{Selection}
-use Rattle.machine.specs.declared.states.Selection.the-variants.{Selected}
 use Rattle.machine.specs.declared.mux.MuxStep.the-variants.{Stay}
-use Rattle.machine.specs.Mux.{muxNext, waits}
+use Rattle.machine.specs.Mux.{waits}
 use Rattle.port.specs.declared.record.Port.{Port}
 use Rattle.port.specs.Record.{withNtt}
 use Rattle.port.specs.Compared.{Compared, compared}
-use Rattle.port.specs.Mux.{muxTaken, muxChoice, muxStep, muxRun, attachedIf}
+use Rattle.port.specs.Mux.{muxChoice, muxStep, muxRun, attachedIf}
 use Rattle.port.specs.Transmit.{silent, quieted, sent}
-use Rattle.port.proofs.MuxLaws.{mux-rests, mux-idle, mux-keeps}
+use Rattle.port.proofs.MuxLaws.{mux-idle}
 use Rattle.port.proofs.TransmitLaws.{quieted-keeps, quieted-twice, besideSends}
 use Rattle.table.specs.Record.{decoded}
 use Rattle.trunk.specs.Selection.{ruleOf}
 use Rattle.trunk.specs.Ready.{waitsFor, hasWaiting, holdsBack, heldBack, ready}
-use Rattle.trunk.specs.Settled.{selectedAll, attachedAll, climbed, settled}
+use Rattle.trunk.specs.Settled.{selectedAll, attachedAll, climbed, settled, Chosen}
 use Rattle.trunk.proofs.TableWork.{map-at}
 use Rattle.trunk.proofs.ReadyLaws.{attached-other, attached-stays}
-use Rattle.trunk.proofs.SettledLaws.{reselected-stays, attached-holds, attached-length, attached-at, selected-length, selected-at, settled-at, settled-chosen, settled-rule}
-use Rattle.trunk.proofs.RestLaws.{climbed-twice, none-ready}
+use Rattle.trunk.proofs.SettledLaws.{chosen-kept, reselected-stays, attached-holds, attached-length, attached-at, selected-length, selected-at, settled-at, settled-chosen, settled-rule}
+use Rattle.trunk.proofs.RestLaws.{rest-chooses, chosen-rests, climbed-twice, none-ready}
 
 -- ---- one port in step 6
-
-no-loop : (m : Mux) (sync coll : Bool) (p : Port) → p .phase .mux ≡ m → muxTaken (muxNext m Selected false sync coll) p ≡ p
-    → muxNext m Selected false sync coll ≡ Stay
-no-loop Detached sync coll p h e = let x : Waiting ≡ Detached = ap (λ (q : Port). q .phase .mux) e ∙ h in cc
-no-loop Waiting sync coll p h e = refl
-no-loop Attached true coll p h e = let x : Collecting ≡ Attached = ap (λ (q : Port). q .phase .mux) e ∙ h in cc
-no-loop Attached false coll p h e = refl
-no-loop Collecting true true p h e = let x : Distributing ≡ Collecting = ap (λ (q : Port). q .phase .mux) e ∙ h in cc
-no-loop Collecting true false p h e = refl
-no-loop Collecting false coll p h e = let x : Attached ≡ Collecting = ap (λ (q : Port). q .phase .mux) e ∙ h in cc
-no-loop Distributing true true p h e = refl
-no-loop Distributing true false p h e = let x : Collecting ≡ Distributing = ap (λ (q : Port). q .phase .mux) e ∙ h in cc
-no-loop Distributing false coll p h e = let x : Collecting ≡ Distributing = ap (λ (q : Port). q .phase .mux) e ∙ h in cc
-
-step-stays : (p : Port) → p .phase .selected ≡ Selected → muxStep false p ≡ p → muxChoice false p ≡ Stay
-unfolding muxStep muxChoice
-step-stays p s e =
-    let sync = p .partner .state .synchronization in
-    let coll = p .partner .state .collecting in
-    let taken : muxTaken (muxNext (p .phase .mux) Selected false sync coll) p ≡ p =
-    ap (λ (t : Selection). muxTaken (muxNext (p .phase .mux) t false sync coll) p) (sym s) ∙ e in
-    rw s (no-loop (p .phase .mux) sync coll p refl taken)
 
 quieted-chooses : (p : Port) → muxChoice false (quieted p) ≡ muxChoice false p
 unfolding muxChoice
 quieted-chooses p = ap (λ (x : Port). muxChoice false x) (quieted-keeps p)
 
 -- where step 6 changes nothing, the mux machine stays and NTT is clear where it is to be
-pub climbed-stays : (p : Port) → p .phase .selected ≡ Selected → climbed p ≡ p → muxChoice false p ≡ Stay
+pub climbed-stays : (p : Port) → Chosen p → climbed p ≡ p → muxChoice false p ≡ Stay
 unfolding climbed
-climbed-stays p s e =
-    let y = muxRun p in
-    let t : y .phase .selected ≡ Selected = ap (λ (x : Port). x .phase .selected) (mux-keeps p) ∙ s in
-    ap (muxChoice false) (sym e) ∙ quieted-chooses y ∙ step-stays y t (mux-rests p s)
+climbed-stays p s e = ap (muxChoice false) (sym e) ∙ quieted-chooses (muxRun p) ∙ rest-chooses (muxRun p) (chosen-rests p s)
 
 pub climbed-quiet : (p : Port) → climbed p ≡ p → quieted p ≡ p
 unfolding climbed
@@ -81,7 +52,7 @@ climbed-is p c q = ap quieted (mux-idle p (stays p c)) ∙ q
 -- ---- one port in all of them: k is what the rule gives it, r what Ready says of each aggregator
 
 pub record Firm (k : ℕ) (r : ℕ → Bool) (p : Port) : Type 0 where
-  pub chosen : p .phase .selected ≡ Selected
+  pub chosen : Chosen p
   pub rule : p .aggregator ≡ k
   pub unready : waits (p .phase .mux) ≡ true → r (p .aggregator) ≡ false
   pub stays : muxChoice false p ≡ Stay
@@ -105,7 +76,7 @@ module _ (ours : SystemId) (ps : List Port) where
       p : Port
       p = getD ps i d
 
-      chosen : p .phase .selected ≡ Selected
+      chosen : Chosen p
       chosen = rw e at (settled-chosen ours ps i d h)
 
       rule : p .aggregator ≡ ruleOf ours (map compared ps) i
@@ -121,7 +92,7 @@ module _ (ours : SystemId) (ps : List Port) where
       from = ap (λ (l : List Port). getD l i d) (sym e) ∙ settled-at ours ps i d h ∙ ap (λ (x : Port). climbed (attachedIf r x)) same
 
       top : climbed p ≡ p
-      top = ap climbed from ∙ climbed-twice (attachedIf r p) (attached-holds r p .0 ∙ chosen) ∙ sym from
+      top = ap climbed from ∙ climbed-twice (attachedIf r p) (chosen-kept p (attachedIf r p) (attached-holds r p .0) chosen) ∙ sym from
 
   module _ (f : Settles ours ps) where
     selected-same : selectedAll ours ps ≡ ps
@@ -173,7 +144,7 @@ sent-chooses p = refl
 sent-firm : (k : ℕ) (r : ℕ → Bool) (p : Port) → Firm k r p → Firm k r (sent p)
 unfolding sent
 sent-firm k r p f = record {
-  chosen = f .chosen;
+  chosen = chosen-kept p (sent p) refl (f .chosen);
   rule = f .rule;
   unready = f .unready;
   stays = sent-chooses p ∙ f .stays;

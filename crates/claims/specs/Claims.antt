@@ -4,12 +4,12 @@ use mathlib.Core.Path.{_≡_}
 use mathlib.Core.Bool.{Bool, true, false}
 use mathlib.Core.List.{List, map}
 use mathlib.Core.Logic.{_≢_}
-use Rattle.machine.specs.declared.states.Selection.the-variants.{Selected}
 use Rattle.machine.specs.Mux.{isAttached, distributes}
 use Rattle.port.specs.Compared.{compared}
 use Rattle.port.specs.Receive.{receiveRun}
 use Rattle.table.specs.Table.{countIn, ports, portAt}
 use Rattle.trunk.specs.Selection.{sharesGroup, ruleOf}
+use Rattle.trunk.specs.Settled.{Chosen}
 use Rattle.work.specs.Work.{ours, worked}
 use Rattle.control.specs.declared.answer.Answer.the-variants.{Refused}
 use Rattle.control.specs.declared.answer.Reason.{Reason}
@@ -49,7 +49,7 @@ RefusalsSilent = (t : List ℕ) (c : Call) (r : Reason) → answer c t ≡ Refus
 -- 1: every port holds what the selection rule gives afresh, and is SELECTED
 pub record Ruled (t : List ℕ) (i : ℕ) : Type 0 where
   pub holds : portAt t i .aggregator ≡ ruleOf (ours t) (map compared (ports t)) i
-  pub selected : portAt t i .phase .selected ≡ Selected
+  pub selected : Chosen (portAt t i)
 
 abbrev pub RuleAfresh : Type 0
 RuleAfresh = (t : List ℕ) → Made t → (i : ℕ) → i < countIn t → Ruled t i

@@ -18,7 +18,7 @@ use Rattle.port.specs.declared.record.Port.{Port}
 use Rattle.port.specs.Record.{withAggregator, withWait, withMux, withSelected}
 use Rattle.port.specs.Mux.{muxEntered, muxTaken, muxChoice, muxStep, attachedIf}
 use Rattle.trunk.specs.Ready.{waitsFor, hasWaiting, holdsBack, heldBack, ready}
-use Rattle.trunk.specs.Settled.{mapFrom, attaching}
+use Rattle.trunk.specs.Settled.{mapFrom, attaching, Chosen}
 use Rattle.trunk.proofs.SweepLaws.{below, doneTo, each, done-length, done-next}
 
 -- ---- one port
@@ -36,13 +36,13 @@ unfolding attachedIf
 attached-other r p e = rw e
 
 -- a waiting SELECTED port of an aggregator that is not Ready is left alone
-pub attached-stays : (p : Port) → waits (p .phase .mux) ≡ true → p .phase .selected ≡ Selected → attachedIf false p ≡ p
-unfolding attachedIf muxStep muxChoice
+pub attached-stays : (p : Port) → waits (p .phase .mux) ≡ true → Chosen p → attachedIf false p ≡ p
+unfolding attachedIf muxStep muxChoice Chosen
 attached-stays p w s = rw (w, waits-waiting (p .phase .mux) w, s)
 
 -- one of a Ready aggregator enters ATTACHED
-pub attached-enters : (p : Port) → waits (p .phase .mux) ≡ true → p .phase .selected ≡ Selected → attachedIf true p ≡ muxEntered Attached p
-unfolding attachedIf muxStep muxChoice
+pub attached-enters : (p : Port) → waits (p .phase .mux) ≡ true → Chosen p → attachedIf true p ≡ muxEntered Attached p
+unfolding attachedIf muxStep muxChoice Chosen
 attached-enters p w s = rw (w, waits-waiting (p .phase .mux) w, s)
 
 and-false : (a : Bool) → a && false ≡ false
@@ -114,7 +114,7 @@ ready-free k ps e = by (hasWaiting k ps) e
 module _ (ps : List Port) (d : Port) where
   -- attaching a SELECTED member changes nothing in who is held back. (An UNSELECTED one that waits with its timer running would leave
   -- WAITING and hold nothing back any more.)
-  pub holds-kept : (k i : ℕ) → i < length ps → getD ps i d .phase .selected ≡ Selected
+  pub holds-kept : (k i : ℕ) → i < length ps → Chosen (getD ps i d)
       → holdsBack k (attachedIf (ready (getD ps i d .aggregator) ps) (getD ps i d)) ≡ holdsBack k (getD ps i d)
   holds-kept k i h s = by (waits (p .phase .mux)) (ready (p .aggregator) ps) refl refl
     where
@@ -128,7 +128,7 @@ module _ (ps : List Port) (d : Port) where
           rw x (ap (holdsBack k) (attached-enters p e s) ∙ attached-free k p
           ∙ sym (holds-own k p (none-holds (p .aggregator) ps i d h (ready-free (p .aggregator) ps x))))
 
-  module _ (chosen : (j : ℕ) → j < length ps → getD ps j d .phase .selected ≡ Selected) where
+  module _ (chosen : (j : ℕ) → j < length ps → Chosen (getD ps j d)) where
     -- nor do the first i of them
     pub held-meanwhile : (k i : ℕ) → heldBack k (doneTo (each (attaching ps)) i ps) ≡ heldBack k ps
     held-meanwhile k i = held-sweep k (below (each (attaching ps)) i) 0 ps d (λ j h. by j h (ltb (0 + j) i))

@@ -26,10 +26,10 @@ use Rattle.port.proofs.MuxLaws.{mux-rests, mux-idle, mux-step-keeps}
 use Rattle.port.proofs.TransmitLaws.{quieted-keeps, quieted-twice}
 use Rattle.trunk.specs.Selection.{ruleOf}
 use Rattle.trunk.specs.Ready.{waitsFor, hasWaiting, holdsBack, heldBack, ready}
-use Rattle.trunk.specs.Settled.{mapFrom, selectedAll, attachedAll, climbed, settled}
+use Rattle.trunk.specs.Settled.{mapFrom, selectedAll, attachedAll, climbed, settled, Chosen}
 use Rattle.trunk.proofs.TableWork.{map-at}
 use Rattle.trunk.proofs.ReadyLaws.{waits-waiting, attached-other, attached-stays, attached-enters, some-waits, waits-own, holds-kept}
-use Rattle.trunk.proofs.SettledLaws.{reselected-stays, attached-holds, climbed-holds, attached-length, attached-at, selected-length, selected-at, selected-chosen, settled-length, settled-from, settled-chosen, settled-rule}
+use Rattle.trunk.proofs.SettledLaws.{chosen-kept, reselected-stays, attached-holds, climbed-holds, attached-length, attached-at, selected-length, selected-at, selected-chosen, settled-length, settled-from, settled-chosen, settled-rule}
 
 -- ---- one port at rest
 
@@ -54,7 +54,7 @@ no-loop Distributing Selected ready true false p h e = let x : Collecting ≡ Di
 no-loop Distributing Selected ready false coll p h e = let x : Collecting ≡ Distributing = ap (λ (q : Port). q .phase .mux) e ∙ h in cc
 
 -- a port at rest takes no step
-rest-chooses : (p : Port) → muxStep false p ≡ p → muxChoice false p ≡ Stay
+pub rest-chooses : (p : Port) → muxStep false p ≡ p → muxChoice false p ≡ Stay
 unfolding muxStep muxChoice
 rest-chooses p e =
     no-loop (p .phase .mux) (p .phase .selected) false (p .partner .state .synchronization) (p .partner .state .collecting) p refl e
@@ -69,23 +69,28 @@ quieted-rests : (p : Port) → muxStep false p ≡ p → muxStep false (quieted 
 unfolding quieted
 quieted-rests p e = if-rests (silent p) p (rest-chooses p e)
 
--- on a SELECTED port step 6 done twice is done once
-pub climbed-twice : (p : Port) → p .phase .selected ≡ Selected → climbed (climbed p) ≡ climbed p
+-- a SELECTED port is at rest after the mux machine
+pub chosen-rests : (p : Port) → Chosen p → muxStep false (muxRun p) ≡ muxRun p
+unfolding Chosen
+chosen-rests p s = mux-rests p s
+
+-- and step 6 done twice is done once
+pub climbed-twice : (p : Port) → Chosen p → climbed (climbed p) ≡ climbed p
 unfolding climbed
 climbed-twice p s =
     let y = muxRun p in
-    let rest : muxStep false (quieted y) ≡ quieted y = quieted-rests y (mux-rests p s) in
+    let rest : muxStep false (quieted y) ≡ quieted y = quieted-rests y (chosen-rests p s) in
     ap quieted (mux-idle (quieted y) rest) ∙ quieted-twice y
 
 -- ---- one port in step 6
 
 -- a SELECTED port that waits goes on waiting
-waiting-climbs : (p : Port) → waits (p .phase .mux) ≡ true → p .phase .selected ≡ Selected → climbed p ≡ quieted p
+waiting-climbs : (p : Port) → waits (p .phase .mux) ≡ true → Chosen p → climbed p ≡ quieted p
 unfolding climbed
 waiting-climbs p w s = ap quieted (mux-idle p (stays p w s))
   where
-    stays : (p : Port) → waits (p .phase .mux) ≡ true → p .phase .selected ≡ Selected → muxStep false p ≡ p
-    stays p w s = unfold muxStep muxChoice in rw (waits-waiting (p .phase .mux) w, s)
+    stays : (p : Port) → waits (p .phase .mux) ≡ true → Chosen p → muxStep false p ≡ p
+    stays p w s = unfold muxStep muxChoice Chosen in rw (waits-waiting (p .phase .mux) w, s)
 
 holds-waits : (k : ℕ) (p : Port) → holdsBack k p ≡ true → waits (p .phase .mux) ≡ true
 unfolding holdsBack waitsFor
@@ -97,19 +102,19 @@ unfolding holdsBack waitsFor
 quieted-holds k p = ap (λ (x : Port). holdsBack k x) (quieted-keeps p)
 
 -- one that holds an aggregator back goes on doing so
-pub climbed-back : (k : ℕ) (p : Port) → p .phase .selected ≡ Selected → holdsBack k p ≡ true → holdsBack k (climbed p) ≡ true
+pub climbed-back : (k : ℕ) (p : Port) → Chosen p → holdsBack k p ≡ true → holdsBack k (climbed p) ≡ true
 climbed-back k p s e = ap (holdsBack k) (waiting-climbs p (holds-waits k p e) s) ∙ quieted-holds k p ∙ e
 
 -- one that is detached starts to
-first-step : (p : Port) → p .phase .selected ≡ Selected → p .phase .mux ≡ Detached → muxStep false p ≡ muxEntered Waiting p
-unfolding muxStep muxChoice
+first-step : (p : Port) → Chosen p → p .phase .mux ≡ Detached → muxStep false p ≡ muxEntered Waiting p
+unfolding muxStep muxChoice Chosen
 first-step p s e = rw (e, s)
 
-second-step : (p : Port) → p .phase .selected ≡ Selected → muxStep false (muxEntered Waiting p) ≡ muxEntered Waiting p
-unfolding muxStep muxChoice
+second-step : (p : Port) → Chosen p → muxStep false (muxEntered Waiting p) ≡ muxEntered Waiting p
+unfolding muxStep muxChoice Chosen
 second-step p s = rw s
 
-detached-run : (p : Port) → p .phase .selected ≡ Selected → p .phase .mux ≡ Detached → muxRun p ≡ muxEntered Waiting p
+detached-run : (p : Port) → Chosen p → p .phase .mux ≡ Detached → muxRun p ≡ muxEntered Waiting p
 unfolding muxRun
 detached-run p s e = ap (muxStep false) (first-step p s e) ∙ second-step p s
 
@@ -117,7 +122,7 @@ entered-holds : (p : Port) → holdsBack (p .aggregator) (muxEntered Waiting p) 
 unfolding holdsBack waitsFor
 entered-holds p = rw (eq-eqb (p .aggregator) (p .aggregator) refl)
 
-pub detached-back : (p : Port) → p .phase .selected ≡ Selected → p .phase .mux ≡ Detached → holdsBack (p .aggregator) (climbed p) ≡ true
+pub detached-back : (p : Port) → Chosen p → p .phase .mux ≡ Detached → holdsBack (p .aggregator) (climbed p) ≡ true
 unfolding climbed
 detached-back p s e =
     ap (λ (x : Port). holdsBack (p .aggregator) (quieted x)) (detached-run p s e) ∙ quieted-holds (p .aggregator) (muxEntered Waiting p) ∙ entered-holds p
@@ -136,8 +141,8 @@ taken-attached Distributing true true p h e = rw h
 taken-attached Distributing true false p h e = refl
 taken-attached Distributing false coll p h e = refl
 
-step-attached : (p : Port) → p .phase .selected ≡ Selected → isAttached (p .phase .mux) ≡ true → isAttached (muxStep false p .phase .mux) ≡ true
-unfolding muxStep muxChoice
+step-attached : (p : Port) → Chosen p → isAttached (p .phase .mux) ≡ true → isAttached (muxStep false p .phase .mux) ≡ true
+unfolding muxStep muxChoice Chosen
 step-attached p s e =
     let sync = p .partner .state .synchronization in
     let coll = p .partner .state .collecting in
@@ -151,11 +156,11 @@ attached-waits Attached e = refl
 attached-waits Collecting e = refl
 attached-waits Distributing e = refl
 
-pub attached-climbs : (p : Port) → p .phase .selected ≡ Selected → isAttached (p .phase .mux) ≡ true → waits (climbed p .phase .mux) ≡ false
+pub attached-climbs : (p : Port) → Chosen p → isAttached (p .phase .mux) ≡ true → waits (climbed p .phase .mux) ≡ false
 unfolding climbed muxRun
 attached-climbs p s e =
     let x = muxStep false p in
-    let t : x .phase .selected ≡ Selected = ap (λ (y : Port). y .phase .selected) (mux-step-keeps false p) ∙ s in
+    let t : Chosen x = chosen-kept p x (ap (λ (y : Port). y .phase .selected) (mux-step-keeps false p)) s in
     ap (λ (y : Port). waits (y .phase .mux)) (quieted-keeps (muxStep false x))
     ∙ attached-waits (muxStep false x .phase .mux) (step-attached x t (step-attached p s e))
 
@@ -190,7 +195,7 @@ unready-held : (k : ℕ) (ps : List Port) → hasWaiting k ps ≡ true → ready
 unfolding ready
 unready-held k ps w e = not-false (heldBack k ps) (rw w at e)
 
-module _ (ss : List Port) (d : Port) (chosen : (j : ℕ) → j < length ss → getD ss j d .phase .selected ≡ Selected) where
+module _ (ss : List Port) (d : Port) (chosen : (j : ℕ) → j < length ss → Chosen (getD ss j d)) where
   -- steps 5 and 6 on ports that are all SELECTED
   after : List Port
   after = map climbed (attachedAll ss)
@@ -206,7 +211,8 @@ module _ (ss : List Port) (d : Port) (chosen : (j : ℕ) → j < length ss → g
       held-map k climbed (map f ss) d
       (λ j h x.
       let here : j < length ss = rw (length-map ss f) at h in
-      climbed-back k (getD (map f ss) j d) (rw (map-at f ss j d d here) (attached-holds (ready (getD ss j d .aggregator) ss) (getD ss j d) .0 ∙ chosen j here)) x)
+      climbed-back k (getD (map f ss) j d) (rw (map-at f ss j d d here)
+      (chosen-kept (getD ss j d) (f (getD ss j d)) (attached-holds (ready (getD ss j d .aggregator) ss) (getD ss j d) .0) (chosen j here))) x)
       (held-map k f ss d (λ j h x. holds-kept ss d k j h (chosen j h) ∙ x) e)
     where
       f : Port → Port
@@ -223,9 +229,9 @@ module _ (ss : List Port) (d : Port) (chosen : (j : ℕ) → j < length ss → g
     unfolding after then was
     after-at = map-at climbed (attachedAll ss) i d d (rw (attached-length ss) h) ∙ ap climbed (attached-at ss i d h)
 
-    then-chosen : then .phase .selected ≡ Selected
+    then-chosen : Chosen then
     unfolding then was
-    then-chosen = attached-holds (ready (was .aggregator) ss) was .0 ∙ chosen i h
+    then-chosen = chosen-kept was then (attached-holds (ready (was .aggregator) ss) was .0) (chosen i h)
 
     then-holds : then .aggregator ≡ was .aggregator
     unfolding then
@@ -300,7 +306,8 @@ module _ (ours : SystemId) (ps : List Port) where
         let g : i < length ps = rw (settled-length ours ps) at h in
         let a = getD (attachedAll (selectedAll ours ps)) i d in
         let e : getD qs i d ≡ climbed a = settled-from ours ps i d g in
-        let s : a .phase .selected ≡ Selected = sym (climbed-holds a .0) ∙ sym (ap (λ (x : Port). x .phase .selected) e) ∙ settled-chosen ours ps i d g in
+        let s : Chosen a =
+        chosen-kept (getD qs i d) a (sym (climbed-holds a .0) ∙ sym (ap (λ (x : Port). x .phase .selected) e)) (settled-chosen ours ps i d g) in
         map-at climbed qs i d d h ∙ ap climbed e ∙ climbed-twice a s ∙ sym e)
 
     rest-settled : settled ours (settled ours ps) ≡ settled ours ps

@@ -19,7 +19,7 @@ use Rattle.port.proofs.MuxLaws.{mux-keeps, detached-keeps, placed-keeps, attach
 use Rattle.port.proofs.TransmitLaws.{quieted-keeps}
 use Rattle.trunk.specs.Selection.{sharesGroup, ruleOf}
 use Rattle.trunk.specs.Ready.{ready}
-use Rattle.trunk.specs.Settled.{mapFrom, isUnselected, mustMove, reselected, selecting, selectedAll, attaching, attachedAll, climbed, settled}
+use Rattle.trunk.specs.Settled.{mapFrom, isUnselected, mustMove, reselected, selecting, selectedAll, attaching, attachedAll, climbed, settled, Chosen}
 use Rattle.trunk.proofs.SweepLaws.{doneTo, each, sweep-length, sweep-at, sweep-keeps, sweep-map}
 use Rattle.trunk.proofs.TableWork.{map-at}
 use Rattle.trunk.proofs.KeepLaws.{reselected-compared, attached-compared, climbed-compared}
@@ -28,17 +28,22 @@ use Rattle.trunk.proofs.GroupLaws.{rule-shared, rule-apart}
 
 -- ---- one port
 
+-- what keeps Selected keeps a port as the rule chose
+pub chosen-kept : (p q : Port) → q .phase .selected ≡ p .phase .selected → Chosen p → Chosen q
+unfolding Chosen
+chosen-kept p q e s = e ∙ s
+
 -- a port that stays is SELECTED and holds what the rule gives
 stays-selected : (s : Selection) (b : Bool) → isUnselected s || not b ≡ false → (s ≡ Selected) × (b ≡ true)
 stays-selected Unselected b e = absurd (true≢false e)
 stays-selected Selected b e = (refl, not-false b e)
 
 -- after steps 3 and 4 a port is SELECTED and holds aggregator k
-pub reselected-is : (k : ℕ) (p : Port) → (reselected k p .phase .selected ≡ Selected) × (reselected k p .aggregator ≡ k)
-unfolding reselected mustMove
+pub reselected-is : (k : ℕ) (p : Port) → Chosen (reselected k p) × (reselected k p .aggregator ≡ k)
+unfolding reselected mustMove Chosen
 reselected-is k p = by (mustMove k p) refl
   where
-    by : (b : Bool) → mustMove k p ≡ b → (cond b (placed k (detached p)) p .phase .selected ≡ Selected) × (cond b (placed k (detached p)) p .aggregator ≡ k)
+    by : (b : Bool) → mustMove k p ≡ b → Chosen (cond b (placed k (detached p)) p) × (cond b (placed k (detached p)) p .aggregator ≡ k)
     by true e = (
       ap (λ (x : Port). x .phase .selected) (placed-keeps k (detached p)),
       ap (λ (x : Port). x .aggregator) (placed-keeps k (detached p)),
@@ -48,8 +53,8 @@ reselected-is k p = by (mustMove k p) refl
         (h .0, eqb-true (p .aggregator) k (h .1))
 
 -- such a port is left alone
-pub reselected-stays : (k : ℕ) (p : Port) → p .phase .selected ≡ Selected → p .aggregator ≡ k → reselected k p ≡ p
-unfolding reselected mustMove
+pub reselected-stays : (k : ℕ) (p : Port) → Chosen p → p .aggregator ≡ k → reselected k p ≡ p
+unfolding reselected mustMove Chosen
 reselected-stays k p s e = rw (s, eq-eqb (p .aggregator) k e)
 
 -- steps 5 and 6 keep a port's aggregator and its being SELECTED
@@ -125,18 +130,19 @@ module _ (ours : SystemId) (ps : List Port) where
     settled-at = settled-from ∙ ap climbed (attached-at (selectedAll ours ps) i d (rw selected-length h))
 
     -- after steps 3 and 4 a port is SELECTED and holds what the rule gives
-    pub selected-chosen : getD (selectedAll ours ps) i d .phase .selected ≡ Selected
+    pub selected-chosen : Chosen (getD (selectedAll ours ps) i d)
     selected-chosen = rw selected-at (reselected-is (ruleOf ours (map compared ps) i) (getD ps i d) .0)
 
     pub selected-rule : getD (selectedAll ours ps) i d .aggregator ≡ ruleOf ours (map compared ps) i
     selected-rule = rw selected-at (reselected-is (ruleOf ours (map compared ps) i) (getD ps i d) .1)
 
     -- it still is after all of them
-    pub settled-chosen : getD (settled ours ps) i d .phase .selected ≡ Selected
+    pub settled-chosen : Chosen (getD (settled ours ps) i d)
     settled-chosen =
         let s = getD (selectedAll ours ps) i d in
         let r = ready (s .aggregator) (selectedAll ours ps) in
-        ap (λ (x : Port). x .phase .selected) settled-at ∙ climbed-holds (attachedIf r s) .0 ∙ attached-holds r s .0 ∙ selected-chosen
+        chosen-kept s (getD (settled ours ps) i d)
+        (ap (λ (x : Port). x .phase .selected) settled-at ∙ climbed-holds (attachedIf r s) .0 ∙ attached-holds r s .0) selected-chosen
 
     settled-before : getD (settled ours ps) i d .aggregator ≡ ruleOf ours (map compared ps) i
     settled-before =

@@ -7,14 +7,13 @@ use native.Mathlib.Omega.{arith}
 use lib.ListN.{length, getD, drop}
 use lib.Seq.{drop-cons, drop-length}
 use Rattle.frame.specs.declared.block.SystemId.{SystemId}
-use Rattle.machine.specs.declared.states.Selection.the-variants.{Selected}
 use Rattle.machine.specs.Mux.{waits}
 use Rattle.port.specs.declared.record.Port.{Port}
 use Rattle.port.specs.Mux.{attachedIf}
 use Rattle.table.specs.Table.{countIn, ports, portAt}
 use Rattle.table.proofs.StoreLaws.{ports-length, ports-at}
 use Rattle.trunk.specs.Ready.{hasWaiting, holdsBack, heldBack, ready}
-use Rattle.trunk.specs.Settled.{selectedAll, attaching, AllSelected}
+use Rattle.trunk.specs.Settled.{selectedAll, attaching, Chosen, AllChosen}
 use Rattle.trunk.specs.Worked.{Worked}
 use Rattle.trunk.proofs.SweepLaws.{doneTo, each}
 use Rattle.trunk.proofs.TableWork.{next-is}
@@ -23,8 +22,8 @@ use Rattle.trunk.proofs.ReadyLaws.{attached-other, attached-stays, some
 
 -- ---- every port is SELECTED after step 4
 
-pub all-selected : (ours : SystemId) (ps : List Port) → AllSelected (selectedAll ours ps)
-all-selected ours ps i d h = selected-chosen ours ps i d (rw (selected-length ours ps) at h)
+pub all-chosen : (ours : SystemId) (ps : List Port) → AllChosen (selectedAll ours ps)
+all-chosen ours ps i d h = selected-chosen ours ps i d (rw (selected-length ours ps) at h)
 
 -- ---- is somebody held back: one record at a time
 
@@ -69,7 +68,7 @@ attach-free ps i d h e = by (waits (getD ps i d .phase .mux)) (heldBack (getD ps
     by false b x e = absurd (false≢true e)
 
 -- a SELECTED port that does not wait, or is held back, is left alone
-pub attach-held : (ps : List Port) (i : ℕ) (d : Port) → i < length ps → getD ps i d .phase .selected ≡ Selected
+pub attach-held : (ps : List Port) (i : ℕ) (d : Port) → i < length ps → Chosen (getD ps i d)
     → waits (getD ps i d .phase .mux) && not (heldBack (getD ps i d .aggregator) ps) ≡ false → attaching ps (getD ps i d) ≡ getD ps i d
 attach-held ps i d h s e = by (waits (getD ps i d .phase .mux)) (heldBack (getD ps i d .aggregator) ps) refl refl e
   where
@@ -80,14 +79,14 @@ attach-held ps i d h s e = by (waits (getD ps i d .phase .mux)) (heldBack (getD 
     by true false w x e = absurd (true≢false e)
 
 -- in the partly attached table, port i is still SELECTED
-pub still-selected : {t u : List ℕ} (i : ℕ) → AllSelected (ports t) → Worked t u (doneTo (each (attaching (ports t))) i (ports t)) → i < countIn t
-    → portAt u i .phase .selected ≡ Selected
-still-selected {t} {u} i chosen so-far h =
+pub still-chosen : {t u : List ℕ} (i : ℕ) → AllChosen (ports t) → Worked t u (doneTo (each (attaching (ports t))) i (ports t)) → i < countIn t
+    → Chosen (portAt u i)
+still-chosen {t} {u} i chosen so-far h =
     let here : getD (ports t) i (portAt t i) ≡ portAt t i = ports-at t i (portAt t i) h in
     rw (next-is (each (attaching (ports t))) i so-far h) (rw here at (chosen i (portAt t i) (rw ports-length h)))
 
 -- in the partly attached table, the step of port i is what it was in the whole
-pub attach-same : {t u : List ℕ} (i : ℕ) → AllSelected (ports t) → Worked t u (doneTo (each (attaching (ports t))) i (ports t)) → i < countIn t
+pub attach-same : {t u : List ℕ} (i : ℕ) → AllChosen (ports t) → Worked t u (doneTo (each (attaching (ports t))) i (ports t)) → i < countIn t
     → attaching (ports u) (portAt u i) ≡ attaching (ports t) (portAt t i)
 attach-same {t} {u} i chosen so-far h =
     ap (attaching (ports u)) (next-is (each (attaching (ports t))) i so-far h) ∙ by (waits (p .phase .mux)) refl

@@ -53,6 +53,10 @@ climbed p = quieted (muxRun p)
 unfoldable pub settled : SystemId → List Port → List Port
 settled ours ps = map climbed (attachedAll (selectedAll ours ps))
 
--- every port is SELECTED, as step 4 leaves them
-abbrev pub AllSelected : List Port → Type 0
-AllSelected ps = (i : ℕ) (d : Port) → i < length ps → getD ps i d .phase .selected ≡ Selected
+-- a port is as the rule chose: SELECTED
+unfoldable pub Chosen : Port → Type 0
+Chosen p = p .phase .selected ≡ Selected
+
+-- every port is, as step 4 leaves them
+abbrev pub AllChosen : List Port → Type 0
+AllChosen ps = (i : ℕ) (d : Port) → i < length ps → Chosen (getD ps i d)

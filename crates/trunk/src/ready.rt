@@ -3,12 +3,11 @@ ghost use mathlib.Core.Path.{_≡_};
 ghost use mathlib.Core.Bool.{true, not, _&&_};
 ghost use Prim.Native.Nat.{_+_, _≤_};
 ghost use lib.ListN.{length};
-ghost use Rattle.machine.specs.declared.states.Selection.the-variants.{Selected};
 ghost use Rattle.machine.specs.Mux.{waits};
 ghost use Rattle.table.specs.Layout.{place, recordSize};
 ghost use Rattle.table.specs.Table.{tableInRange, InTable, ports, portAt};
 ghost use Rattle.trunk.specs.Ready.{holdsBack, heldBack};
-ghost use Rattle.trunk.specs.Settled.{AllSelected, attaching, attachedAll};
+ghost use Rattle.trunk.specs.Settled.{Chosen, AllChosen, attaching, attachedAll};
 ghost use Rattle.trunk.specs.Worked.{Worked, Became};
 
 // Whether port i waits for aggregator k with its timer still running.
@@ -55,7 +54,7 @@ fn may_attach(table: &[u8], i: usize) -> bool
 // Step 5 for port i, which is SELECTED. Where it waits, its aggregator has a waiting port, so it is Ready unless somebody holds it
 // back. A port that does not wait, or is held back, is left alone.
 fn attach_one(table: &mut [u8], i: usize)
-    requires { ⌜ InTable (now table) i × (portAt (now table) i .phase .selected ≡ Selected) ⌝ }
+    requires { ⌜ InTable (now table) i × Chosen (portAt (now table) i) ⌝ }
     ensures { λ _. ⌜ Became (now (table .entry)) (now (table .exit)) i (attaching (ports (now (table .entry))) (portAt (now (table .entry)) i)) ⌝ }
 {
     if may_attach(table, i) {
@@ -67,7 +66,7 @@ fn attach_one(table: &mut [u8], i: usize)
 
 // Step 5 for all ports, which step 4 left SELECTED.
 pub fn attach_all(table: &mut [u8])
-    requires { ⌜ (tableInRange (now table) ≡ true) × AllSelected (ports (now table)) ⌝ }
+    requires { ⌜ (tableInRange (now table) ≡ true) × AllChosen (ports (now table)) ⌝ }
     ensures { λ _. ⌜ Worked (now (table .entry)) (now (table .exit)) (attachedAll (ports (now (table .entry)))) ⌝ }
 {
     let n = table::count(table);

@@ -8,7 +8,7 @@ use Rattle.table.proofs.TableLaws.{in-range}
 use Rattle.trunk.specs.Settled.{attaching, attachedAll}
 use Rattle.trunk.specs.Worked.{Worked}
 use Rattle.trunk.proofs.SweepLaws.{doneTo, each, sweep-map}
-use Rattle.trunk.proofs.StepLaws.{still-selected, attach-same}
+use Rattle.trunk.proofs.StepLaws.{still-chosen, attach-same}
 use Rattle.trunk.proofs.TableWork.{loop-begins, loop-ends, in-table, turn, said}
 use Rattle.trunk.proofs.ready.attach_all.Statement.{statement}
 use Rattle.trunk.proofs.ready.attach_all.Tie as tie
@@ -34,7 +34,7 @@ attach-one-requires c κs =
     let t = now (c .before .before .before .before .before .before .args .table) in
     let i = (c .before .before .loop .i) in
     let h : i < countIn t = omega arith in
-    ((inv .2 .ranged, in-table (each (attaching (ports t))) i (inv .2) h), still-selected i (c .before .before .before .before .before .before .pre .1) (inv .2) h)
+    ((inv .2 .ranged, in-table (each (attaching (ports t))) i (inv .2) h), still-chosen i (c .before .before .before .before .before .before .pre .1) (inv .2) h)
 
 add-i : tie.Need-add-i Inv-loop μ-loop
 add-i c = let most = in-range _ (c .before .before .before .before .before .before .before .before .before .pre .0) .most in omega arith

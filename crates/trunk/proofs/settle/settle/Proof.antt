@@ -9,7 +9,7 @@ use Rattle.table.specs.Table.{ports}
 use Rattle.table.proofs.TableLaws.{in-range}
 use Rattle.trunk.specs.Settled.{selectedAll, attachedAll, climbed, settled}
 use Rattle.trunk.proofs.SweepLaws.{sweep-map}
-use Rattle.trunk.proofs.StepLaws.{all-selected}
+use Rattle.trunk.proofs.StepLaws.{all-chosen}
 use Rattle.trunk.proofs.TableWork.{then, said}
 use borrow.Author.Needs.{needs}
 use Rattle.trunk.proofs.settle.settle.Statement.{statement}
@@ -24,7 +24,7 @@ select-all-requires c κs = search needs
 attach-all-requires : tie.Need-attach-all-requires
 attach-all-requires c κs =
     let chosen = (c .before .before .before .select-all .ensures) in
-    (chosen .ranged, rw (chosen .records) (all-selected _ (ports (now (c .before .before .before .before .before .before .before .before .before .args .table)))))
+    (chosen .ranged, rw (chosen .records) (all-chosen _ (ports (now (c .before .before .before .before .before .before .before .before .before .args .table)))))
 
 sweep-requires : tie.Need-sweep-requires
 sweep-requires c κs = search needs
