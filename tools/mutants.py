@@ -11,7 +11,11 @@ tried in two copies of the repository:
 
 Where the changed code has another shape, its proof is changed with it. A mutant without a function changes a definition alone.
 
-    tools/mutants.py [WORD..]     all mutants, or those in whose line one of the words stands; the copies are in target/mutants
+Then the edits of tools/mutants/CRATE/*.edit, in the format of the gate's own (crates/CRATE/must-fail): a definition, a contract or a statement that
+is wrong, or one more wrong program for a contract that has its two in the gate. Each is tried in the first copy, and its crate must be refused
+because a fact no longer holds, not because a proof no longer fits the code's shape.
+
+    tools/mutants.py [WORD..]     all of them, or those in whose line one of the words stands; the copies are in target/mutants
 """
 import re
 import shutil
@@ -22,6 +26,7 @@ from dataclasses import dataclass
 from pathlib import Path
 
 ROOT = Path(__file__).resolve().parent.parent
+EDITS = ROOT / "tools" / "mutants"
 CODE, FACTS = ROOT / "target" / "mutants" / "code", ROOT / "target" / "mutants" / "facts"
 
 
@@ -58,7 +63,7 @@ def types_alone(source):
 def make_code():
     """The whole repository, with what is proved already."""
     if not (ROOT / "target" / "stamp").exists():
-        subprocess.run(["rt", "check", "control"], cwd=ROOT, check=True, stdout=subprocess.DEVNULL)
+        subprocess.run(["rt", "check", "myrkosti", "runs"], cwd=ROOT, check=True, stdout=subprocess.DEVNULL)
     CODE.mkdir(parents=True)
     for name in ("crates", "crates.txt"):
         source = ROOT / name
@@ -171,8 +176,39 @@ def tried(mutant):
     return f"{mutant.aim}: {mutant.name}\n    refused by {named}\n    {code} ({time.time() - began:.0f} s)", held and hit
 
 
+@dataclass
+class Edit:
+    crate: str
+    name: str
+    why: str  # its first line
+    edits: tuple  # (file under crates/, old, new)..
+
+
+def read_edit(path):
+    crate, lines = path.parent.name, path.read_text().split("\n")
+    words = {key: [line[len(key) + 2:] for line in lines if line.startswith(key + ": ")] for key in ("file", "old", "new")}
+    return Edit(crate, path.stem, lines[0].lstrip("# "), tuple((f"{crate}/{f}", old, new) for f, old, new in zip(*words.values())))
+
+
+def tried_edit(wrong):
+    """One line, and whether the edit is refused as it should be."""
+    began = time.time()
+    before = edit(CODE, wrong.edits)
+    proved, output = check(CODE, wrong.crate)
+    undo(before)
+    errors = re.findall(rf"crates/{wrong.crate}/(\S+?): error: (.*)", output) or re.findall(r"fn (\S+): no proof: .*(`search` does not close .*)", output)
+    unfit = errors and "that can be named from here" in errors[0][1]
+    refused = not proved and bool(errors) and not unfit
+    where = "NOTHING" if proved else f"{errors[0][0]}: {errors[0][1][:90]}" if errors else "AN ERROR ELSEWHERE"
+    return f"{wrong.crate}/{wrong.name}: {wrong.why}\n    refused at {where} ({time.time() - began:.0f} s)", refused
+
+
 def main(words):
-    mutants = [m for m in MUTANTS if not words or any(w in f"{m.aim}: {m.name}" for w in words)]
+    def wanted(line):
+        return not words or any(word in line for word in words)
+
+    mutants = [m for m in MUTANTS if wanted(f"{m.aim}: {m.name}")]
+    edits = [e for e in map(read_edit, sorted(EDITS.glob("*/*.edit"))) if wanted(f"{e.crate}/{e.name}: {e.why}")]
     shutil.rmtree(CODE.parent, ignore_errors=True)
     make_code()
     make_facts()
@@ -183,11 +219,11 @@ def main(words):
             raise SystemExit(f"the definitions as they are: {crate} is not proved\n{output[-3000:]}")
     print("the definitions as they are: every fact holds", flush=True)
     wrong = 0
-    for mutant in mutants:
-        line, refused = tried(mutant)
+    for trial, each in [(tried, m) for m in mutants] + [(tried_edit, e) for e in edits]:
+        line, refused = trial(each)
         wrong += not refused
         print(line + ("" if refused else "\n    NOT AS IT SHOULD BE"), flush=True)
-    print(f"{len(mutants)} mutants, {wrong} not refused as they should be")
+    print(f"{len(mutants)} mutants and {len(edits)} edits, {wrong} not refused as they should be")
     sys.exit(wrong > 0)
 
 
