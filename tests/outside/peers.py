@@ -218,7 +218,7 @@ def silence_on_second(world):
 
 
 def silence_on_first(world):
-    """The same on the first link: when it is given up, the second moves to its own aggregator and waits (docs/GUIDE.md)."""
+    """The same on the first link: when it is given up, the second moves to its own aggregator and waits (docs/GUIDE-STEWARD.md)."""
     world.deaf = {FIRST}
     last = world.heard[FIRST]
     world.until(last + SHORT - 1, world.receives(FIRST, CURRENT), world.ours_is({FIRST: BOTH}))
