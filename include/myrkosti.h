@@ -5,12 +5,13 @@
  * it writes for you, and read from the reports which ports form one trunk. It keeps no memory of its own, allocates nothing, calls
  * nothing, and every call ends. One table is one Aggregation System; different tables may be used at the same time.
  *
- * Every call takes every input: frames of any length and content, any port number, any setting, any table memory. It answers one of the
- * numbers below. An answer other than MYRKOSTI_DONE leaves the table and the outgoing buffer exactly as they came. Only this is asked
- * of you: memory that you lend is readable (the table and what is written, writable) for its whole length, and the areas that you lend
- * to one call do not overlap.
+ * You may pass anything: frames of any length and content, any port number, any setting, any table memory. A call answers one of the
+ * numbers below, and unless that is MYRKOSTI_DONE, table and outgoing buffer hold what they held before. Only this is asked of you:
+ * memory that you lend is readable (the table and what is written, writable) for its whole length, nobody else uses it until the call
+ * returns, and the areas that you lend to one call do not overlap.
  *
- * Link with libmyrkosti.a (`rt staticlib myrkosti`). Each function here is proved to meet its contract; docs/PROOFS.md says what that is.
+ * Link with libmyrkosti.a (`rt staticlib myrkosti`). docs/GUIDE-FIRMWARE.md shows how the calls go together, docs/RULES.md what each does.
+ * Each function here is proved to meet its contract; docs/PROOFS.md says what that is.
  */
 #ifndef MYRKOSTI_H
 #define MYRKOSTI_H
@@ -36,18 +37,18 @@ extern "C" {
 
 enum {
     MYRKOSTI_DONE = 0,            /* done */
-    MYRKOSTI_TABLE_WRONG = 1,     /* the memory is no table: wrong size, port count outside 1 to 32, or a field outside its range */
-    MYRKOSTI_NO_SUCH_PORT = 2,    /* the port or aggregator number is 0 or above the port count */
-    MYRKOSTI_BUFFER_SHORT = 3,    /* the outgoing buffer has under 124 octets (receive and fetch) */
-    MYRKOSTI_DEFAULT_WRONG = 4,   /* the default partner block has Collecting different from Synchronization (start and settings) */
-    MYRKOSTI_LACP_OFF = 5,        /* a well-formed LACPDU, and the link is down or the duplex half */
+    MYRKOSTI_TABLE_WRONG = 1,     /* the memory is no table: its size or port count is wrong, or a field is out of range */
+    MYRKOSTI_NO_SUCH_PORT = 2,    /* no port, or no aggregator, has this number; they count from 1 */
+    MYRKOSTI_BUFFER_SHORT = 3,    /* `out` is too short for a frame (receive and fetch) */
+    MYRKOSTI_DEFAULT_WRONG = 4,   /* in the default partner block Collecting and Synchronization differ (start and settings) */
+    MYRKOSTI_LACP_OFF = 5,        /* an LACPDU without fault, but the link is down or the duplex half */
     MYRKOSTI_FOREIGN = 6,         /* a frame under 14 octets, or not to 01-80-C2-00-00-02: not for this part */
-    MYRKOSTI_UNKNOWN = 7,         /* our destination with another type, or a Slow Protocols subtype 3 to 10: for others */
+    MYRKOSTI_UNKNOWN = 7,         /* to that address, but of another type than 88-09, or a subtype from 3 to 10: for others */
     MYRKOSTI_ILLEGAL = 8,         /* a Slow Protocols frame that breaks the rules of its subtype */
-    MYRKOSTI_NOT_COLLECTING = 9,  /* a Marker, and the port neither collects nor distributes */
+    MYRKOSTI_NOT_COLLECTING = 9,  /* a Marker on a port that neither collects nor distributes */
     MYRKOSTI_NOTHING_TO_SEND = 10, /* fetch: nothing is due, the link is down or the duplex half */
     MYRKOSTI_TOO_MANY_SENDS = 11, /* fetch: one is due, but three LACPDUs went with fewer than eleven ticks after the first; ask after the next tick */
-    MYRKOSTI_RESPONSE = 12        /* a Marker Response: nobody here awaits one */
+    MYRKOSTI_RESPONSE = 12        /* a Marker Response, for which nobody here waits */
 };
 
 /*
@@ -74,7 +75,7 @@ enum {
  *   27-41    default partner block
  *   42-56    partner information in force
  *
- * An information block, MYRKOSTI_BLOCK octets: system priority 2, system 6, key 2, port priority 2, port 2, state 1.
+ * An information block, MYRKOSTI_BLOCK octets: 0-1 system priority, 2-7 system, 8-9 key, 10-11 port priority, 12-13 port, 14 state.
  */
 enum {
     MYRKOSTI_AT_RECEIVE = 0,
@@ -155,8 +156,8 @@ uint32_t myrkosti_tick(uint8_t *table, size_t table_len);
 uint32_t myrkosti_line(uint8_t *table, size_t table_len, uint32_t port, bool up, bool full);
 
 /*
- * A port has these settings from now on. Equal settings change nothing. Another key, port priority or Aggregation takes the port out of its
- * trunk for at least two seconds. A new default block counts from the next time that the partner is given up. `timeout` true is short.
+ * A port has these settings from now on. The same ones again change nothing. Another key, port priority or Aggregation takes the port out of its
+ * trunk for at least two seconds. A new default block is used the next time that the partner is given up. `timeout` true is short.
  * Answers 0, 1, 2 or 4.
  */
 uint32_t myrkosti_settings(uint8_t *table, size_t table_len, uint32_t port,
