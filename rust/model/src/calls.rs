@@ -1,12 +1,12 @@
-//! The calls of `include/myrkosti.h`, with slices for pointers and lengths: refusals in document 01's order, then the
-//! order of work. Each answers document 01's number.
+//! The calls of `include/myrkosti.h`, with slices for pointers and lengths: refusals in their order (R2.14 of docs/RULES.md),
+//! then the steps of R4. Each answers its number (R2).
 
 use crate::breakage::{self, Breakage};
 use crate::receive::displace;
 use crate::record::{self, Mux, Periodic, Port, Receive, Settings, Table, HEADER, OLDEST_AGE, OWN_BITS, RECORD};
 use crate::wire::{self, Block, Frame, State, BLOCK, FRAME};
 
-/// Why a call was refused; the discriminants are document 01's numbers.
+/// Why a call was refused; the discriminants are the answer numbers.
 #[derive(Clone, Copy, Debug, PartialEq, Eq)]
 #[allow(missing_docs)]
 pub enum Refusal {
@@ -192,7 +192,7 @@ pub fn tick(table: &mut [u8]) -> u32 {
 }
 
 impl Port {
-    /// Step 1 of a tick: running timers fall by one; an age rises by one, and one that would reach 11 is forgotten.
+    /// Step 1 of a tick: timers that run, and ages, of which none comes to be 11.
     fn ticked(&mut self) {
         let stand = breakage::is(Breakage::UnusedTimersStand);
         if !stand || matches!(self.receive, Receive::Current | Receive::Expired) {

@@ -41,7 +41,7 @@ impl Table {
         }
     }
 
-    /// Step 3: a port that is UNSELECTED or holds another aggregator goes down to DETACHED through each state.
+    /// Step 3: state by state down to DETACHED, where UNSELECTED or where the rule has another aggregator.
     fn detach(&mut self, rule: &[u8]) {
         for (port, aggregator) in self.ports.iter_mut().zip(rule) {
             if port.aggregator != *aggregator && !breakage::is(Breakage::BystandersForgotten) {
@@ -53,7 +53,7 @@ impl Table {
         }
     }
 
-    /// Step 4: those ports take the rule's aggregator, become SELECTED and enter WAITING.
+    /// Step 4: they hold what the rule gives now, are SELECTED, and wait.
     fn take(&mut self, rule: &[u8]) {
         for (port, aggregator) in self.ports.iter_mut().zip(rule) {
             if !port.selected {
@@ -66,7 +66,7 @@ impl Table {
         }
     }
 
-    /// Step 5: Ready is worked out once for each aggregator; its waiting ports attach.
+    /// Step 5: Ready of each aggregator, and then whoever waits for one that is.
     fn attach(&mut self) {
         let waits = |port: &Port| port.mux == Mux::Waiting;
         let ready: Vec<bool> = (1..=self.ports.len())

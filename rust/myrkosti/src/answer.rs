@@ -12,33 +12,33 @@ pub enum Answer {
     Refused(Refusal),
 }
 
-/// Why a call was refused. A refused call leaves the table and the outgoing buffer as they came.
+/// Why a call was refused. After it, table and outgoing buffer hold what they held before.
 #[derive(Clone, Copy, Debug, PartialEq, Eq, Hash)]
 pub enum Refusal {
-    /// 1: the memory is no table: wrong size, port count outside 1 to 32, or a field outside its range.
+    /// 1: the memory is no table: its size or port count is wrong, or a field is out of range.
     TableWrong,
-    /// 2: the port or aggregator number is 0 or above the port count.
+    /// 2: no port, or no aggregator, has this number; they count from 1.
     NoSuchPort,
-    /// 3: the outgoing buffer has under 124 octets.
+    /// 3: the outgoing buffer is too short for a frame.
     BufferShort,
-    /// 4: the default partner block has Collecting different from Synchronization.
+    /// 4: in the default partner block Collecting and Synchronization differ.
     DefaultWrong,
-    /// 5: a well-formed LACPDU, and the link is down or the duplex half.
+    /// 5: an LACPDU without fault, but the link is down or the duplex half.
     LacpOff,
     /// 6: a frame under 14 octets, or not to 01-80-C2-00-00-02: not for this part.
     Foreign,
-    /// 7: our destination with another type, or a Slow Protocols subtype 3 to 10: for others.
+    /// 7: to that address, but of another type than 88-09, or a subtype from 3 to 10: for others.
     Unknown,
     /// 8: a Slow Protocols frame that breaks the rules of its subtype.
     Illegal,
-    /// 9: a Marker, and the port neither collects nor distributes.
+    /// 9: a Marker on a port that neither collects nor distributes.
     NotCollecting,
     /// 10: nothing is due, the link is down or the duplex half.
     NothingToSend,
     /// 11: something is due, but three LACPDUs went with fewer than eleven ticks after the first of them; ask again after the next
     /// tick.
     TooManySends,
-    /// 12: a Marker Response: nobody here awaits one.
+    /// 12: a Marker Response, for which nobody here waits.
     Response,
     /// A number that this interface has no name for: that of a later library.
     Unnamed(u32),

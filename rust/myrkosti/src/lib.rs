@@ -35,7 +35,7 @@
 //! # }
 //! ```
 //!
-//! No call panics, whatever it is given. A refused call leaves the table and the outgoing buffer as they came.
+//! No call panics, whatever it is given. After a refused call, table and outgoing buffer hold what they held before.
 //!
 //! The library is an archive for x86-64. On that architecture it is linked, and a call is a call. Elsewhere the same
 //! interface hands each call to a small program that links the archive and runs under an emulator: good for tests, too slow

@@ -106,7 +106,7 @@ impl Block {
         }
     }
 
-    /// The octets of this block: system priority 2, system 6, key 2, port priority 2, port 2, state 1, high octet first.
+    /// The octets of this block: from 0 system priority, 2 system, 8 key, 10 port priority, 12 port, 14 state.
     pub fn to_octets(&self) -> [u8; BLOCK] {
         let [y1, y0] = self.system.priority.to_be_bytes();
         let [a, b, c, d, e, f] = self.system.address;

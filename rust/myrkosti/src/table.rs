@@ -194,8 +194,8 @@ impl<M: AsRef<[u8]> + AsMut<[u8]>> Table<M> {
         answered(raw::line(self.memory.as_mut(), port, up, full))
     }
 
-    /// A port has these settings from now on. Equal settings change nothing. Another key, port priority or Aggregation takes the
-    /// port out of its trunk for at least two seconds. A new default block counts from the next time that the partner is given up.
+    /// A port has these settings from now on. The same again change nothing. Another key, port priority or Aggregation takes the
+    /// port out of its trunk for at least two seconds. A new default block is used the next time that the partner is given up.
     ///
     /// # Errors
     /// [`Refusal::TableWrong`], [`Refusal::NoSuchPort`], [`Refusal::DefaultWrong`].
