@@ -1,4 +1,4 @@
-// The story of six ports that form, lose and re-form two trunks, told by the eight calls, and what they refuse.
+// The story of six ports that form, lose and re-form two trunks, told by the calls, and what they refuse.
 // tools/story-of-six.py works out the same lines from the documents.
 ghost use Prim.Native.Nat.{_≤_};
 ghost use lib.ListN.{length};

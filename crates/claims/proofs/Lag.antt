@@ -1,5 +1,5 @@
--- Two ports share a group exactly if they have one LAG ID: an individual port has its own number in its LAG ID, and the others have in it
--- just what the rule compares. Assumes nothing.
+-- Ports that share a group have one LAG ID: an individual port, whose number stands in its LAG ID, shares none with another, and the others
+-- have in it just what the rule compares. Assumes nothing.
 use Prim.Native.Nat.{ℕ, _+_}
 use mathlib.Core.Path.{_≡_, refl, sym, ap, _∙_}
 use mathlib.Core.Bool.{not, _||_, Bool, true, false, cond}

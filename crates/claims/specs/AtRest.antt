@@ -1,5 +1,5 @@
--- What every call leaves: each port's machines are at rest in the states that go with its link and duplex, and steps 3 to 6 of document
--- 01's order of work change nothing.
+-- What every call leaves: each port's machines are at rest in the states that go with its link and duplex, and steps 3 to 6 (R4) change
+-- nothing.
 use Prim.Native.Nat.{ℕ, _<_}
 use mathlib.Core.Path.{_≡_}
 use mathlib.Core.Bool.{Bool, true, false, not, _&&_}

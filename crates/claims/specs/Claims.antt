@@ -71,7 +71,7 @@ abbrev pub BitsTrue : Type 0
 BitsTrue = (t : List ℕ) → Made t → (i : ℕ) → i < countIn t → SaysMux (portAt t i)
 
 -- ports that share a group have one Link Aggregation Group Identifier (43.3.6). The converse is not claimed: two links from this system to
--- itself may have one, and document 01 keeps them apart
+-- itself may have one, and R10.1 keeps them apart
 abbrev pub GroupHasLag : Type 0
 GroupHasLag = (t : List ℕ) (i j : ℕ) → i < countIn t → j < countIn t → sharesGroup (ours t) (map compared (ports t)) i j ≡ true → lagAt t i ≡ lagAt t j
 

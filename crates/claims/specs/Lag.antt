@@ -16,7 +16,7 @@ pub record LagId : Type 0 where
   pub partnerKey : ℕ
   pub partnerPort : PortId
 
--- an Individual link: one end or the other may not aggregate (43.3.5). Document 01 has one kind more, a partner that is our own system.
+-- an Individual link: one end or the other may not aggregate (43.3.5). R10.1 has one kind more, a partner that is our own system.
 abbrev pub isIndividual : Port → Bool
 isIndividual p = not (p .actor .aggregation) || not (p .partner .state .aggregation)
 

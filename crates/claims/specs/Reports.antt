@@ -22,8 +22,8 @@ PortTrue = (t : List ℕ) (n : ℕ) → answer (report n) t ≡ Done → portRep
 abbrev pub sendsOn : ℕ → Port → Bool
 sendsOn k p = eqb (p .aggregator) k && distributes (p .phase .mux)
 
--- an accepted aggregator report: its sets are of the ports that hold it, are attached to it and distribute; the count is the number of
--- ports that hold it and distribute; the lowest is the least such port, and 0 if there is none
+-- an accepted aggregator report (R15.2 to R15.4): bit i of a set is what the record of port i says; the count is how many records hold it
+-- and distribute, and the lowest the first of these, or 0
 pub record SetsTrue (k : ℕ) (t : List ℕ) (s : Sets) : Type 0 where
   pub holding : (i : ℕ) → i < countIn t → member (s .holding) i ≡ eqb (portAt t i .aggregator) k
   pub attached : (i : ℕ) → i < countIn t → member (s .attached) i ≡ (eqb (portAt t i .aggregator) k && isAttached (portAt t i .phase .mux))

@@ -19,7 +19,7 @@ unless Lacpdu before then = then
 unless Marker before then = then
 unless (Refused r) before then = before
 
--- the tests in their order: 1, 2, 3, 4; then for frames 6, 7, 8, and last 5, 9 or 12; for fetch 10, 11
+-- the tests of each call, in the order of R2.14
 unfoldable pub answer : Call → List ℕ → Answer
 answer (start count system delay s) t = startAnswer t count s
 answer (receive n frame out) t = onPort t n (withRoom out (frameAnswer (classOf frame) (portAt t (n - 1) .line) (portAt t (n - 1) .phase .mux)))
@@ -48,7 +48,7 @@ changedBy (fetch n out) t = afterSend t (n - 1)
 changedBy (report n) t = t
 changedBy (aggregator k) t = t
 
--- a refusal changes nothing
+-- R2.16: after a refusal the table is what it was
 unfoldable pub after : Call → List ℕ → List ℕ
 after c t = unless (answer c t) t (changedBy c t)
 

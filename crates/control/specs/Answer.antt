@@ -1,4 +1,4 @@
--- Document 01's answers: their numbers, and the tests in their order.
+-- The answers (R2): their numbers, and the tests in their order.
 use Prim.Native.Nat.{ℕ, _-_}
 use mathlib.Core.Bool.{Bool, cond, _&&_, _||_}
 use mathlib.Core.List.{List}
@@ -25,7 +25,7 @@ use Rattle.control.specs.declared.tests.Found.the-variants as place
 
 -- ---- what each answer is on paper
 
--- document 01's number
+-- the answer number
 abbrev pub reasonNumber : Reason → ℕ
 reasonNumber reason.Table = 1
 reasonNumber reason.Number = 2
@@ -44,7 +44,7 @@ answerNumber Lacpdu = 0
 answerNumber Marker = 0
 answerNumber (Refused r) = reasonNumber r
 
--- the length that answer 0 to a received frame carries: 124 for a Marker and otherwise 0
+-- how many octets there are to be sent for a received frame (R2.19)
 abbrev pub lengthSent : Answer → ℕ
 lengthSent Done = 0
 lengthSent Lacpdu = 0
@@ -53,7 +53,7 @@ lengthSent (Refused r) = 0
 
 -- ---- the tests
 
--- 2: port or aggregator number is 0 or above the count
+-- R2.2: whether a port, and so an aggregator, has this number
 abbrev pub isNumber : List ℕ → ℕ → Bool
 isNumber t n = within 1 n (countIn t)
 
@@ -65,16 +65,15 @@ onPort t n rest = cond (tableInRange t) (cond (isNumber t n) rest (Refused reaso
 unfoldable pub found : List ℕ → ℕ → Found
 found t n = cond (tableInRange t) (cond (isNumber t n) (place.Port (n - 1)) (place.Refused reason.Number)) (place.Refused reason.Table)
 
--- 3: outgoing buffer under 124 octets
+-- R2.3: `rest` is the answer where there is room for a frame
 abbrev pub withRoom : List ℕ → Answer → Answer
 withRoom out rest = cond (ltb (length out) 124) (Refused reason.Buffer) rest
 
--- 4: default partner block has Collecting different from Synchronization
+-- R2.4: `rest` is the answer where the default block is lawful
 abbrev pub withDefault : Settings → Answer → Answer
 withDefault s rest = cond (lawful s) rest (Refused reason.Default)
 
--- 6, 7, 8 of the frame itself; last 5 for an LACPDU where the link is down or LACP is off, 9 for a Marker where the port neither collects
--- nor distributes, 12 for a Response
+-- what the frame tests say; then R2.5 of an LACPDU, R2.9 of a Marker, R2.12 of a Response
 abbrev pub frameAnswer : Class → Line → Mux → Answer
 frameAnswer class.Lacpdu l m = cond (l .up && l .full) Lacpdu (Refused reason.Disabled)
 frameAnswer class.Marker l m = cond (collects m || distributes m) Marker (Refused reason.NotCollecting)
@@ -87,7 +86,7 @@ dueAnswer due.Nothing = Refused reason.NothingToSend
 dueAnswer due.Barred = Refused reason.Barred
 dueAnswer due.Lacpdu = Done
 
--- start: 1 for memory size or port count only
+-- R2.15: a start looks at the count and at the size
 abbrev pub isRoom : List ℕ → ℕ → Bool
 isRoom t count = within 1 count mostPorts && eqb (length t) (tableSize count)
 

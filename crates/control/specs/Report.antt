@@ -1,5 +1,4 @@
--- What the two reports answer beside their number. Beside a refusal, an answer's other fields are constants: zeros, clear flags, INITIALIZE,
--- NO_PERIODIC, DETACHED, UNSELECTED (document 01).
+-- What the two reports answer beside their number: the truth, and beside a refusal constants (R2.20), which are what zero octets decode to.
 use Prim.Native.Nat.{ℕ, _-_}
 use mathlib.Core.Bool.{false}
 use mathlib.Core.List.{List}

@@ -5,31 +5,31 @@ use frame::class::Refusal;
 use port::record::Port;
 use report::Sets;
 
-// Why a call was refused; `reasonNumber` gives document 01's number for each.
+// Why a call was refused; `reasonNumber` gives the answer number of each.
 pub enum Reason {
     // The memory is no table.
     Table,
-    // The port or aggregator number is 0 or above the count.
+    // No port, or no aggregator, has the number.
     Number,
-    // The outgoing buffer is under 124 octets.
+    // The outgoing buffer has no room for a frame.
     Buffer,
-    // The default partner block has Collecting different from Synchronization.
+    // Collecting and Synchronization differ in the default partner block.
     Default,
-    // A well-formed LACPDU, and the link is down or LACP off.
+    // An LACPDU without fault on a port that is down or at half duplex.
     Disabled,
     // What the frame tests say.
     Frame(Refusal),
-    // A Marker, and the port is neither collecting nor distributing.
+    // A Marker on a port that neither collects nor distributes.
     NotCollecting,
-    // NTT clear, link down or LACP off.
+    // Nothing is due, or the port is down or at half duplex.
     NothingToSend,
-    // NTT set, but three sends bar a fourth.
+    // Something is due, but three sends are not old yet.
     Barred,
-    // A Marker Response: nobody here awaits one.
+    // A Marker Response, for which nobody here waits.
     Response,
 }
 
-// What a call answers; `answerNumber` gives document 01's number for each, `lengthSent` the length that was sent for a frame.
+// What a call answers; `answerNumber` gives the number of each, `lengthSent` how much is to be sent for a frame.
 pub enum Answer {
     Done,
     // A received LACPDU was done.
@@ -40,7 +40,7 @@ pub enum Answer {
 }
 
 impl Reason {
-    // The answer number of document 01.
+    // The answer number.
     pub fn number(self) -> u8
         ensures { λ r. ⌜ r ≡ reasonNumber self ⌝ }
     {
@@ -60,7 +60,7 @@ impl Reason {
 }
 
 impl Answer {
-    // The answer number of document 01.
+    // The answer number.
     pub fn number(self) -> u8
         ensures { λ r. ⌜ r ≡ answerNumber self ⌝ }
     {
@@ -85,7 +85,7 @@ impl Answer {
     }
 }
 
-// A port's record; beside a refusal, the constants of document 01.
+// A port's record; beside a refusal, constants (R2.20).
 pub struct PortReport {
     pub answer: Answer,
     pub port: Port,

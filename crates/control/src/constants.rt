@@ -1,4 +1,4 @@
-// The constants beside a refusal: zeros, clear flags, INITIALIZE, NO_PERIODIC, DETACHED, UNSELECTED.
+// The constants beside a refusal (R2.20).
 ghost use mathlib.Core.Path.{_≡_};
 ghost use Rattle.control.specs.Report.{noPort, noSets};
 use port::record::Port;

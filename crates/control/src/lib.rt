@@ -1,5 +1,5 @@
-// The eight calls. Each takes every input: memory of any length and content, any port number, frame, buffer and setting. It tests in
-// document 01's order, and a refusal leaves table and outgoing buffer as they came; what an accepted call does stands in `work`.
+// The calls (R1.2). Each may be given anything: memory of any length and content, any port number, frame, buffer and setting. It tests in
+// the order of R2.14, and a refusal leaves table and outgoing buffer as they came; what an accepted call does stands in `work`.
 ghost use mathlib.Core.Path.{_≡_};
 ghost use mathlib.Core.Bool.{true};
 ghost use Prim.Native.Nat.{_<_};

@@ -1,4 +1,4 @@
-// The tests that come before any work, in document 01's order.
+// The tests that come before any work, in the order of R2.14.
 ghost use mathlib.Core.Path.{_≡_};
 ghost use mathlib.Core.Bool.{true};
 ghost use Prim.Native.Nat.{_<_};
@@ -84,7 +84,7 @@ pub fn due_at(table: &[u8], i: usize) -> Due
     p.due()
 }
 
-// Answers 6, 7, 8, and last 5, 9 or 12.
+// Of a frame: what its tests said, and at the end what the port says to it (R2.5, R2.9, R2.12).
 pub fn judge(class: Class, line: Line, mux: Mux) -> Answer
     ensures { λ r. ⌜ r ≡ frameAnswer class line mux ⌝ }
 {

@@ -26,7 +26,7 @@ module _ (source : Address) (actor partner : Block) (delay : TensOfMicroseconds)
   abbrev sent : List ℕ
   sent = lacpdu source actor partner delay ++ rest
 
-  -- demand 2: reading a sent LACPDU gives back the two information blocks it was written from, octet for octet
+  -- demand 2, R6.5: both blocks can be read off an LACPDU, octet for octet
   pub actor-octets : actorPart sent ≡ blockOctets actor
   actor-octets = refl
 

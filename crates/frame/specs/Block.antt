@@ -1,4 +1,4 @@
--- An information block (document 01): system priority 2, system 6, key 2, port priority 2, port 2, state 1, high octet first.
+-- An information block (R3.2): from octet 0 system priority, 2 system, 8 key, 10 port priority, 12 port, 14 state.
 use Prim.Native.Nat.{ℕ, _+_}
 use mathlib.Core.List.{List, [], _∷_, _++_}
 use lib.ListN.{getD}

@@ -1,4 +1,4 @@
--- The frame tests, as document 01's table of answers has them: lines 6, 7 and 8, in this order, and what is left.
+-- The frame tests (R5): answers 6, 7 and 8, in this order, and what a frame is that passes them.
 use Prim.Native.Nat.{ℕ}
 use mathlib.Core.Bool.{Bool, cond, not, _&&_, _||_}
 use mathlib.Core.List.{List, [], _∷_}
@@ -10,7 +10,7 @@ use Rattle.frame.specs.declared.class.Refusal.the-variants.{Foreign, Unk
 use Rattle.frame.specs.declared.class.Class.{Class}
 use Rattle.frame.specs.declared.class.Class.the-variants.{Lacpdu, Marker, Response, Refused}
 
--- document 01's number for each refusal
+-- the answer number of each refusal
 abbrev pub refusalNumber : Refusal → ℕ
 refusalNumber Foreign = 6
 refusalNumber Unknown = 7
@@ -26,38 +26,38 @@ slowType = 0x8809
 abbrev pub octet : List ℕ → ℕ → ℕ
 octet l i = getD l i 0
 
--- line 6: frame under 14 octets, or other destination
+-- R5.1: too short for a header, or sent to somebody else
 unfoldable pub foreign : List ℕ → Bool
 foreign l = ltb (length l) 14 || not (sameOctets (take 6 l) slowAddress)
 
 abbrev pub noSubtype : List ℕ → Bool
 noSubtype l = ltb (length l) 15
 
--- line 7: our destination with another type, or subtype 3 to 10
+-- R5.2: sent to us, but not of the Slow Protocols, or of a subtype that others may use
 unfoldable pub unknown : List ℕ → Bool
 unknown l = not (eqb (numberAt l 12) slowType) || (not (noSubtype l) && (leb 3 (octet l 14) && leb (octet l 14) 10))
 
--- subtype 0 or 11 to 255
+-- a subtype that nobody may use
 abbrev pub oddSubtype : List ℕ → Bool
 oddSubtype l = eqb (octet l 14) 0 || leb 11 (octet l 14)
 
--- under 124 octets
+-- too short for an LACPDU, a Marker or a Response
 abbrev pub short : List ℕ → Bool
 short l = ltb (length l) 124
 
--- a wrong block length: octets 17, 37, 57 not 20, 20, 16, or octet 17 of a Marker or Marker Response not 16
+-- a length octet that is wrong: the three of an LACPDU, the one of a Marker or Response
 unfoldable pub wrongLength : List ℕ → Bool
 wrongLength l = cond (eqb (octet l 14) 1) (not (eqb (octet l 17) 20 && (eqb (octet l 37) 20 && eqb (octet l 57) 16))) (not (eqb (octet l 17) 16))
 
--- Marker type other than 1 or 2
+-- of subtype 2, and neither a Marker nor a Response
 unfoldable pub wrongMarkerType : List ℕ → Bool
 wrongMarkerType l = eqb (octet l 14) 2 && not (eqb (octet l 16) 1 || eqb (octet l 16) 2)
 
--- line 8: no subtype octet, subtype 0 or 11 to 255, subtype 1 or 2 under 124 octets, a wrong block length, or a wrong Marker type
+-- R5.3: any of these; a frame that ends before its subtype too
 unfoldable pub illegal : List ℕ → Bool
 illegal l = noSubtype l || oddSubtype l || short l || wrongLength l || wrongMarkerType l
 
--- what a frame is that none of the three lines names
+-- what a frame is that none of the three refuses (R5.6)
 abbrev pub accepted : List ℕ → Class
 accepted l = cond (eqb (octet l 14) 1) Lacpdu (cond (eqb (octet l 16) 1) Marker Response)
 

@@ -1,4 +1,4 @@
--- The state octet (43.4.2.2): bit 0 upward Activity, Timeout, Aggregation, Synchronization, Collecting, Distributing, Defaulted, Expired.
+-- The state octet (43.4.2.2, R3.3) and its eight bits, by their weights.
 use Prim.Native.Nat.{ℕ, _+_, _/_, _%_}
 use mathlib.Core.Bool.{Bool, true, false}
 use lib.Dec.{eqb}

@@ -1,4 +1,4 @@
--- Octets on the wire (43.4.2.2, 43.5.3.2), row by row as document 01's tables have them.
+-- Octets on the wire (43.4.2.2, 43.5.3.2; R6.1 to R6.3), row by row.
 use Prim.Native.Nat.{ℕ, _-_}
 use mathlib.Core.List.{List, [], _∷_, _++_}
 use lib.ListN.{take, drop, replicate}
@@ -26,7 +26,7 @@ partnerPart l = part 38 53 l
 abbrev pub requestPart : List ℕ → List ℕ
 requestPart l = part 18 30 l
 
--- what gets recorded is either the frame's block or the default block (43.4.9)
+-- which of two blocks a recording takes (43.4.9, R18.3)
 abbrev pub applying : Source → List ℕ → List ℕ → List ℕ
 applying Default pdu default = default
 applying Pdu pdu default = pdu
@@ -53,6 +53,6 @@ markerTypeOctet Response = 2
 abbrev pub marker : Address → MarkerType → List ℕ → List ℕ
 marker source kind request = opening source 2 (markerTypeOctet kind) 16 ++ (request ++ (zeros 4 ++ zeros 90))
 
--- the Response copies octets 18-29 of the Marker, and has every other octet as laid out
+-- the Marker's request goes back, and nothing else of it (R14.2)
 abbrev pub response : Address → List ℕ → List ℕ
 response source received = marker source Response (requestPart received)

@@ -1,10 +1,10 @@
-// The frame tests of document 01: what a received frame is, or why it is refused.
+// The frame tests (R5): what a received frame is, or why it is refused.
 ghost use mathlib.Core.Path.{_≡_};
 ghost use Prim.Native.Nat.{_≤_};
 ghost use lib.ListN.{length};
 ghost use Rattle.frame.specs.Class.{refusalNumber, classOf, foreign, unknown, wrongLength, wrongMarkerType, illegal};
 
-// Why the frame tests refuse a frame; the definition `refusalNumber` gives document 01's number for each.
+// Why the frame tests refuse a frame; the definition `refusalNumber` gives the answer number of each.
 pub enum Refusal {
     // Too short for a header, or not to the Slow Protocols address.
     Foreign,
@@ -15,7 +15,7 @@ pub enum Refusal {
 }
 
 impl Refusal {
-    // The answer number of document 01.
+    // The answer number.
     pub fn number(self) -> u8
         ensures { λ r. ⌜ r ≡ refusalNumber self ⌝ }
     {
@@ -36,7 +36,7 @@ pub enum Class {
 
 pub const DESTINATION: [u8; 6] = [0x01, 0x80, 0xc2, 0x00, 0x00, 0x02];
 
-// Line 6 of document 01's table: frame under 14 octets, or other destination.
+// R5.1: too short for a header, or sent to somebody else.
 fn is_foreign(s: &[u8]) -> bool
     ensures { λ r. ⌜ r ≡ foreign (now (s .entry)) ⌝ }
 {
@@ -46,7 +46,7 @@ fn is_foreign(s: &[u8]) -> bool
     !octets::same(&s[0..6], &DESTINATION)
 }
 
-// Line 7: our destination with another type, or subtype 3 to 10.
+// R5.2: sent to us, but not of the Slow Protocols, or of a subtype that others may use.
 fn is_unknown(s: &[u8]) -> bool
     requires { ⌜ 14 ≤ length (now s) ⌝ }
     ensures { λ r. ⌜ r ≡ unknown (now (s .entry)) ⌝ }
@@ -60,7 +60,7 @@ fn is_unknown(s: &[u8]) -> bool
     (3 <= s[14]) & (s[14] <= 10)
 }
 
-// Of line 8: a wrong block length, of an LACPDU or of a Marker or Marker Response.
+// Of R5.3: a length octet that is wrong, of an LACPDU, a Marker or a Response.
 fn has_wrong_length(s: &[u8]) -> bool
     requires { ⌜ 124 ≤ length (now s) ⌝ }
     ensures { λ r. ⌜ r ≡ wrongLength (now (s .entry)) ⌝ }
@@ -71,7 +71,7 @@ fn has_wrong_length(s: &[u8]) -> bool
     !(s[17] == 16)
 }
 
-// Of line 8: Marker type other than 1 or 2.
+// Of R5.3: subtype 2, and neither a Marker nor a Response.
 fn has_wrong_marker_type(s: &[u8]) -> bool
     requires { ⌜ 124 ≤ length (now s) ⌝ }
     ensures { λ r. ⌜ r ≡ wrongMarkerType (now (s .entry)) ⌝ }
@@ -79,7 +79,7 @@ fn has_wrong_marker_type(s: &[u8]) -> bool
     (s[14] == 2) & !((s[16] == 1) | (s[16] == 2))
 }
 
-// Line 8: no subtype octet, subtype 0 or 11 to 255, subtype 1 or 2 under 124 octets, or one of the two above.
+// R5.3: the frame ends before its subtype, has one that nobody may use, is too short, or one of the two above.
 fn is_illegal(s: &[u8]) -> bool
     ensures { λ r. ⌜ r ≡ illegal (now (s .entry)) ⌝ }
 {

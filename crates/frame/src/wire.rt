@@ -1,4 +1,4 @@
-// Where things lie in a frame (document 01, 'Octets on the wire'): the parts of a received one, and writing one to be sent.
+// Where things lie in a frame (R6): the parts of a received one, and writing one to be sent.
 ghost use mathlib.Core.Path.{_≡_};
 ghost use mathlib.Core.List.{_++_};
 ghost use Prim.Native.Nat.{_≤_};
@@ -48,7 +48,7 @@ pub fn request(frame: &[u8]) -> &[u8]
     &frame[18..30]
 }
 
-// Lent the frame's block and the default block, hands back the one that applies.
+// Of two lent blocks, the frame's and the default, gives back the one to be recorded (R18.3).
 pub fn recorded<'a>(source: Source, pdu: &'a [u8], default: &'a [u8]) -> &'a [u8]
     ensures { λ r. ⌜ now r ≡ applying source (now (pdu .entry)) (now (default .entry)) ⌝ }
 {
@@ -68,7 +68,7 @@ fn write_opening(out: &mut [u8], source: Address, subtype: u8, first: u8, size: 
     octets::put(out, 12, &[0x88, 0x09, subtype, 1, first, size]);
 }
 
-// Writes an LACPDU over the first 124 octets of out. Each block is written straight into its place.
+// Writes an LACPDU over the first 124 octets of out. A block's writer gets its own part of them (R18.1).
 pub fn write_lacpdu(
     out: &mut [u8],
     source: Address,

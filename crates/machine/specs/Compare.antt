@@ -42,7 +42,7 @@ sameView x y =
     && (alike (x .state .activity) (y .state .activity)
     && (alike (x .state .timeout) (y .state .timeout) && alike (x .state .synchronization) (y .state .synchronization)))
 
--- LACP is considered to be actively maintaining the link: `us` is what we say of ourselves, the frame says `a` of its sender and `b` of us
+-- whether one end at least is active, and known to be: `us` is what we say of ourselves, the frame says `a` of its sender and `b` of us
 unfoldable pub maintained : Block → Block → Block → Bool
 maintained us a b = a .state .activity || (us .state .activity && b .state .activity)
 

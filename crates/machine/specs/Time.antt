@@ -1,4 +1,4 @@
--- Times in ticks of a tenth of a second (43.4.4, document 01), and when a timer has run out.
+-- Times in ticks (43.4.4, R3.11), and when a timer has run out (R3.12).
 use Prim.Native.Nat.{ℕ, _-_}
 use mathlib.Core.Bool.{Bool, cond}
 use lib.Dec.{eqb}

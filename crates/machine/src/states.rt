@@ -36,7 +36,7 @@ pub enum Selection {
     Selected,
 }
 
-// Time in ticks of a tenth of a second; a CollectorMaxDelay is another type.
+// A time in ticks, ten to the second; a CollectorMaxDelay is another type.
 pub struct Ticks(pub u16);
 
 pub struct Phase {
@@ -52,7 +52,7 @@ pub struct Line {
     pub full: bool,
 }
 
-// The three timers; one that its state does not use is stopped and holds 0.
+// The three timers; each stands at 0 in a state that has no use for it (R3.13).
 pub struct Timers {
     pub current: Ticks,
     pub periodic: Ticks,

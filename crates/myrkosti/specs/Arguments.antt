@@ -7,7 +7,7 @@ use Rattle.frame.specs.declared.wire.TensOfMicroseconds.{TensOfMicroseconds}
 use Rattle.frame.specs.Block.{addressAt, blockOf}
 use Rattle.settings.specs.declared.Settings.{Settings}
 
--- own address, key, port priority, own Activity, Timeout and Aggregation, default partner block
+-- a port's settings (R3.4), in the order of the C arguments
 abbrev pub settingsOf : List ℕ → ℕ → ℕ → Bool → Bool → Bool → List ℕ → Settings
 settingsOf address key priority activity timeout aggregation partner = record {
   address = addressAt address 0;

@@ -1,4 +1,4 @@
-// The C interface (include/myrkosti.h): each call of `control` with numbers and lent octets. A call answers document 01's number.
+// The C interface (include/myrkosti.h): each call of `control` with numbers and lent octets. A call answers its number (R2).
 ghost use mathlib.Core.Path.{_≡_};
 ghost use Rattle.table.specs.Layout.{publishedSize};
 ghost use Rattle.table.specs.Record.{encoded};
@@ -39,7 +39,7 @@ pub extern "C" fn myrkosti_line(table: &mut [u8], port: u32, up: bool, full: boo
     a.number() as u32
 }
 
-// The next LACPDU of a port is written into `out`.
+// Writes what is due on a port into `out`.
 #[no_mangle]
 pub extern "C" fn myrkosti_fetch(table: &mut [u8], port: u32, out: &mut [u8]) -> u32
     ensures { λ r. ⌜ (r ≡ answerNumber (answer (Call·fetch port (now (out .entry))) (now (table .entry)))) × (now (table .exit) ≡ after (Call·fetch port (now (out .entry))) (now (table .entry))) × (now (out .exit) ≡ outgoing (Call·fetch port (now (out .entry))) (now (table .entry))) ⌝ }

@@ -1,4 +1,4 @@
--- What the selection rule reads of a record (43.4.14, document 01 'Selection').
+-- What the selection rule reads of a record (43.4.14, R10).
 use Prim.Native.Nat.{ℕ}
 use mathlib.Core.Bool.{Bool}
 use Rattle.frame.specs.declared.block.SystemId.{SystemId}

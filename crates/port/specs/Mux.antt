@@ -1,4 +1,4 @@
--- The Mux machine on a record (43.4.15), and steps 3 to 6 of document 01's order of work for one port.
+-- The Mux machine on a record (43.4.15), and steps 3 to 6 (R4) for one port.
 use mathlib.Core.Bool.{Bool, false, cond, _||_}
 use Prim.Native.Nat.{ℕ}
 use Rattle.machine.specs.declared.states.Mux.{Mux}
@@ -23,18 +23,18 @@ muxChoice ready p = muxNext (p .phase .mux) (p .phase .selected) ready (p .partn
 unfoldable pub muxStep : Bool → Port → Port
 muxStep ready p = muxTaken (muxChoice ready p) p
 
--- step 3: down to DETACHED through each state; three steps are enough (law `detached-is`)
+-- step 3: state by state down to DETACHED; three steps are enough (law `detached-is`)
 unfoldable pub detached : Port → Port
 detached p = muxStep false (muxStep false (muxStep false (withSelected p Unselected)))
 
--- step 4: the port takes an aggregator, becomes SELECTED and enters WAITING
+-- step 4: the port holds aggregator k now, is SELECTED, and waits
 unfoldable pub placed : ℕ → Port → Port
 placed k p = muxStep false (withSelected (withAggregator p k) Selected)
 
--- step 5: a waiting port of a Ready aggregator attaches
+-- step 5: a port that waits attaches where its aggregator is Ready
 unfoldable pub attachedIf : Bool → Port → Port
 attachedIf ready p = cond (waits (p .phase .mux)) (muxStep ready p) p
 
--- step 6: up or down by the partner's bits until no step applies; two steps lead to rest (law `mux-rests`)
+-- step 6: up or down as the partner's bits say; two steps lead to rest (law `mux-rests`)
 unfoldable pub muxRun : Port → Port
 muxRun p = muxStep false (muxStep false p)

@@ -113,8 +113,8 @@ moved p = portDisabled (initialized p)
 unfoldable pub received : SystemId → ℕ → Block → Block → Port → Port
 received system number a b p = current (actorBlock system number p) a b p
 
--- a link or duplex change: the values as they are change nothing; a change on an up port acts as down, then up, so every change
--- goes by way of down
+-- another line (R8): the one that is there changes nothing, and every other is reached by way of down, which is what R8.3 asks of an
+-- up port
 abbrev pub down : Line → Line
 down l = record { up = false; full = l .full }
 

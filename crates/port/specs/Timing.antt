@@ -1,4 +1,4 @@
--- A timer that its state does not use is stopped and holds 0; one that it uses is within its time (document 01, 'Timers').
+-- A timer stands at 0 in a state that has no use for it, and within its time in one that has (R3.13, R3.15).
 use Prim.Native.Nat.{ℕ, _≤_}
 use mathlib.Core.Path.{_≡_}
 use mathlib.Core.Bool.{Bool, true, false}

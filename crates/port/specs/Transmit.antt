@@ -13,7 +13,7 @@ use Rattle.machine.specs.Time.{timersFallen}
 use Rattle.machine.specs.Ages.{sentAges, barred, agesTicked}
 use Rattle.port.specs.Periodic.{bothPassive}
 
--- nothing to send: NTT clear, link down or LACP off; then the limit; then an LACPDU is due
+-- R2.10, then R2.11, then an LACPDU is due
 unfoldable pub due : Port → Due
 due p = cond (not (p .ntt) || (not (p .line .up) || not (p .line .full))) Nothing (cond (barred (p .ages)) Barred Lacpdu)
 
@@ -21,13 +21,13 @@ due p = cond (not (p .ntt) || (not (p .line .up) || not (p .line .full))) Nothin
 unfoldable pub sent : Port → Port
 sent p = withNtt (withAges p (sentAges (p .ages))) false
 
--- where NTT is cleared: LACP off, link up or down (document 01); and where the link is up and both are passive (43.4.16)
+-- where NTT is cleared (R4.9): LACP off, link up or down; and where the link is up and both are passive (43.4.16)
 unfoldable pub silent : Port → Bool
 silent p = silentOn (p .line) (bothPassive p)
 
 unfoldable pub quieted : Port → Port
 quieted p = cond (silent p) (withNtt p false) p
 
--- step 1 of a tick: running timers fall by one, ages of sends rise by one
+-- step 1 of a tick (R4.1): timers and ages of sends
 unfoldable pub ticked : Port → Port
 ticked p = withAges (withTimers p (timersFallen (p .timers))) (agesTicked (p .ages))

@@ -48,7 +48,7 @@ impl Port {
         }
     }
 
-    // Step 3: down to DETACHED through each state, so that no frame reaches two aggregators.
+    // Step 3: state by state down to DETACHED, so that no frame reaches two aggregators.
     pub fn detach(self) -> Self
         ensures { λ r. ⌜ r ≡ detached self ⌝ }
     {
@@ -58,7 +58,7 @@ impl Port {
             .mux_step(false)
     }
 
-    // Step 4: the port takes an aggregator, becomes SELECTED and enters WAITING.
+    // Step 4: the port holds this aggregator now, is SELECTED, and waits.
     pub fn place(mut self, aggregator: u8) -> Self
         ensures { λ r. ⌜ r ≡ placed aggregator self ⌝ }
     {
@@ -66,7 +66,7 @@ impl Port {
         self.with_selected(Selection::Selected).mux_step(false)
     }
 
-    // Step 5: a waiting port of a Ready aggregator attaches.
+    // Step 5: a port that waits attaches where its aggregator is Ready.
     pub fn attach(self, ready: bool) -> Self
         ensures { λ r. ⌜ r ≡ attachedIf ready self ⌝ }
     {
@@ -79,7 +79,7 @@ impl Port {
         }
     }
 
-    // Step 6: up or down by the partner's bits until no step applies.
+    // Step 6: up or down as the partner's bits say, to where the machine rests.
     pub fn mux(self) -> Self
         ensures { λ r. ⌜ r ≡ muxRun self ⌝ }
     {

@@ -1,4 +1,4 @@
-// What is kept for each port (document 01), in groups; a later field is a new group behind a setter.
+// The record of a port (R3.1), in groups; a later field is a new group behind a setter.
 ghost use mathlib.Core.Path.{_≡_};
 ghost use Rattle.port.specs.Record.{withReceive, withSelected, withCurrent, actorBlock};
 use frame::block::Address;

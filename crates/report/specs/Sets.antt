@@ -1,4 +1,4 @@
--- The aggregator report (document 01): the ports that hold an aggregator, are attached to it and distribute, as sets of ports.
+-- The aggregator report (R15.2 to R15.4): sets of ports, by how they stand to an aggregator.
 use Prim.Native.Nat.{ℕ, _+_, _*_, _/_, _%_, _^_}
 use mathlib.Core.Bool.{Bool, cond, _&&_}
 use mathlib.Core.List.{List, [], _∷_}
@@ -26,7 +26,7 @@ setOf f (p ∷ ps) = setOf f ps * 2 + weighed (f p) 1
 abbrev pub lowestOf : ℕ → ℕ
 lowestOf x = cond (eqb x 0) 0 (trailingZeros 32 x + 1)
 
--- how many are distributing, and which is lowest
+-- what the report says of aggregator k
 unfoldable pub setsOf : ℕ → List Port → Sets
 setsOf k ps = record {
   holding = setOf (stands Holds k) ps;

@@ -1,4 +1,4 @@
--- The cases of document 01, each by computation. Assumes nothing.
+-- The cases (R16.1 to R16.10), each by computation. Assumes nothing.
 use mathlib.Core.Path.{refl}
 use Rattle.machine.specs.Compare.{sameAddress, sameSystem, sameNumbers, sameParty, sameView, maintained, inSync}
 use Rattle.port.specs.Receive.{recordDefault, recordPdu, updateSelected, updateDefaultSelected, updateNtt, initialized, portDisabled, expired}

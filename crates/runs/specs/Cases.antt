@@ -1,4 +1,4 @@
--- The cases of document 01 marked P, in its order, over runs of the calls whose answers and tables the program's contracts cite.
+-- The cases R16.1 to R16.10, in their order, over runs of the calls whose answers and tables the program's contracts cite.
 use Prim.Native.Nat.{ℕ, zero, suc, _-_}
 use mathlib.Core.Path.{_≡_}
 use mathlib.Core.Bool.{Bool, true, false}
@@ -106,37 +106,37 @@ unfoldable pub passiveSays : ℕ → List ℕ
 passiveSays v = run up (receive 1 (frame 5 1 0x0C 1 v) (zeros 124) ∷ [])
 
 pub record Cases : Type 0 where
-  -- active, short, aggregatable is 0x07; with Synchronization, Collecting, Distributing 0x3F; the same with long 0x3D
+  -- R16.1: state octets
   pub active-short : stateOctet (state true true true false false false false false) ≡ 0x07
   pub in-trunk : stateOctet (state true true true true true true false false) ≡ 0x3F
   pub in-trunk-long : stateOctet (state true false true true true true false false) ≡ 0x3D
-  -- active, long, aggregatable port: after start 0x45; after link up, before any tick, 0xC5
+  -- R16.2: a port that has heard nobody
   pub after-start : actorOf 1 (started 1) ≡ 0x45
   pub after-link-up : actorOf 1 up ≡ 0xC5
-  -- alone, partner not in sync: WAITING after 19 ticks, ATTACHED at the 20th
+  -- R16.3: the wait of a port by itself
   pub alone-19 : standing (1 ∷ []) (ticks 19 alone) ≡ on 1 Waiting ∷ []
   pub alone-20 : standing (1 ∷ []) (ticks 20 alone) ≡ on 1 Attached ∷ []
-  -- port 4 starts waiting, port 6 joins its group 5 ticks later: both attach at tick 25
+  -- R16.4: port 4 waits for port 6
   pub joined-24 : standing (4 ∷ 6 ∷ []) (fourSix 24) ≡ on 4 Waiting ∷ on 4 Waiting ∷ []
   pub joined-25 : standing (4 ∷ 6 ∷ []) (fourSix 25) ≡ on 4 Attached ∷ on 4 Attached ∷ []
-  -- ports 3 and 5 share aggregator 3; port 2 learns their group: all three hold 2 and are WAITING
+  -- R16.5: port 2 comes to ports 3 and 5
   pub sharing : standing (3 ∷ 5 ∷ []) threeFive ≡ on 3 Attached ∷ on 3 Attached ∷ []
   pub learned : standing (2 ∷ 3 ∷ 5 ∷ []) (run threeFive (hears 2 5 2 ∷ [])) ≡ on 2 Waiting ∷ on 2 Waiting ∷ on 2 Waiting ∷ []
-  -- 2 and 4 on aggregator 2, 3 and 5 on 3; port 2 goes over to 3 and 5: 4 holds 4; 2, 3, 5 hold 2
+  -- R16.6: port 2 leaves port 4 for ports 3 and 5
   pub parted : standing (2 ∷ 4 ∷ 3 ∷ 5 ∷ []) twoGroups ≡ on 2 Attached ∷ on 2 Attached ∷ on 3 Attached ∷ on 3 Attached ∷ []
   pub gone-over : standing (4 ∷ 2 ∷ 3 ∷ 5 ∷ []) (run twoGroups (hears 2 6 2 ∷ []))
       ≡ on 4 Waiting ∷ on 2 Waiting ∷ on 2 Waiting ∷ on 2 Waiting ∷ []
-  -- long timeout, silence: CURRENT after 899 ticks, EXPIRED at 900, DEFAULTED at 930
+  -- R16.7: silence under a long timeout
   pub silence : receiveAt 1 (899 ∷ 900 ∷ 929 ∷ 930 ∷ []) alone ≡ Current ∷ Expired ∷ Expired ∷ Defaulted ∷ []
-  -- LACPDU of 123 octets: 8; 124 and 125: 0
+  -- R16.8: lengths
   pub octets-123 : answerTo (take 123 lacpdu124) ≡ 8
   pub octets-124 : answerTo lacpdu124 ≡ 0
   pub octets-125 : answerTo (lacpdu124 ++ (0 ∷ [])) ≡ 0
-  -- subtype 0: 8; 3: 7; 10: 7; 11: 8
+  -- R16.9: subtypes
   pub subtype-0 : answerTo (withSubtype 0) ≡ 8
   pub subtype-3 : answerTo (withSubtype 3) ≡ 7
   pub subtype-10 : answerTo (withSubtype 10) ≡ 7
   pub subtype-11 : answerTo (withSubtype 11) ≡ 8
-  -- sender passive, we active, its partner block says passive: no Synchronization; says active: Synchronization if the rest agrees
+  -- R16.10: a passive sender, by what it says of us
   pub says-passive : partnerInSync 1 (passiveSays 0x04) ≡ false
   pub says-active : partnerInSync 1 (passiveSays 0x05) ≡ true

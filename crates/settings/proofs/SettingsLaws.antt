@@ -59,7 +59,7 @@ if-partner : (b : Bool) (p : Port) → cond b p (unselected p) .partner ≡ p .p
 if-partner true p = refl
 if-partner false p = refl
 
--- a new default block counts from the next recordDefault: the partner block in force stays
+-- R12.4: no settings touch the partner block in force
 pub changed-partner : (s : Settings) (p : Port) → changed s p .partner ≡ p .partner
 unfolding changed regrouped
 changed-partner s p = if-partner (sameGrouping s p) p

@@ -1,4 +1,4 @@
--- A port's settings: one set at start, changed by a call (document 01, 'Settings').
+-- A port's settings: one set at start (R3.5), changed by a call (R12).
 use Prim.Native.Nat.{ℕ}
 use mathlib.Core.Bool.{Bool, true, false, cond, _&&_}
 use lib.Dec.{eqb}
@@ -39,19 +39,18 @@ sameSettings s p =
 unfoldable pub regrouped : Settings → Port → Port
 regrouped s p = cond (sameGrouping s p) p (unselected p)
 
--- equal settings change nothing; any change sets NTT; a changed key, port priority or Aggregation makes the port UNSELECTED
+-- other settings (R12.2, R12.3)
 unfoldable pub changed : Settings → Port → Port
 changed s p = withNtt (withActor (withOwn (regrouped s p) (ownOf s)) (ownBits s (p .actor))) true
 
 unfoldable pub configured : Settings → Port → Port
 configured s p = cond (sameSettings s p) p (changed s p)
 
--- default partner block: answer 4 where Collecting differs from Synchronization
+-- the test of answer 4 (R2.4)
 unfoldable pub lawful : Settings → Bool
 lawful s = alike (s .default .state .collecting) (s .default .state .synchronization)
 
--- before INITIALIZE: links down, duplex full, NTT set, NO_PERIODIC, DETACHED, timers stopped, no send remembered. The aggregator is
--- taken in step 4, since the port is UNSELECTED.
+-- the record before INITIALIZE (R3.9). Its aggregator is never read: the port is UNSELECTED, so step 4 gives it one.
 unfoldable pub blank : Settings → Port
 blank s =
     port (phase Initialize NoPeriodic Detached Unselected) 1 true (record { up = false; full = true })
@@ -59,6 +58,6 @@ blank s =
     (timers (ticks 0) (ticks 0) (ticks 0))
     (ages noSend noSend noSend) (ownOf s) (s .default)
 
--- start performs INITIALIZE and then PORT_DISABLED
+-- INITIALIZE and PORT_DISABLED, as for a partner that has moved (R3.9)
 unfoldable pub started : Settings → Port
 started s = moved (blank s)

@@ -138,7 +138,7 @@ impl Settings {
                     & (alike(self.timeout, p.actor.timeout) & same_block(d, e))))
     }
 
-    // A changed key, port priority or Aggregation makes the port UNSELECTED.
+    // UNSELECTED where R12.2 says so.
     fn regroup(self, p: Port) -> Port
         ensures { λ r. ⌜ r ≡ regrouped self p ⌝ }
     {
@@ -161,7 +161,7 @@ impl Settings {
         q
     }
 
-    // The port with these settings; equal ones change nothing. A new default block counts from the next recordDefault.
+    // The port with these settings, or as it is where it has them. The partner in force stays as it is (R12.4).
     pub fn configure(self, p: Port) -> Port
         ensures { λ r. ⌜ r ≡ configured self p ⌝ }
     {

@@ -1,4 +1,4 @@
--- Answer 1's ranges (document 01, 'What is kept for each port'): of a record's octets, and of its fields.
+-- Answer 1's ranges (R3.14 to R3.17): of a record's octets, and of its fields.
 use Prim.Native.Nat.{ℕ}
 use mathlib.Core.Bool.{Bool, true, _&&_, _||_}
 use mathlib.Core.List.{List, [], _∷_}

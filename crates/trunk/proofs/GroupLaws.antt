@@ -65,7 +65,7 @@ module _ (ours : SystemId) where
       (record { first = t .first; second = u .second; key = t .key ∙ u .key; system = t .system ∙ u .system; partnerKey = t .partnerKey ∙ u .partnerKey })
 
 module _ (ours : SystemId) (cs : List Compared) where
-  -- a port shares a group with itself
+  -- R10.3: every port is in a group with itself
   pub shares-refl : (i : ℕ) → sharesGroup ours cs i i ≡ true
   unfolding sharesGroup
   shares-refl i = rw (eq-eqb i i refl)

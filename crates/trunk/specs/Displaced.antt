@@ -1,4 +1,4 @@
--- Displaced ports (43.4.8 port_moved, document 01 'Displaced').
+-- Displaced ports (43.4.8 port_moved, R7.15).
 use Prim.Native.Nat.{ℕ}
 use mathlib.Core.Bool.{Bool, true, false, cond, not, _&&_}
 use mathlib.Core.List.{List}

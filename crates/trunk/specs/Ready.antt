@@ -1,4 +1,4 @@
--- Ready of an aggregator (43.4.8, document 01 step 5): it has waiting ports, and the wait timers of all of them have run out.
+-- Ready of an aggregator (43.4.8, R11.5): somebody waits for it, and nobody with a timer still running.
 use Prim.Native.Nat.{ℕ}
 use mathlib.Core.Bool.{Bool, true, false, not, _&&_, _||_}
 use mathlib.Core.List.{List, [], _∷_}

@@ -1,4 +1,4 @@
--- The selection rule (43.4.14, document 01 'Selection'), over what it reads of each record. Ports are counted from 0 here, and their
+-- The selection rule (43.4.14, R10), over what it reads of each record. Ports are counted from 0 here, and their
 -- aggregators from 1.
 use Prim.Native.Nat.{ℕ, zero, suc, _+_}
 use mathlib.Core.Bool.{Bool, false, cond, not, _&&_, _||_}
@@ -9,15 +9,15 @@ use Rattle.frame.specs.declared.block.SystemId.{SystemId}
 use Rattle.machine.specs.Compare.{sameSystem}
 use Rattle.port.specs.Compared.{Compared}
 
--- a port is individual if its own or its partner's Aggregation is clear, or its partner's system priority and address are ours
+-- R10.1: one end does not aggregate, or the other end is our own system too
 unfoldable pub individual : SystemId → Compared → Bool
 individual ours c = not (c .aggregation) || (not (c .partnerAggregation) || sameSystem (c .system) ours)
 
--- own key, partner system priority, partner system and partner key are all equal
+-- what ports of one group agree in (R10.2)
 unfoldable pub sameKeys : Compared → Compared → Bool
 sameKeys c d = eqb (c .key) (d .key) && (sameSystem (c .system) (d .system) && eqb (c .partnerKey) (d .partnerKey))
 
--- two other ports share a group exactly if neither is individual and these are equal
+-- R10.2, of two ports that are not one and the same
 unfoldable pub sameGroup : SystemId → Compared → Compared → Bool
 sameGroup ours c d = not (individual ours c) && (not (individual ours d) && sameKeys c d)
 
@@ -35,7 +35,7 @@ nobody = record {
 unfoldable pub joins : SystemId → List Compared → ℕ → ℕ → Bool
 joins ours cs i j = sameGroup ours (getD cs i nobody) (getD cs j nobody)
 
--- a port shares a group with itself; an individual port is a group of one
+-- R10.3: and every port with itself
 unfoldable pub sharesGroup : SystemId → List Compared → ℕ → ℕ → Bool
 sharesGroup ours cs i j = eqb i j || joins ours cs i j
 
@@ -48,6 +48,6 @@ firstFrom f j (suc n) = cond (f j) j (firstFrom f (j + 1) n)
 unfoldable pub lowest : SystemId → List Compared → ℕ → ℕ
 lowest ours cs i = firstFrom (joins ours cs i) 0 i
 
--- a group's aggregator is that of its lowest-numbered port
+-- R10.4: that port's number, from 1
 unfoldable pub ruleOf : SystemId → List Compared → ℕ → ℕ
 ruleOf ours cs i = lowest ours cs i + 1

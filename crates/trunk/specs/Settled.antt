@@ -1,4 +1,4 @@
--- Steps 3 to 6 of document 01's order of work, on all records.
+-- Steps 3 to 6 of an accepted call (R4), on all records.
 use Prim.Native.Nat.{ℕ, _+_, _<_}
 use mathlib.Core.Path.{_≡_}
 use lib.ListN.{length, getD}
@@ -24,11 +24,11 @@ abbrev pub isUnselected : Selection → Bool
 isUnselected Unselected = true
 isUnselected Selected = false
 
--- UNSELECTED, or holds another aggregator than k, which the rule gives
+-- UNSELECTED, or the aggregator k that the rule gives is not what it holds
 unfoldable pub mustMove : ℕ → Port → Bool
 mustMove k p = isUnselected (p .phase .selected) || not (eqb (p .aggregator) k)
 
--- steps 3 and 4 for one port: down to DETACHED through each state, and only then to the rule's aggregator
+-- steps 3 and 4 for one port: state by state down to DETACHED, and only then to the rule's aggregator
 unfoldable pub reselected : ℕ → Port → Port
 reselected k p = cond (mustMove k p) (placed k (detached p)) p
 
@@ -39,7 +39,7 @@ selecting ours ps i p = reselected (ruleOf ours (map compared ps) i) p
 unfoldable pub selectedAll : SystemId → List Port → List Port
 selectedAll ours ps = mapFrom (selecting ours ps) 0 ps
 
--- step 5, a port among these: Ready is worked out once for each aggregator
+-- step 5, a port among these: Ready as it is before any port attaches
 abbrev pub attaching : List Port → Port → Port
 attaching ps p = attachedIf (ready (p .aggregator) ps) p
 

@@ -1,4 +1,4 @@
-// What needs more than one port: the selection rule, Ready, steps 3 to 6 of document 01's order of work, and displaced ports.
+// What needs more than one port: the selection rule, Ready, steps 3 to 6 (R4), and displaced ports.
 // Everything works on the lent memory of a table that passed the range check; a record is loaded, stepped and stored, or left alone.
 pub mod displace;
 pub mod ready;

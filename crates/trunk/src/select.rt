@@ -22,7 +22,7 @@ fn is_individual(p: Port, ours: SystemId) -> bool
     !p.actor.aggregation | (!partner.state.aggregation | same_system(system, ours))
 }
 
-// Whether two other ports share a group.
+// Whether two ports, not one and the same, are in one group (R10.2).
 fn same_group(p: Port, q: Port, ours: SystemId) -> bool
     ensures { λ r. ⌜ r ≡ sameGroup ours (compared p) (compared q) ⌝ }
 {
@@ -49,7 +49,7 @@ fn lowest(table: &[u8], i: usize, p: Port, ours: SystemId) -> usize
     i
 }
 
-// UNSELECTED, or holds another aggregator than k.
+// UNSELECTED, or k is not what it holds.
 fn must_move(p: Port, k: u8) -> bool
     ensures { λ r. ⌜ r ≡ mustMove k p ⌝ }
 {
@@ -67,7 +67,7 @@ fn is_unselected(s: Selection) -> bool
     }
 }
 
-// Steps 3 and 4 for port i: the rule afresh. A port that must move goes down to DETACHED through each state, and only then to the
+// Steps 3 and 4 for port i: the rule afresh. A port that must move goes state by state down to DETACHED, and only then to the
 // rule's aggregator; one that need not is left alone.
 fn select_one(table: &mut [u8], i: usize, ours: SystemId)
     requires { ⌜ InTable (now table) i ⌝ }

@@ -1,4 +1,4 @@
-// Steps 3 to 6 of document 01's order of work.
+// Steps 3 to 6 of an accepted call (R4).
 ghost use mathlib.Core.Path.{_≡_};
 ghost use mathlib.Core.Bool.{true};
 ghost use Rattle.table.specs.Layout.{headerOf};

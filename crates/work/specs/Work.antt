@@ -1,4 +1,4 @@
--- What an accepted call leaves in the table, in document 01's order of work: its own change and the receive machine, displaced ports,
+-- What an accepted call leaves in the table, step by step (R4): its own change and the receive machine, displaced ports,
 -- periodic machines, then steps 3 to 6. Ports are counted from 0 here.
 use Prim.Native.Nat.{ℕ, _+_}
 use mathlib.Core.Bool.{cond}
