@@ -264,8 +264,8 @@ MUTANTS = [
         ("trunk/specs/Displaced.antt", "displacedIf r a i p = cond (not (eqb i r) && isDisplaced a p) (moved p) p",
          "displacedIf r a i p = cond (not (eqb i r) && not (isDisplaced a p)) (moved p) p"),)),
     Mutant("3 locality", "every call ages every port", ("locality-heard", "locality-fallen"), "", (
-        ("work/specs/Work.antt", "worked s ps = settled s (map periodicRun ps)",
-         "worked s ps = settled s (map (λ (p : Port). periodicRun (Rattle.port.specs.Transmit.ticked p)) ps)"),)),
+        ("work/specs/Work.antt", "worked h ps = settled h (map periodicRun ps)",
+         "worked h ps = settled h (map (λ (p : Port). periodicRun (Rattle.port.specs.Transmit.ticked p)) ps)"),)),
     Mutant("3 a group's own timers", "a Ready that another group's timer holds back", ("distributing",), "trunk::ready::holds_back", (
         ("trunk/specs/Ready.antt", "waitsFor k p = eqb (p .aggregator) k &&", "waitsFor k p = eqb (p .aggregator) (p .aggregator) &&"),
         ("trunk/src/ready.rt", "((held == k) & m.waits())", "((held == held) & m.waits())"))),
@@ -275,8 +275,8 @@ MUTANTS = [
     Mutant("4 at rest", "one step of the mux", ("at-rest",), "", (
         ("port/specs/Mux.antt", "muxRun p = muxStep false (muxStep false p)", "muxRun p = muxStep false p"),)),
     Mutant("5 read-back", "the two blocks exchanged", ("read-back",), "work::write_due", (
-        ("work/specs/Work.antt", "lacpduOf t i = lacpdu (portAt t i .own .address) (actorBlock (ours t) (i + 1) (portAt t i)) (portAt t i .partner) (headerOf t .delay)",
-         "lacpduOf t i = lacpdu (portAt t i .own .address) (portAt t i .partner) (actorBlock (ours t) (i + 1) (portAt t i)) (headerOf t .delay)"),
+        ("work/specs/Work.antt", "lacpduOf t i = lacpdu (portAt t i .own .address) (actorBlock (ours t .system) (i + 1) (portAt t i)) (portAt t i .partner) (ours t .delay)",
+         "lacpduOf t i = lacpdu (portAt t i .own .address) (portAt t i .partner) (actorBlock (ours t .system) (i + 1) (portAt t i)) (ours t .delay)"),
         ("work/src/lib.rt", "frame::wire::write_lacpdu(out, address, actor, partner, delay);", "frame::wire::write_lacpdu(out, address, partner, actor, delay);"))),
     Mutant("6 the live partner", "EXPIRED that records the default block", ("live-though-silent",), "port::record::Port::expire", (
         ("port/specs/Receive.antt", "expired p =\n    withReceive (expiredBit (withCurrent (withPartnerState p (withTimeout (withSynchronization (p .partner .state) false) true)) shortTimeoutTime) true) Expired",
@@ -344,7 +344,7 @@ MUTANTS = [
         ("trunk/specs/Settled.antt", "attachedAll ps = map (attaching ps) ps", "attachedAll ps = map (λ p. attachedIf (eqb (p .timers .wait .0) 0) p) ps"),)),
     Mutant("case 3, 5 and 2", "a partner that aggregates taken for individual", ("sharing", "learned"), "trunk::select::is_individual", (
         ("trunk/specs/Selection.antt", "not (c .partnerAggregation)", "c .partnerAggregation"),
-        ("trunk/src/select.rt", "(!partner.state.aggregation | same_system(system, ours))", "(partner.state.aggregation | same_system(system, ours))"),
+        ("trunk/src/select.rt", "(!partner.state.aggregation | same_system(system, us))", "(partner.state.aggregation | same_system(system, us))"),
         ("trunk/proofs/select/is_individual/Proof.antt", "c .same-system .ensures", "c .before .same-system .ensures"))),
     Mutant("case 2, 4 and 3, 5", "partner systems not compared", ("parted", "gone-over"), "trunk::select::same_group", (
         ("trunk/specs/Selection.antt", "(sameSystem (c .system) (d .system) &&", "(sameSystem (c .system) (c .system) &&"),

@@ -19,6 +19,7 @@ use Rattle.port.specs.Receive.{lined}
 use Rattle.port.specs.Transmit.{sent}
 use Rattle.settings.specs.declared.Settings.{Settings}
 use Rattle.settings.specs.Settings.{configured, sameSettings, started}
+use Rattle.table.specs.declared.layout.Header.{Header}
 use Rattle.table.specs.Layout.{headerOf, within, mostPorts, tableSize}
 use Rattle.table.specs.Table.{countIn, portAt, ports}
 use Rattle.table.proofs.RangeLaws.{both}
@@ -63,7 +64,8 @@ pub started-count : (t : List ℕ) (count : ℕ) (system : SystemId) (delay : Te
     → countIn (changedBy (start count system delay x) t) ≡ count
 unfolding changedBy afterStart
 started-count t count system delay x =
-    made-count (record { count = count; system = system; delay = delay }) (settled system (replicate count (started x)))
+    let h : Header = record { count = count; system = system; delay = delay } in
+    made-count h (settled h (replicate count (started x)))
 
 same-count : (a b : ℕ) → tableSize a ≡ tableSize b → a ≡ b
 same-count a b e = omega arith

@@ -6,11 +6,11 @@ use mathlib.Core.Bool.{not, _||_, Bool, true, false, cond}
 use mathlib.Core.List.{map}
 use lib.Dec.{eqb}
 use borrow.Author.Tests.{eqb-true, eqb-false}
-use Rattle.frame.specs.declared.block.SystemId.{SystemId}
 use Rattle.frame.specs.declared.block.PortId.{PortId}
 use Rattle.machine.specs.Compare.{sameSystem}
 use Rattle.port.specs.declared.record.Port.{Port}
 use Rattle.port.specs.Compared.{compared}
+use Rattle.table.specs.declared.layout.Header.{Header}
 use Rattle.table.specs.Table.{portAt, ports}
 use Rattle.trunk.specs.Selection.{individual}
 use Rattle.trunk.proofs.SelectLaws.{joins-at}
@@ -19,16 +19,16 @@ use Rattle.work.specs.Work.{ours}
 use Rattle.claims.specs.Lag.{isIndividual, lagOf, lagAt, anyPort}
 use Rattle.claims.specs.Claims.{GroupHasLag}
 
-aggregatable : (s : SystemId) (p : Port) → individual s (compared p) ≡ false → isIndividual p ≡ false
+aggregatable : (s : Header) (p : Port) → individual s (compared p) ≡ false → isIndividual p ≡ false
 unfolding individual
 aggregatable s p e = by (p .actor .aggregation) (p .partner .state .aggregation) e
   where
-    by : (a b : Bool) → not a || (not b || sameSystem (p .partner .system) s) ≡ false → not a || not b ≡ false
+    by : (a b : Bool) → not a || (not b || sameSystem (p .partner .system) (s .system)) ≡ false → not a || not b ≡ false
     by true true e = refl
     by true false e = e
     by false b e = e
 
-same-lag : (s : SystemId) (m n : ℕ) (p q : Port) → Together s (compared p) (compared q) → lagOf s m p ≡ lagOf s n q
+same-lag : (s : Header) (m n : ℕ) (p q : Port) → Together s (compared p) (compared q) → lagOf (s .system) m p ≡ lagOf (s .system) n q
 same-lag s m n p q g =
     let x : PortId = record { priority = p .own .priority; number = m } in
     let y : PortId = record { priority = q .own .priority; number = n } in
@@ -37,7 +37,7 @@ same-lag s m n p q g =
     let one : cond (isIndividual p) x anyPort ≡ cond (isIndividual q) y anyPort = rw (f, h) in
     let two : cond (isIndividual p) (p .partner .port) anyPort ≡ cond (isIndividual q) (q .partner .port) anyPort = rw (f, h) in
     λ i. record {
-      system = s;
+      system = s .system;
       key = g .key i;
       port = one i;
       partnerSystem = g .system i;

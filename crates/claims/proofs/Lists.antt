@@ -9,10 +9,10 @@ use lib.ListN.{length, getD, set, length-map, length-set, replicate, length-repl
 use lib.Seq.{getD-set-same, getD-set-other}
 use lib.Dec.{eqb}
 use borrow.Author.Tests.{eqb-true, eqb-false}
-use Rattle.frame.specs.declared.block.SystemId.{SystemId}
 use Rattle.port.specs.declared.record.Port.{Port}
 use Rattle.port.specs.Compared.{compared}
 use Rattle.port.specs.Mux.{attachedIf}
+use Rattle.table.specs.declared.layout.Header.{Header}
 use Rattle.trunk.specs.Selection.{ruleOf, lowest}
 use Rattle.trunk.specs.Ready.{ready}
 use Rattle.trunk.specs.Settled.{mapFrom, reselected, selectedAll, climbed, settled}
@@ -55,7 +55,7 @@ each-alike P n p h i d k =
     rw (getD-replicate n i p d less) h
 
 -- the rule's aggregators are those of ports of the list
-pub rule-within : (ours : SystemId) (ps : List Port) (i : ℕ) → i < length ps
+pub rule-within : (ours : Header) (ps : List Port) (i : ℕ) → i < length ps
     → (1 ≤ ruleOf ours (map compared ps) i) × (ruleOf ours (map compared ps) i ≤ length ps)
 unfolding ruleOf
 rule-within ours ps i h =
@@ -63,7 +63,7 @@ rule-within ours ps i h =
     (omega arith, omega arith)
 
 -- what each of steps 3 to 6 keeps, they keep together
-pub each-settled : (P : Port → Type 0) (ours : SystemId) (ps : List Port)
+pub each-settled : (P : Port → Type 0) (ours : Header) (ps : List Port)
     → ((k : ℕ) (p : Port) → 1 ≤ k → k ≤ length ps → P p → P (reselected k p))
     → ((r : Bool) (p : Port) → P p → P (attachedIf r p))
     → ((p : Port) → P p → P (climbed p))

@@ -33,12 +33,12 @@ module _ (t : List ℕ) (n : ℕ) (out : List ℕ) (e : answer (fetch n out) t �
   unfolding lacpduOf
   reads =
       let p = portAt t (n - 1) in
-      let us = actorBlock (ours t) ((n - 1) + 1) p in
+      let us = actorBlock (ours t .system) ((n - 1) + 1) p in
       record {
         kind = lacpdu-heard (p .own .address) us (p .partner) (headerOf t .delay) (drop 124 out);
         actor =
             actor-back (p .own .address) us (p .partner) (headerOf t .delay) (drop 124 out)
-            ∙ ap (λ (m : ℕ). actorBlock (ours t) m p) number;
+            ∙ ap (λ (m : ℕ). actorBlock (ours t .system) m p) number;
         partner = partner-back (p .own .address) us (p .partner) (headerOf t .delay) (drop 124 out);
       }
 

@@ -8,7 +8,6 @@ use lib.ListN.{length, getD, set, length-map, length-set}
 use lib.Seq.{ext-getD, getD-set-same, getD-set-other, map-set-same}
 use lib.Dec.{eqb}
 use borrow.Author.Tests.{eqb-true, eqb-false}
-use Rattle.frame.specs.declared.block.SystemId.{SystemId}
 use Rattle.machine.specs.declared.mux.MuxStep.the-variants.{Stay}
 use Rattle.machine.specs.Mux.{waits}
 use Rattle.port.specs.declared.record.Port.{Port}
@@ -18,6 +17,7 @@ use Rattle.port.specs.Mux.{muxChoice, muxStep, muxRun, attachedIf}
 use Rattle.port.specs.Transmit.{silent, quieted, sent}
 use Rattle.port.proofs.MuxLaws.{mux-idle}
 use Rattle.port.proofs.TransmitLaws.{quieted-keeps, quieted-twice, besideSends}
+use Rattle.table.specs.declared.layout.Header.{Header}
 use Rattle.table.specs.Record.{decoded}
 use Rattle.trunk.specs.Selection.{ruleOf}
 use Rattle.trunk.specs.Ready.{waitsFor, hasWaiting, holdsBack, heldBack, ready}
@@ -60,10 +60,10 @@ pub record Firm (k : ℕ) (r : ℕ → Bool) (p : Port) : Type 0 where
 
 -- ---- a list
 
-abbrev pub Settles : SystemId → List Port → Type 0
+abbrev pub Settles : Header → List Port → Type 0
 Settles ours ps = (i : ℕ) (d : Port) → i < length ps → Firm (ruleOf ours (map compared ps) i) (λ k. ready k ps) (getD ps i d)
 
-module _ (ours : SystemId) (ps : List Port) where
+module _ (ours : Header) (ps : List Port) where
   pub settles : settled ours ps ≡ ps → Settles ours ps
   settles e i d h = record {
     chosen = chosen;
@@ -175,7 +175,7 @@ ready-beside : (k : ℕ) (ps : List Port) → ready k (map besideSends ps) ≡ r
 unfolding ready
 ready-beside k ps = rw (waiting-beside k ps, held-beside k ps)
 
-module _ (ours : SystemId) (ps : List Port) (n : ℕ) (d : Port) (f : Settles ours ps) where
+module _ (ours : Header) (ps : List Port) (n : ℕ) (d : Port) (f : Settles ours ps) where
   qs : List Port
   qs = set ps n (sent (getD ps n d))
 

@@ -8,7 +8,6 @@ use native.Mathlib.Omega.{arith}
 use lib.ListN.{length, getD, set, replicate, length-map, length-set, length-replicate}
 use lib.Dec.{eqb}
 use Rattle.frame.specs.declared.block.Block.{Block}
-use Rattle.frame.specs.declared.block.SystemId.{SystemId}
 use Rattle.frame.specs.Block.{blockOf}
 use Rattle.frame.specs.Wire.{actorPart, partnerPart}
 use Rattle.machine.specs.declared.states.Line.{Line}
@@ -50,31 +49,31 @@ use Rattle.claims.proofs.Settles.{Settles, settles, settles-is, sent-se
 abbrev pub Fits : ℕ → Port → Type 0
 Fits count p = portInRange count p ≡ true
 
-pub settled-fits : (count : ℕ) (s : SystemId) (ps : List Port) → length ps ≡ count → Each (Fits count) ps → Each (Fits count) (settled s ps)
+pub settled-fits : (count : ℕ) (s : Header) (ps : List Port) → length ps ≡ count → Each (Fits count) ps → Each (Fits count) (settled s ps)
 settled-fits count s ps n e =
     each-settled (Fits count) s ps
     (λ k p a b h. reselected-ranged count k p (within-is 1 k count a (omega arith)) h)
     (λ r p h. attached-ranged count r p h)
     (λ p h. climbed-ranged count p h) e
 
-pub settled-resting : (s : SystemId) (ps : List Port) → Each Resting ps → Each Resting (settled s ps)
+pub settled-resting : (s : Header) (ps : List Port) → Each Resting ps → Each Resting (settled s ps)
 settled-resting s ps e =
     each-settled Resting s ps (λ k p a b h. reselected-resting k p h) (λ r p h. attached-resting r p h) (λ p h. climbed-resting p h) e
 
-pub settled-at-rest : (s : SystemId) (ps : List Port) → Each Resting ps → AtRest s (settled s ps)
+pub settled-at-rest : (s : Header) (ps : List Port) → Each Resting ps → AtRest s (settled s ps)
 settled-at-rest s ps e = record { each = settled-resting s ps e; together = settled-twice s ps }
 
-pub worked-length : (s : SystemId) (ps : List Port) → length (worked s ps) ≡ length ps
+pub worked-length : (s : Header) (ps : List Port) → length (worked s ps) ≡ length ps
 unfolding worked
 worked-length s ps = settled-length s (map periodicRun ps) ∙ length-map ps periodicRun
 
-pub worked-fits : (count : ℕ) (s : SystemId) (ps : List Port) → length ps ≡ count → Each (Fits count) ps → Each (Fits count) (worked s ps)
+pub worked-fits : (count : ℕ) (s : Header) (ps : List Port) → length ps ≡ count → Each (Fits count) ps → Each (Fits count) (worked s ps)
 unfolding worked
 worked-fits count s ps n e =
     settled-fits count s (map periodicRun ps) (length-map ps periodicRun ∙ n)
     (each-map (Fits count) (Fits count) periodicRun ps (λ p h. periodic-ranged count p h) e)
 
-pub worked-at-rest : (s : SystemId) (ps : List Port) → Each Standing ps → AtRest s (worked s ps)
+pub worked-at-rest : (s : Header) (ps : List Port) → Each Standing ps → AtRest s (worked s ps)
 unfolding worked
 worked-at-rest s ps e = settled-at-rest s (map periodicRun ps) (each-map Standing Resting periodicRun ps (λ p h. periodic-standing p h) e)
 
@@ -90,14 +89,14 @@ module _ (h : Header) (qs : List Port) (n : h .count ≡ length qs) (r : Each (F
   pub octets-ports : ports (tableOctets h qs) ≡ qs
   octets-ports = made-ports h qs n list-ranged
 
-  pub octets-sound : headerFits h ≡ true → 1 ≤ h .count → h .count ≤ mostPorts → AtRest (h .system) qs → Sound (tableOctets h qs)
+  pub octets-sound : headerFits h ≡ true → 1 ≤ h .count → h .count ≤ mostPorts → AtRest h qs → Sound (tableOctets h qs)
   octets-sound f some few a =
       let least : 1 ≤ length qs = rw n at some in
       let most : length qs ≤ mostPorts = rw n at few in
       record {
         ranged = in-range-is (tableOctets h qs) (made-in-range h qs n list-ranged least most);
         octets = made-octets h qs n list-ranged f most;
-        rest = subst (λ (x : SystemId). AtRest x (ports (tableOctets h qs))) (sym (ap (λ (x : Header). x .system) (made-header h qs))) (rw octets-ports a);
+        rest = subst (λ (x : Header). AtRest x (ports (tableOctets h qs))) (sym (made-header h qs)) (rw octets-ports a);
       }
 
 -- ---- a sound table with other records
@@ -198,8 +197,8 @@ module _ (t : List ℕ) (s : Sound t) where
       heard-one =
           let a = blockOf (actorPart frame) in
           let b = blockOf (partnerPart frame) in
-          one-before i (heardAt t i frame) (received-ranged (countIn t) (ours t) (i + 1) a b (portAt t i) (part-fits 18 33 frame o) (port-fits t s i h))
-          (received-standing (ours t) (i + 1) a b (portAt t i) u f (port-standing t s i h))
+          one-before i (heardAt t i frame) (received-ranged (countIn t) (ours t .system) (i + 1) a b (portAt t i) (part-fits 18 33 frame o) (port-fits t s i h))
+          (received-standing (ours t .system) (i + 1) a b (portAt t i) u f (port-standing t s i h))
 
       pub heard-before : Before t (displaced i (blockOf (actorPart frame)) (set (ports t) i (heardAt t i frame)))
       unfolding displaced
@@ -275,20 +274,20 @@ module _ (h : Header) (c : Settings) (f : headerFits h ≡ true) (o : ownFits (o
   unfolding alike
   many = length-replicate (h .count) (started c)
 
-  settled-many : h .count ≡ length (settled (h .system) alike)
-  settled-many = sym (settled-length (h .system) alike ∙ many)
+  settled-many : h .count ≡ length (settled h alike)
+  settled-many = sym (settled-length h alike ∙ many)
 
-  start-fits : Each (Fits (h .count)) (settled (h .system) alike)
+  start-fits : Each (Fits (h .count)) (settled h alike)
   start-fits =
-      settled-fits (h .count) (h .system) alike many
+      settled-fits (h .count) h alike many
       (unfold alike in each-alike (Fits (h .count)) (h .count) (started c) (started-ranged (h .count) c some o))
 
-  pub start-ports : ports (afterStart h c) ≡ settled (h .system) (replicate (h .count) (started c))
+  pub start-ports : ports (afterStart h c) ≡ settled h (replicate (h .count) (started c))
   unfolding afterStart alike
-  start-ports = octets-ports h (settled (h .system) alike) settled-many start-fits
+  start-ports = octets-ports h (settled h alike) settled-many start-fits
 
   pub start-sound : Sound (afterStart h c)
   unfolding afterStart alike
   start-sound =
-      octets-sound h (settled (h .system) alike) settled-many start-fits f some few
-      (settled-at-rest (h .system) alike (each-alike Resting (h .count) (started c) (started-resting c)))
+      octets-sound h (settled h alike) settled-many start-fits f some few
+      (settled-at-rest h alike (each-alike Resting (h .count) (started c) (started-resting c)))

@@ -110,7 +110,7 @@ module _ (t : List ℕ) (s : Sound t) (i : ℕ) (h : i < countIn t) where
       let here : i < length (set (ports t) (n - 1) q) = rw (length-set (ports t) (n - 1) q, ports-length) h in
       work-ages (displaced (n - 1) a (set (ports t) (n - 1) q)) (heard-before t s (n - 1) (x .below) frame o (x .up) (x .full))
       ∙ displaced-ages (n - 1) a (set (ports t) (n - 1) q) here
-      ∙ set-ages (n - 1) q (received-ages (ours t) (n - 1 + 1) a b (portAt t (n - 1)))
+      ∙ set-ages (n - 1) q (received-ages (ours t .system) (n - 1 + 1) a b (portAt t (n - 1)))
   frame-ages n frame out o Marker e = refl
   frame-ages n frame out o (Refused r) e = refl
 
@@ -148,7 +148,7 @@ start-ages t count system delay x k e i h =
     let many : i < length ps = rw (length-replicate count (started x)) h in
     sym (ap (λ (p : Port). p .ages) (ports-at (afterStart header x) i (decoded []) (rw (started-count t count system delay x) h)))
     ∙ ap (λ (l : List Port). getD l i (decoded []) .ages) (start-ports header x (k .0) (k .1) (w .0) (w .1))
-    ∙ settled-view (λ p. p .ages) (λ p. refl) (λ p. refl) system ps i (decoded []) many
+    ∙ settled-view (λ p. p .ages) (λ p. refl) (λ p. refl) header ps i (decoded []) many
     ∙ each-alike (λ p. p .ages ≡ ages noSend noSend noSend) count (started x) (started-ages x) i (decoded []) many
 
 -- ---- a fetch that is answered 0 found a place free

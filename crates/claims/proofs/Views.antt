@@ -8,12 +8,12 @@ use lib.ListN.{length, getD, set, length-map}
 use lib.Seq.{getD-set-same}
 use lib.Dec.{eqb}
 use borrow.Author.Tests.{eqb-true}
-use Rattle.frame.specs.declared.block.SystemId.{SystemId}
 use Rattle.port.specs.declared.record.Port.{Port}
 use Rattle.port.specs.Compared.{compared}
 use Rattle.port.specs.Mux.{attachedIf}
 use Rattle.port.specs.Periodic.{periodicRun}
 use Rattle.port.proofs.PeriodicLaws.{besidePeriodic, periodic-keeps}
+use Rattle.table.specs.declared.layout.Header.{Header}
 use Rattle.table.specs.Record.{decoded}
 use Rattle.table.specs.Table.{countIn, portAt, ports}
 use Rattle.trunk.specs.Selection.{ruleOf}
@@ -27,7 +27,7 @@ use Rattle.claims.proofs.Parts.{besideSettled, reselected-beside, attac
 use Rattle.claims.proofs.Sound.{Before, in-ports, work-ports}
 use Rattle.claims.proofs.Locality.{again-at, set-kept}
 
-settled-beside : (s : SystemId) (ps : List Port) (i : ℕ) (d : Port) → i < length ps → besideSettled (getD (settled s ps) i d) ≡ besideSettled (getD ps i d)
+settled-beside : (s : Header) (ps : List Port) (i : ℕ) (d : Port) → i < length ps → besideSettled (getD (settled s ps) i d) ≡ besideSettled (getD ps i d)
 settled-beside s ps i d h =
     let ss = selectedAll s ps in
     let r = ready (getD ss i d .aggregator) ss in
@@ -37,10 +37,10 @@ settled-beside s ps i d h =
 
 -- a view that looks beside what the periodic machine and steps 3 to 6 change
 module _ {A : Type 0} (v : Port → A) (paces : (p : Port) → v (besidePeriodic p) ≡ v p) (settles : (p : Port) → v (besideSettled p) ≡ v p) where
-  pub settled-view : (s : SystemId) (ps : List Port) (i : ℕ) (d : Port) → i < length ps → v (getD (settled s ps) i d) ≡ v (getD ps i d)
+  pub settled-view : (s : Header) (ps : List Port) (i : ℕ) (d : Port) → i < length ps → v (getD (settled s ps) i d) ≡ v (getD ps i d)
   settled-view s ps i d h = sym (settles (getD (settled s ps) i d)) ∙ ap v (settled-beside s ps i d h) ∙ settles (getD ps i d)
 
-  worked-view : (s : SystemId) (ps : List Port) (i : ℕ) (d : Port) → i < length ps → v (getD (worked s ps) i d) ≡ v (getD ps i d)
+  worked-view : (s : Header) (ps : List Port) (i : ℕ) (d : Port) → i < length ps → v (getD (worked s ps) i d) ≡ v (getD ps i d)
   unfolding worked
   worked-view s ps i d h =
       let p = getD ps i d in

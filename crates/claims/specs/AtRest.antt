@@ -5,7 +5,6 @@ use mathlib.Core.Path.{_≡_}
 use mathlib.Core.Bool.{Bool, true, false, not, _&&_}
 use mathlib.Core.List.{List}
 use lib.ListN.{length, getD}
-use Rattle.frame.specs.declared.block.SystemId.{SystemId}
 use Rattle.machine.specs.declared.states.Line.{Line}
 use Rattle.machine.specs.declared.states.Receive.{Receive}
 use Rattle.machine.specs.declared.states.Receive.the-variants.{Initialize, PortDisabled, Expired, LacpDisabled, Defaulted, Current}
@@ -15,6 +14,7 @@ use Rattle.port.specs.declared.record.Port.{Port}
 use Rattle.port.specs.Receive.{receiveChoice}
 use Rattle.port.specs.Periodic.{periodicStep}
 use Rattle.port.specs.Timing.{CurrentTimed, PaceTimed, WaitTimed}
+use Rattle.table.specs.declared.layout.Header.{Header}
 use Rattle.table.specs.Layout.{headerOf}
 use Rattle.table.specs.Table.{tableInRange, ports}
 use Rattle.trunk.specs.Settled.{settled}
@@ -48,7 +48,7 @@ pub record Resting (p : Port) : Type 0 where
   pub pace : PaceTimed p
   pub wait : WaitTimed p
 
-pub record AtRest (ours : SystemId) (ps : List Port) : Type 0 where
+pub record AtRest (ours : Header) (ps : List Port) : Type 0 where
   pub each : (i : ℕ) (d : Port) → i < length ps → Resting (getD ps i d)
   pub together : settled ours ps ≡ ps
 
@@ -56,4 +56,4 @@ pub record AtRest (ours : SystemId) (ps : List Port) : Type 0 where
 pub record Sound (t : List ℕ) : Type 0 where
   pub ranged : tableInRange t ≡ true
   pub octets : Octets t
-  pub rest : AtRest (headerOf t .system) (ports t)
+  pub rest : AtRest (headerOf t) (ports t)

@@ -37,4 +37,4 @@ lagOf s number p = record {
 
 -- ports are counted from 0 here
 abbrev pub lagAt : List ℕ → ℕ → LagId
-lagAt t i = lagOf (ours t) (i + 1) (portAt t i)
+lagAt t i = lagOf (ours t .system) (i + 1) (portAt t i)

@@ -16,7 +16,7 @@ use Rattle.control.specs.After.{answer, outgoing}
 -- it is an LACPDU, and its two information blocks are what the record of port n says of itself and of its partner
 pub record Reads (t : List ℕ) (n : ℕ) (frame : List ℕ) : Type 0 where
   pub kind : classOf frame ≡ class.Lacpdu
-  pub actor : blockOf (actorPart frame) ≡ actorBlock (ours t) n (portAt t (n - 1))
+  pub actor : blockOf (actorPart frame) ≡ actorBlock (ours t .system) n (portAt t (n - 1))
   pub partner : blockOf (partnerPart frame) ≡ portAt t (n - 1) .partner
 
 -- 5: in any memory

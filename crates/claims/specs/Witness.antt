@@ -161,7 +161,7 @@ isLacpdu (class.Refused r) = false
 abbrev pub reads : List ℕ → ℕ → List ℕ → Bool
 reads t n f =
     isLacpdu (classOf f)
-    && (sameBlocks (blockOf (actorPart f)) (actorBlock (ours t) n (portAt t (n - 1))) && sameBlocks (blockOf (partnerPart f)) (portAt t (n - 1) .partner))
+    && (sameBlocks (blockOf (actorPart f)) (actorBlock (ours t .system) n (portAt t (n - 1))) && sameBlocks (blockOf (partnerPart f)) (portAt t (n - 1) .partner))
 
 abbrev pub live : List ℕ → Port → Bool
 live f p = sameBlocks (lasting (p .partner)) (lasting (blockOf (actorPart f))) && not (p .actor .defaulted)

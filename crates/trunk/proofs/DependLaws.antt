@@ -7,10 +7,10 @@ use mathlib.Core.List.{List, [], _∷_, map}
 use native.Mathlib.Omega.{arith}
 use lib.ListN.{length, getD}
 use borrow.Author.Tests.{ne-eqb}
-use Rattle.frame.specs.declared.block.SystemId.{SystemId}
 use Rattle.port.specs.declared.record.Port.{Port}
 use Rattle.port.specs.Compared.{Compared, compared}
 use Rattle.port.specs.Mux.{attachedIf}
+use Rattle.table.specs.declared.layout.Header.{Header}
 use Rattle.trunk.specs.Selection.{nobody, joins, sharesGroup, ruleOf}
 use Rattle.trunk.specs.Ready.{waitsFor, hasWaiting, holdsBack, heldBack, ready}
 use Rattle.trunk.specs.Settled.{selectedAll, climbed, settled}
@@ -70,7 +70,7 @@ ready-same k ps qs d n e =
 
 -- ---- two lists in which the same ports share i's group
 
-module _ (ours : SystemId) (ps qs : List Port) (d : Port) (n : length ps ≡ length qs) (i : ℕ) (h : i < length ps)
+module _ (ours : Header) (ps qs : List Port) (d : Port) (n : length ps ≡ length qs) (i : ℕ) (h : i < length ps)
     (same : (j : ℕ) → j < length ps → sharesGroup ours (map compared ps) i j ≡ sharesGroup ours (map compared qs) i j)
     (alike : (j : ℕ) → j < length ps → sharesGroup ours (map compared ps) i j ≡ true → getD ps j d ≡ getD qs j d) where
   -- the rule gives i the same in both
@@ -108,12 +108,12 @@ module _ (ours : SystemId) (ps qs : List Port) (d : Port) (n : length ps ≡ len
       ∙ ap (λ (p : Port). climbed (attachedIf (ready (p .aggregator) ts) p)) here ∙ sym (settled-at ours qs i d (rw (← n) h))
 
 -- the same, from the records alone: those of every port that shares i's group in one of the lists are equal
-shares-same : (ours : SystemId) (cs ds : List Compared) (i j : ℕ) → getD cs i nobody ≡ getD ds i nobody → getD cs j nobody ≡ getD ds j nobody
+shares-same : (ours : Header) (cs ds : List Compared) (i j : ℕ) → getD cs i nobody ≡ getD ds i nobody → getD cs j nobody ≡ getD ds j nobody
     → sharesGroup ours cs i j ≡ sharesGroup ours ds i j
 unfolding sharesGroup joins
 shares-same ours cs ds i j a b = rw (a, b)
 
-module _ (ours : SystemId) (ps qs : List Port) (d : Port) (n : length ps ≡ length qs) (i : ℕ) (h : i < length ps)
+module _ (ours : Header) (ps qs : List Port) (d : Port) (n : length ps ≡ length qs) (i : ℕ) (h : i < length ps)
     (left : (j : ℕ) → j < length ps → sharesGroup ours (map compared ps) i j ≡ true → getD ps j d ≡ getD qs j d)
     (right : (j : ℕ) → j < length ps → sharesGroup ours (map compared qs) i j ≡ true → getD ps j d ≡ getD qs j d) where
   compared-same : (j : ℕ) → j < length ps → getD ps j d ≡ getD qs j d → getD (map compared ps) j nobody ≡ getD (map compared qs) j nobody

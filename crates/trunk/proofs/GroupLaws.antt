@@ -12,12 +12,13 @@ use Rattle.frame.specs.declared.block.SystemId.{SystemId}
 use Rattle.machine.specs.Compare.{sameSystem}
 use Rattle.machine.proofs.CompareLaws.{system-true, system-refl}
 use Rattle.port.specs.Compared.{Compared}
+use Rattle.table.specs.declared.layout.Header.{Header}
 use Rattle.trunk.specs.Selection.{individual, sameKeys, sameGroup, nobody, joins, sharesGroup, firstFrom, lowest, ruleOf}
 
 -- ---- sharing a group is an equivalence
 
 -- what sharing a group says
-pub record Together (ours : SystemId) (c d : Compared) : Type 0 where
+pub record Together (ours : Header) (c d : Compared) : Type 0 where
   pub first : individual ours c ≡ false
   pub second : individual ours d ≡ false
   pub key : c .key ≡ d .key
@@ -27,7 +28,7 @@ pub record Together (ours : SystemId) (c d : Compared) : Type 0 where
 both : (a b : Bool) → a && b ≡ true → (a ≡ true) × (b ≡ true)
 both a b e = and-eq-true-iff a b .0 e
 
-pub together : (ours : SystemId) (c d : Compared) → sameGroup ours c d ≡ true → Together ours c d
+pub together : (ours : Header) (c d : Compared) → sameGroup ours c d ≡ true → Together ours c d
 unfolding sameGroup sameKeys
 together ours c d e =
     let x = both (not (individual ours c)) _ e in
@@ -45,12 +46,12 @@ together ours c d e =
 same-systems : (x y : SystemId) → x ≡ y → sameSystem x y ≡ true
 same-systems x y e = rw e (system-refl y)
 
-pub together-is : (ours : SystemId) (c d : Compared) → Together ours c d → sameGroup ours c d ≡ true
+pub together-is : (ours : Header) (c d : Compared) → Together ours c d → sameGroup ours c d ≡ true
 unfolding sameGroup sameKeys
 together-is ours c d t =
     rw (t .first, t .second, eq-eqb (c .key) (d .key) (t .key), same-systems (c .system) (d .system) (t .system), eq-eqb (c .partnerKey) (d .partnerKey) (t .partnerKey))
 
-module _ (ours : SystemId) where
+module _ (ours : Header) where
   pub group-sym : (c d : Compared) → sameGroup ours c d ≡ true → sameGroup ours d c ≡ true
   group-sym c d e =
       let t = together ours c d e in
@@ -64,7 +65,7 @@ module _ (ours : SystemId) where
       together-is ours c e
       (record { first = t .first; second = u .second; key = t .key ∙ u .key; system = t .system ∙ u .system; partnerKey = t .partnerKey ∙ u .partnerKey })
 
-module _ (ours : SystemId) (cs : List Compared) where
+module _ (ours : Header) (cs : List Compared) where
   -- R10.3: every port is in a group with itself
   pub shares-refl : (i : ℕ) → sharesGroup ours cs i i ≡ true
   unfolding sharesGroup
@@ -142,7 +143,7 @@ first-same f g j (suc n) e =
 
 -- ---- the lowest-numbered port of a group
 
-module _ (ours : SystemId) (cs : List Compared) where
+module _ (ours : Header) (cs : List Compared) where
   lowest-first : (i : ℕ) → First (joins ours cs i) 0 i (lowest ours cs i)
   unfolding lowest
   lowest-first i = first-is (joins ours cs i) 0 i
@@ -198,7 +199,7 @@ module _ (ours : SystemId) (cs : List Compared) where
 
 -- ---- what the rule depends on
 
-module _ (ours : SystemId) (cs ds : List Compared) (i : ℕ) where
+module _ (ours : Header) (cs ds : List Compared) (i : ℕ) where
   -- where the ports before i that share its group are the same, so is the lowest
   pub lowest-same : ((j : ℕ) → j < i → sharesGroup ours cs i j ≡ sharesGroup ours ds i j) → lowest ours cs i ≡ lowest ours ds i
   unfolding lowest

@@ -9,7 +9,6 @@ use lib.ListN.{length, getD, length-map}
 use lib.Seq.{ext-getD}
 use lib.Dec.{eqb}
 use borrow.Author.Tests.{eq-eqb, not-false}
-use Rattle.frame.specs.declared.block.SystemId.{SystemId}
 use Rattle.machine.specs.declared.states.Mux.{Mux}
 use Rattle.machine.specs.declared.states.Mux.the-variants.{Detached, Waiting, Attached, Collecting, Distributing}
 use Rattle.machine.specs.declared.states.Selection.{Selection}
@@ -24,6 +23,7 @@ use Rattle.port.specs.Mux.{muxEntered, muxTaken, muxChoice, muxStep, muxRun, at
 use Rattle.port.specs.Transmit.{silent, quieted}
 use Rattle.port.proofs.MuxLaws.{mux-rests, mux-idle, mux-step-keeps}
 use Rattle.port.proofs.TransmitLaws.{quieted-keeps, quieted-twice}
+use Rattle.table.specs.declared.layout.Header.{Header}
 use Rattle.trunk.specs.Selection.{ruleOf}
 use Rattle.trunk.specs.Ready.{waitsFor, hasWaiting, holdsBack, heldBack, ready}
 use Rattle.trunk.specs.Settled.{mapFrom, selectedAll, attachedAll, climbed, settled, Chosen}
@@ -265,7 +265,7 @@ module _ (ss : List Port) (d : Port) (chosen : (j : ℕ) → j < length ss → C
 
 -- ---- steps 3 to 6 are at rest after themselves
 
-module _ (ours : SystemId) (ps : List Port) where
+module _ (ours : Header) (ps : List Port) where
   -- no port waits for a Ready aggregator after them
   pub none-ready : (i : ℕ) (d : Port) → i < length ps → waits (getD (settled ours ps) i d .phase .mux) ≡ true
       → ready (getD (settled ours ps) i d .aggregator) (settled ours ps) ≡ false
@@ -315,6 +315,6 @@ module _ (ours : SystemId) (ps : List Port) where
     rest-settled = ap (λ (l : List Port). map climbed (attachedAll l)) rest-selected ∙ ap (map climbed) rest-attached ∙ rest-climbed
 
 -- done twice is done once
-pub settled-twice : (ours : SystemId) (ps : List Port) → settled ours (settled ours ps) ≡ settled ours ps
+pub settled-twice : (ours : Header) (ps : List Port) → settled ours (settled ours ps) ≡ settled ours ps
 settled-twice ours [] = unfold settled attachedAll selectedAll mapFrom in refl
 settled-twice ours (p ∷ ps) = rest-settled ours (p ∷ ps) p

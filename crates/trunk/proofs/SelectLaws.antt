@@ -5,8 +5,8 @@ use mathlib.Core.Bool.{Bool, true, false, cond}
 use mathlib.Core.List.{List, map}
 use native.Mathlib.Omega.{arith}
 use native.Mathlib.Nat.{sub-zero}
-use Rattle.frame.specs.declared.block.SystemId.{SystemId}
 use Rattle.port.specs.Compared.{Compared, compared}
+use Rattle.table.specs.declared.layout.Header.{Header}
 use Rattle.table.specs.Table.{countIn, ports, portAt}
 use Rattle.trunk.specs.Selection.{sameGroup, nobody, joins, firstFrom, lowest}
 use Rattle.port.specs.declared.record.Port.{Port}
@@ -37,12 +37,12 @@ pub first-none : (f : ℕ → Bool) (i j : ℕ) → j ≡ i → firstFrom f j (i
 unfolding firstFrom
 first-none f i j e = let z : i - j ≡ 0 = omega arith in rw z
 
-pub lowest-starts : (ours : SystemId) (cs : List Compared) (i : ℕ) → lowest ours cs i ≡ firstFrom (joins ours cs i) 0 (i - 0)
+pub lowest-starts : (ours : Header) (cs : List Compared) (i : ℕ) → lowest ours cs i ≡ firstFrom (joins ours cs i) 0 (i - 0)
 unfolding lowest
 lowest-starts ours cs i = rw (sub-zero i)
 
 -- whether two records of a table share a group
-pub joins-at : (ours : SystemId) (t : List ℕ) (i j : ℕ) → i < countIn t → j < countIn t
+pub joins-at : (ours : Header) (t : List ℕ) (i j : ℕ) → i < countIn t → j < countIn t
     → joins ours (map compared (ports t)) i j ≡ sameGroup ours (compared (portAt t i)) (compared (portAt t j))
 unfolding joins
 joins-at ours t i j hi hj = rw (map-port-at compared t i nobody hi, map-port-at compared t j nobody hj)
@@ -61,7 +61,7 @@ reselected-unmoved k p e = rw e
 
 -- ---- steps 3 and 4, port after port: the rule reads the same in the partly selected table
 
-pub select-same : (ours : SystemId) {t u : List ℕ} (i : ℕ) → Worked t u (doneTo (selecting ours (ports t)) i (ports t)) → i < countIn t
+pub select-same : (ours : Header) {t u : List ℕ} (i : ℕ) → Worked t u (doneTo (selecting ours (ports t)) i (ports t)) → i < countIn t
     → selecting ours (ports u) i (portAt u i) ≡ selecting ours (ports t) i (portAt t i)
 select-same ours {t} {u} i so-far h =
     let f = selecting ours (ports t) in

@@ -8,7 +8,6 @@ use native.Mathlib.Omega.{arith}
 use lib.ListN.{length, getD, length-map}
 use lib.Dec.{eqb}
 use borrow.Author.Tests.{eqb-true, eq-eqb, not-false}
-use Rattle.frame.specs.declared.block.SystemId.{SystemId}
 use Rattle.machine.specs.declared.states.Selection.{Selection}
 use Rattle.machine.specs.declared.states.Selection.the-variants.{Unselected, Selected}
 use Rattle.machine.specs.Mux.{waits}
@@ -17,6 +16,7 @@ use Rattle.port.specs.Compared.{compared}
 use Rattle.port.specs.Mux.{detached, placed, attachedIf, muxRun}
 use Rattle.port.proofs.MuxLaws.{mux-keeps, detached-keeps, placed-keeps, attached-keeps}
 use Rattle.port.proofs.TransmitLaws.{quieted-keeps}
+use Rattle.table.specs.declared.layout.Header.{Header}
 use Rattle.trunk.specs.Selection.{sharesGroup, ruleOf}
 use Rattle.trunk.specs.Ready.{ready}
 use Rattle.trunk.specs.Settled.{mapFrom, isUnselected, mustMove, reselected, selecting, selectedAll, attaching, attachedAll, climbed, settled, Chosen}
@@ -91,7 +91,7 @@ pub attached-at : (ps : List Port) (i : ℕ) (d : Port) → i < length ps
 unfolding attachedAll
 attached-at ps i d h = map-at (attaching ps) ps i d d h
 
-module _ (ours : SystemId) (ps : List Port) where
+module _ (ours : Header) (ps : List Port) where
   -- what the rule reads is kept by steps 3 and 4, and by all of them
   pub selected-compares : map compared (selectedAll ours ps) ≡ map compared ps
   unfolding selectedAll

@@ -6,10 +6,10 @@ use mathlib.Core.List.{List}
 use native.Mathlib.Omega.{arith}
 use lib.ListN.{length, getD, drop}
 use lib.Seq.{drop-cons, drop-length}
-use Rattle.frame.specs.declared.block.SystemId.{SystemId}
 use Rattle.machine.specs.Mux.{waits}
 use Rattle.port.specs.declared.record.Port.{Port}
 use Rattle.port.specs.Mux.{attachedIf}
+use Rattle.table.specs.declared.layout.Header.{Header}
 use Rattle.table.specs.Table.{countIn, ports, portAt}
 use Rattle.table.proofs.StoreLaws.{ports-length, ports-at}
 use Rattle.trunk.specs.Ready.{hasWaiting, holdsBack, heldBack, ready}
@@ -22,7 +22,7 @@ use Rattle.trunk.proofs.ReadyLaws.{attached-other, attached-stays, some
 
 -- ---- every port is SELECTED after step 4
 
-pub all-chosen : (ours : SystemId) (ps : List Port) → AllChosen (selectedAll ours ps)
+pub all-chosen : (ours : Header) (ps : List Port) → AllChosen (selectedAll ours ps)
 all-chosen ours ps i d h = selected-chosen ours ps i d (rw (selected-length ours ps) at h)
 
 -- ---- is somebody held back: one record at a time

@@ -1,24 +1,24 @@
 -- The selection rule (43.4.14, R10), over what it reads of each record. Ports are counted from 0 here, and their
--- aggregators from 1.
+-- aggregators from 1. `ours` is what belongs to the whole table: its header.
 use Prim.Native.Nat.{ℕ, zero, suc, _+_}
 use mathlib.Core.Bool.{Bool, false, cond, not, _&&_, _||_}
 use mathlib.Core.List.{List}
 use lib.ListN.{getD}
 use lib.Dec.{eqb}
-use Rattle.frame.specs.declared.block.SystemId.{SystemId}
 use Rattle.machine.specs.Compare.{sameSystem}
 use Rattle.port.specs.Compared.{Compared}
+use Rattle.table.specs.declared.layout.Header.{Header}
 
 -- R10.1: one end does not aggregate, or the other end is our own system too
-unfoldable pub individual : SystemId → Compared → Bool
-individual ours c = not (c .aggregation) || (not (c .partnerAggregation) || sameSystem (c .system) ours)
+unfoldable pub individual : Header → Compared → Bool
+individual ours c = not (c .aggregation) || (not (c .partnerAggregation) || sameSystem (c .system) (ours .system))
 
 -- what ports of one group agree in (R10.2)
 unfoldable pub sameKeys : Compared → Compared → Bool
 sameKeys c d = eqb (c .key) (d .key) && (sameSystem (c .system) (d .system) && eqb (c .partnerKey) (d .partnerKey))
 
 -- R10.2, of two ports that are not one and the same
-unfoldable pub sameGroup : SystemId → Compared → Compared → Bool
+unfoldable pub sameGroup : Header → Compared → Compared → Bool
 sameGroup ours c d = not (individual ours c) && (not (individual ours d) && sameKeys c d)
 
 -- what is read where there is no port
@@ -32,11 +32,11 @@ nobody = record {
 }
 
 -- whether ports i and j, two ports, share a group
-unfoldable pub joins : SystemId → List Compared → ℕ → ℕ → Bool
+unfoldable pub joins : Header → List Compared → ℕ → ℕ → Bool
 joins ours cs i j = sameGroup ours (getD cs i nobody) (getD cs j nobody)
 
 -- R10.3: and every port with itself
-unfoldable pub sharesGroup : SystemId → List Compared → ℕ → ℕ → Bool
+unfoldable pub sharesGroup : Header → List Compared → ℕ → ℕ → Bool
 sharesGroup ours cs i j = eqb i j || joins ours cs i j
 
 -- the first of j, j + 1, .. that passes the test, of n of them; j + n where none does
@@ -45,9 +45,9 @@ firstFrom f j zero = j
 firstFrom f j (suc n) = cond (f j) j (firstFrom f (j + 1) n)
 
 -- the lowest-numbered port of port i's group: the first before it that shares its group, or itself
-unfoldable pub lowest : SystemId → List Compared → ℕ → ℕ
+unfoldable pub lowest : Header → List Compared → ℕ → ℕ
 lowest ours cs i = firstFrom (joins ours cs i) 0 i
 
 -- R10.4: that port's number, from 1
-unfoldable pub ruleOf : SystemId → List Compared → ℕ → ℕ
+unfoldable pub ruleOf : Header → List Compared → ℕ → ℕ
 ruleOf ours cs i = lowest ours cs i + 1

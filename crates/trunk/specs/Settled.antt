@@ -5,13 +5,13 @@ use lib.ListN.{length, getD}
 use mathlib.Core.Bool.{Bool, true, false, cond, not, _||_}
 use mathlib.Core.List.{List, [], _∷_, map}
 use lib.Dec.{eqb}
-use Rattle.frame.specs.declared.block.SystemId.{SystemId}
 use Rattle.machine.specs.declared.states.Selection.{Selection}
 use Rattle.machine.specs.declared.states.Selection.the-variants.{Unselected, Selected}
 use Rattle.port.specs.declared.record.Port.{Port}
 use Rattle.port.specs.Compared.{compared}
 use Rattle.port.specs.Mux.{detached, placed, attachedIf, muxRun}
 use Rattle.port.specs.Transmit.{quieted}
+use Rattle.table.specs.declared.layout.Header.{Header}
 use Rattle.trunk.specs.Selection.{ruleOf}
 use Rattle.trunk.specs.Ready.{ready}
 
@@ -33,10 +33,10 @@ unfoldable pub reselected : ℕ → Port → Port
 reselected k p = cond (mustMove k p) (placed k (detached p)) p
 
 -- steps 3 and 4, port i among these: the rule afresh
-abbrev pub selecting : SystemId → List Port → ℕ → Port → Port
+abbrev pub selecting : Header → List Port → ℕ → Port → Port
 selecting ours ps i p = reselected (ruleOf ours (map compared ps) i) p
 
-unfoldable pub selectedAll : SystemId → List Port → List Port
+unfoldable pub selectedAll : Header → List Port → List Port
 selectedAll ours ps = mapFrom (selecting ours ps) 0 ps
 
 -- step 5, a port among these: Ready as it is before any port attaches
@@ -50,7 +50,7 @@ attachedAll ps = map (attaching ps) ps
 unfoldable pub climbed : Port → Port
 climbed p = quieted (muxRun p)
 
-unfoldable pub settled : SystemId → List Port → List Port
+unfoldable pub settled : Header → List Port → List Port
 settled ours ps = map climbed (attachedAll (selectedAll ours ps))
 
 -- a port is as the rule chose: SELECTED

@@ -8,22 +8,23 @@ ghost use Rattle.table.specs.Table.{tableInRange, InTable, ports, portAt};
 ghost use Rattle.trunk.specs.Selection.{individual, sameGroup, lowest as Selection·lowest};
 ghost use Rattle.trunk.specs.Settled.{isUnselected, mustMove, selecting, selectedAll};
 ghost use Rattle.trunk.specs.Worked.{Worked, Became};
-use frame::block::SystemId;
 use machine::compare::same_system;
 use machine::states::Selection;
 use port::record::Port;
+use table::layout::Header;
 
 // Own or partner's Aggregation clear, or the partner is our own system.
-fn is_individual(p: Port, ours: SystemId) -> bool
+fn is_individual(p: Port, ours: Header) -> bool
     ensures { λ r. ⌜ r ≡ individual ours (compared p) ⌝ }
 {
     let partner = p.partner;
     let system = partner.system;
-    !p.actor.aggregation | (!partner.state.aggregation | same_system(system, ours))
+    let us = ours.system;
+    !p.actor.aggregation | (!partner.state.aggregation | same_system(system, us))
 }
 
 // Whether two ports, not one and the same, are in one group (R10.2).
-fn same_group(p: Port, q: Port, ours: SystemId) -> bool
+fn same_group(p: Port, q: Port, ours: Header) -> bool
     ensures { λ r. ⌜ r ≡ sameGroup ours (compared p) (compared q) ⌝ }
 {
     let a = p.partner;
@@ -35,7 +36,7 @@ fn same_group(p: Port, q: Port, ours: SystemId) -> bool
 }
 
 // The lowest-numbered port of port i's group, from 0; p is the record of port i.
-fn lowest(table: &[u8], i: usize, p: Port, ours: SystemId) -> usize
+fn lowest(table: &[u8], i: usize, p: Port, ours: Header) -> usize
     requires { ⌜ InTable (now table) i × (p ≡ portAt (now table) i) ⌝ }
     ensures { λ r. ⌜ (r ≡ Selection·lowest ours (map compared (ports (now (table .entry)))) i) × (r ≤ i) ⌝ }
 {
@@ -69,7 +70,7 @@ fn is_unselected(s: Selection) -> bool
 
 // Steps 3 and 4 for port i: the rule afresh. A port that must move goes state by state down to DETACHED, and only then to the
 // rule's aggregator; one that need not is left alone.
-fn select_one(table: &mut [u8], i: usize, ours: SystemId)
+fn select_one(table: &mut [u8], i: usize, ours: Header)
     requires { ⌜ InTable (now table) i ⌝ }
     ensures { λ _. ⌜ Became (now (table .entry)) (now (table .exit)) i (selecting ours (ports (now (table .entry))) i (portAt (now (table .entry)) i)) ⌝ }
 {
@@ -82,7 +83,7 @@ fn select_one(table: &mut [u8], i: usize, ours: SystemId)
 }
 
 // Steps 3 and 4 for all ports.
-pub fn select_all(table: &mut [u8], ours: SystemId)
+pub fn select_all(table: &mut [u8], ours: Header)
     requires { ⌜ tableInRange (now table) ≡ true ⌝ }
     ensures { λ _. ⌜ Worked (now (table .entry)) (now (table .exit)) (selectedAll ours (ports (now (table .entry)))) ⌝ }
 {

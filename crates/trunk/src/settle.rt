@@ -13,10 +13,9 @@ use crate::sweep::sweep;
 // Steps 3 to 6 for all ports.
 pub fn settle(table: &mut [u8])
     requires { ⌜ tableInRange (now table) ≡ true ⌝ }
-    ensures { λ _. ⌜ Worked (now (table .entry)) (now (table .exit)) (settled (headerOf (now (table .entry)) .system) (ports (now (table .entry)))) ⌝ }
+    ensures { λ _. ⌜ Worked (now (table .entry)) (now (table .exit)) (settled (headerOf (now (table .entry))) (ports (now (table .entry)))) ⌝ }
 {
-    let h = table::layout::read_header(table);
-    let ours = h.system;
+    let ours = table::layout::read_header(table);
     select_all(table, ours);
     attach_all(table);
     sweep(table, Step::Mux);

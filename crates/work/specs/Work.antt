@@ -4,7 +4,6 @@ use Prim.Native.Nat.{ℕ, _+_}
 use mathlib.Core.Bool.{cond}
 use mathlib.Core.List.{List, _++_, map}
 use lib.ListN.{set, drop, replicate}
-use Rattle.frame.specs.declared.block.SystemId.{SystemId}
 use Rattle.frame.specs.Block.{blockOf}
 use Rattle.frame.specs.Wire.{actorPart, partnerPart, lacpdu, response}
 use Rattle.machine.specs.declared.states.Line.{Line}
@@ -23,17 +22,17 @@ use Rattle.trunk.specs.Advanced.{advanced}
 use Rattle.trunk.specs.Settled.{settled}
 use Rattle.trunk.specs.Displaced.{displaced}
 
--- the system that a table belongs to
-abbrev pub ours : List ℕ → SystemId
-ours t = headerOf t .system
+-- what belongs to the whole table
+abbrev pub ours : List ℕ → Header
+ours t = headerOf t
 
 -- the same table with other records
 abbrev pub again : List ℕ → List Port → List ℕ
-again t ps = tableOctets (headerOf t) ps
+again t ps = tableOctets (ours t) ps
 
 -- the end of step 2, and steps 3 to 6
-unfoldable pub worked : SystemId → List Port → List Port
-worked s ps = settled s (map periodicRun ps)
+unfoldable pub worked : Header → List Port → List Port
+worked h ps = settled h (map periodicRun ps)
 
 -- port i becomes q, and everything settles
 unfoldable pub afterOne : List ℕ → ℕ → Port → List ℕ
@@ -41,11 +40,11 @@ afterOne t i q = again t (worked (ours t) (set (ports t) i q))
 
 -- start: every port begins alike, and steps 3 to 6
 unfoldable pub afterStart : Header → Settings → List ℕ
-afterStart h s = tableOctets h (settled (h .system) (replicate (h .count) (started s)))
+afterStart h s = tableOctets h (settled h (replicate (h .count) (started s)))
 
 -- what port i becomes by an accepted LACPDU: CURRENT
 unfoldable pub heardAt : List ℕ → ℕ → List ℕ → Port
-heardAt t i frame = received (ours t) (i + 1) (blockOf (actorPart frame)) (blockOf (partnerPart frame)) (portAt t i)
+heardAt t i frame = received (ours t .system) (i + 1) (blockOf (actorPart frame)) (blockOf (partnerPart frame)) (portAt t i)
 
 -- an accepted LACPDU on port i, and the ports whose partner it shows to have moved
 unfoldable pub afterHeard : List ℕ → ℕ → List ℕ → List ℕ
@@ -70,7 +69,7 @@ afterSend t i = again t (set (ports t) i (sent (portAt t i)))
 
 -- the LACPDU of port i (43.4.16)
 unfoldable pub lacpduOf : List ℕ → ℕ → List ℕ
-lacpduOf t i = lacpdu (portAt t i .own .address) (actorBlock (ours t) (i + 1) (portAt t i)) (portAt t i .partner) (headerOf t .delay)
+lacpduOf t i = lacpdu (portAt t i .own .address) (actorBlock (ours t .system) (i + 1) (portAt t i)) (portAt t i .partner) (ours t .delay)
 
 -- port i's Response to a Marker
 unfoldable pub responseOf : List ℕ → ℕ → List ℕ → List ℕ

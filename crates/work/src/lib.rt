@@ -96,11 +96,11 @@ fn hear_at(table: &mut [u8], i: usize, frame: &[u8])
     requires { ⌜ InTable (now table) i × (124 ≤ length (now frame)) ⌝ }
     ensures { λ _. ⌜ Became (now (table .entry)) (now (table .exit)) i (heardAt (now (table .entry)) i (now (frame .entry))) ⌝ }
 {
-    let h = table::layout::read_header(table);
-    let ours = h.system;
+    let ours = table::layout::read_header(table);
+    let us = ours.system;
     let p = table::load(table, i);
     let q = p.receive_lacpdu(
-        ours,
+        us,
         number_of(i),
         frame::wire::actor(frame),
         frame::wire::partner(frame),
@@ -123,13 +123,13 @@ fn write_due(table: &[u8], i: usize, out: &mut [u8])
     requires { ⌜ InTable (now table) i × (124 ≤ length (now out)) ⌝ }
     ensures { λ _. ⌜ now (out .exit) ≡ over (lacpduOf (now (table .entry)) i) (now (out .entry)) ⌝ }
 {
-    let h = table::layout::read_header(table);
-    let ours = h.system;
-    let delay = h.delay;
+    let ours = table::layout::read_header(table);
+    let us = ours.system;
+    let delay = ours.delay;
     let p = table::load(table, i);
     let address = p.own.address;
     let partner = p.partner;
-    let actor = p.actor_block(ours, number_of(i));
+    let actor = p.actor_block(us, number_of(i));
     frame::wire::write_lacpdu(out, address, actor, partner, delay);
 }
 

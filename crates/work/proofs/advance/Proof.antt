@@ -22,7 +22,7 @@ unfolding afterTick
 returns c =
     let ticked = said (sweep-map advanced 0 _) (c .before .before .before .before .before .before .sweep .ensures) in
     let finished = (c .before .before .finish .ensures) in
-    made-of (said (λ i. worked (ticked .header i .system) (ticked .records i)) (then ticked finished)) (λ j. (c .slice-known3 .given) j .fits)
+    made-of (said (λ i. worked (ticked .header i) (ticked .records i)) (then ticked finished)) (λ j. (c .slice-known3 .given) j .fits)
 
 pub advance-spec : {M : Type 1} → statement M
 advance-spec = tie.close (tie.spec sweep-requires finish-requires same-length returns)

@@ -22,7 +22,7 @@ unfolding afterStart
 returns c =
     let laid = (c .before .before .before .before .before .before .lay .ensures) in
     made-of (c .before .before .settle .ensures) (λ j. (c .slice-known3 .given) j .fits)
-    ∙ (λ j. tableOctets (laid .0 j) (settled (laid .0 j .system) (laid .2 j)))
+    ∙ (λ j. tableOctets (laid .0 j) (settled (laid .0 j) (laid .2 j)))
 
 pub begin-spec : {M : Type 1} → statement M
 begin-spec = tie.close (tie.spec lay-requires settle-requires same-length returns)

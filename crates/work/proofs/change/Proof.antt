@@ -29,7 +29,7 @@ returns c =
     let put : Worked t (c .before .before .before .before .before .before .store .last .0) (set (ports t) (a .i) (a .q)) =
     rw (c .before .before .before .before .before .before .store .ensures) (stored t (a .i) (a .q) (c .before .before .before .before .before .before .before .before .before .pre .0 .0) (c .before .before .before .before .before .before .before .before .before .pre .0 .1) (c .before .before .before .before .before .before .before .before .before .pre .1)) in
     let finished = (c .before .before .finish .ensures) in
-    made-of (said (λ i. worked (put .header i .system) (put .records i)) (then put finished)) (λ j. (c .slice-known3 .given) j .fits)
+    made-of (said (λ i. worked (put .header i) (put .records i)) (then put finished)) (λ j. (c .slice-known3 .given) j .fits)
 
 pub change-spec : {M : Type 1} → statement M
 change-spec = tie.close (tie.spec store-requires finish-requires same-length returns)

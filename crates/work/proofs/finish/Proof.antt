@@ -22,7 +22,7 @@ unfolding worked
 returns c =
     let paced = said (sweep-map periodicRun 0 _) (c .before .before .before .before .before .before .sweep .ensures) in
     let settled· = (c .before .before .settle .ensures) in
-    said (λ i. settled (paced .header i .system) (paced .records i)) (then paced settled·)
+    said (λ i. settled (paced .header i) (paced .records i)) (then paced settled·)
 
 pub finish-spec : {M : Type 1} → statement M
 finish-spec = tie.close (tie.spec sweep-requires settle-requires same-length returns)

@@ -38,7 +38,7 @@ returns c =
     let third = (c .before .before .finish .ensures) in
     let a : _≡_ {A = Block} _ _ = c .before .before .before .before .before .before .before .read .ensures ∙ ap blockOf (c .before .before .before .before .before .before .before .before .actor .ensures .0) in
     made-of
-    (said (λ j. worked ((second .header ∙ first .header) j .system) ((second .records ∙ (λ k. displaced i (a k) (first .records k))) j))
+    (said (λ j. worked ((second .header ∙ first .header) j) ((second .records ∙ (λ k. displaced i (a k) (first .records k))) j))
     (then (then first second) third))
     (λ j. (c .slice-known4 .given) j .fits)
 

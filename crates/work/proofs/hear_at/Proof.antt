@@ -45,7 +45,7 @@ returns c =
     let l = now (a .frame) in
     let h = (c .before .before .before .before .before .before .before .before .before .before .before .before .before .before .before .pre .0 .1) in
     let fit =
-    received-ranged (countIn t) (ours t) (a .i + 1) (blockOf (actorPart l)) (blockOf (partnerPart l)) (portAt t (a .i))
+    received-ranged (countIn t) (ours t .system) (a .i + 1) (blockOf (actorPart l)) (blockOf (partnerPart l)) (portAt t (a .i))
     (part-fits 18 33 l (λ j. (c .before .before .before .before .before .before .before .before .before .before .before .before .before .shared-slice-known .given) j .fits))
     (ranged-at t (c .before .before .before .before .before .before .before .before .before .before .before .before .before .before .before .pre .0 .0) (λ j. (c .before .before .before .before .before .before .before .before .before .before .before .before .before .before .slice-known .given) j .fits) (a .i) h) in
     rw (c .before .before .store .ensures, c .before .before .before .before .receive-lacpdu .ensures, c .before .before .before .before .before .partner .ensures .0, c .before .before .before .before .before .before .actor .ensures .0, c .before .before .before .before .before .before .before .number-of .ensures, c .before .before .before .before .before .before .before .before .load .ensures, c .before .before .before .before .before .before .before .before .before .before .before .read-header .ensures)

@@ -2,7 +2,6 @@
 use mathlib.Core.Path.{_≡_, ap, _∙_}
 use mathlib.Core.List.{List, map}
 use denote.Ref.{now}
-use Rattle.frame.specs.declared.block.SystemId.{SystemId}
 use Rattle.port.specs.declared.record.Port.{Port}
 use Rattle.table.specs.declared.layout.Header.{Header}
 use Rattle.table.specs.Table.{ports}
@@ -24,7 +23,7 @@ select-all-requires c κs = search needs
 attach-all-requires : tie.Need-attach-all-requires
 attach-all-requires c κs =
     let chosen = (c .before .before .before .select-all .ensures) in
-    (chosen .ranged, rw (chosen .records) (all-chosen _ (ports (now (c .before .before .before .before .before .before .before .before .before .args .table)))))
+    (chosen .ranged, rw (chosen .records) (all-chosen _ (ports (now (c .before .before .before .before .before .before .before .before .args .table)))))
 
 sweep-requires : tie.Need-sweep-requires
 sweep-requires c κs = search needs
@@ -38,10 +37,10 @@ returns c =
     let first = (c .before .before .before .before .before .before .before .before .before .before .select-all .ensures) in
     let second = (c .before .before .before .before .before .before .attach-all .ensures) in
     let third = said (sweep-map climbed 0 _) (c .before .before .sweep .ensures) in
-    let ps = ports (now (c .before .before .before .before .before .before .before .before .before .before .before .before .before .before .before .before .args .table)) in
-    let ours : _ ≡ _ = ap (λ (h : Header). h .system) (c .before .before .before .before .before .before .before .before .before .before .before .before .before .read-header .ensures) in
+    let ps = ports (now (c .before .before .before .before .before .before .before .before .before .before .before .before .before .before .before .args .table)) in
     said
-    (ap (λ (l : List Port). map climbed l) (second .records ∙ ap attachedAll (first .records ∙ ap (λ (s : SystemId). selectedAll s ps) ours)))
+    (ap (λ (l : List Port). map climbed l)
+    (second .records ∙ ap attachedAll (first .records ∙ ap (λ (h : Header). selectedAll h ps) (c .before .before .before .before .before .before .before .before .before .before .before .before .read-header .ensures))))
     (then (then first second) third)
 
 pub settle-spec : {M : Type 1} → statement M
