@@ -2,3 +2,4 @@ pub mod Answer
 pub mod Call
 pub mod After
 pub mod Report
+pub mod Meets

@@ -1,15 +1,10 @@
 // The calls (R1.2). Each may be given anything: memory of any length and content, any port number, frame, buffer and setting. It tests in
 // the order of R2.14, and a refusal leaves table and outgoing buffer as they came; what an accepted call does stands in `work`.
 ghost use mathlib.Core.Path.{_≡_};
-ghost use mathlib.Core.Bool.{true};
 ghost use Prim.Native.Nat.{_<_};
-ghost use Rattle.port.specs.Transmit.{due};
-ghost use Rattle.frame.specs.Class.{classOf};
-ghost use Rattle.table.specs.Table.{tableInRange, countIn, portAt};
-ghost use Rattle.work.specs.Work.{afterSend, lacpduOf, over};
-ghost use Rattle.control.specs.Answer.{withRoom, dueAnswer, frameAnswer};
+ghost use Rattle.table.specs.Table.{InTable};
 ghost use Rattle.control.specs.Call.{start as Call·start, receive as Call·receive, tick as Call·tick, line as Call·line, configure as Call·configure, fetch as Call·fetch};
-ghost use Rattle.control.specs.After.{unless, afterFrame, sentFor, answer as After·answer, after, outgoing};
+ghost use Rattle.control.specs.Meets.{Meets, MeetsOut, MeetsReceive, MeetsFetch};
 ghost use Rattle.control.specs.Report.{portReport, aggregatorReport};
 use crate::answer::AggregatorReport;
 use crate::answer::Answer;
@@ -37,7 +32,7 @@ pub fn start(
     delay: TensOfMicroseconds,
     settings: Settings,
 ) -> Answer
-    ensures { λ r. ⌜ (r ≡ After·answer (Call·start count system delay settings) (now (table .entry))) × (now (table .exit) ≡ after (Call·start count system delay settings) (now (table .entry))) ⌝ }
+    ensures { λ r. ⌜ Meets (Call·start count system delay settings) (now (table .entry)) r (now (table .exit)) ⌝ }
 {
     if !tests::is_room(table, count) {
         return Answer::Refused(Reason::Table);
@@ -56,7 +51,7 @@ pub fn start(
 
 // A frame was received on port n. The Response to a Marker is written into `out`, and sent by the caller.
 pub fn receive(table: &mut [u8], n: u32, frame: &[u8], out: &mut [u8]) -> Answer
-    ensures { λ r. ⌜ (r ≡ After·answer (Call·receive n (now (frame .entry)) (now (out .entry))) (now (table .entry))) × (now (table .exit) ≡ after (Call·receive n (now (frame .entry)) (now (out .entry))) (now (table .entry))) × (now (out .exit) ≡ outgoing (Call·receive n (now (frame .entry)) (now (out .entry))) (now (table .entry))) ⌝ }
+    ensures { λ r. ⌜ MeetsOut (Call·receive n (now (frame .entry)) (now (out .entry))) (now (table .entry)) r (now (table .exit)) (now (out .exit)) ⌝ }
 {
     match tests::find(table, n) {
         Found::Refused(why) => Answer::Refused(why),
@@ -65,8 +60,8 @@ pub fn receive(table: &mut [u8], n: u32, frame: &[u8], out: &mut [u8]) -> Answer
 }
 
 fn receive_at(table: &mut [u8], i: usize, frame: &[u8], out: &mut [u8]) -> Answer
-    requires { ⌜ (tableInRange (now table) ≡ true) × (i < countIn (now table)) ⌝ }
-    ensures { λ r. ⌜ (r ≡ withRoom (now (out .entry)) (frameAnswer (classOf (now (frame .entry))) (portAt (now (table .entry)) i .line) (portAt (now (table .entry)) i .phase .mux))) × (now (table .exit) ≡ afterFrame r (now (table .entry)) i (now (frame .entry))) × (now (out .exit) ≡ sentFor r (now (table .entry)) i (now (frame .entry)) (now (out .entry))) ⌝ }
+    requires { ⌜ InTable (now table) i ⌝ }
+    ensures { λ r. ⌜ MeetsReceive (now (table .entry)) i (now (frame .entry)) (now (out .entry)) r (now (table .exit)) (now (out .exit)) ⌝ }
 {
     if out.len() < 124 {
         return Answer::Refused(Reason::Buffer);
@@ -89,7 +84,7 @@ fn receive_at(table: &mut [u8], i: usize, frame: &[u8], out: &mut [u8]) -> Answe
 
 // A tenth of a second has passed.
 pub fn tick(table: &mut [u8]) -> Answer
-    ensures { λ r. ⌜ (r ≡ After·answer Call·tick (now (table .entry))) × (now (table .exit) ≡ after Call·tick (now (table .entry))) ⌝ }
+    ensures { λ r. ⌜ Meets Call·tick (now (table .entry)) r (now (table .exit)) ⌝ }
 {
     if !table::is_table(table) {
         return Answer::Refused(Reason::Table);
@@ -100,7 +95,7 @@ pub fn tick(table: &mut [u8]) -> Answer
 
 // The link of port n is up or down now, and its duplex full or half: one event, and none where both are as they were.
 pub fn line(table: &mut [u8], n: u32, up: bool, full: bool) -> Answer
-    ensures { λ r. ⌜ (r ≡ After·answer (Call·line n (record { up = up; full = full })) (now (table .entry))) × (now (table .exit) ≡ after (Call·line n (record { up = up; full = full })) (now (table .entry))) ⌝ }
+    ensures { λ r. ⌜ Meets (Call·line n (record { up = up; full = full })) (now (table .entry)) r (now (table .exit)) ⌝ }
 {
     match tests::find(table, n) {
         Found::Refused(why) => Answer::Refused(why),
@@ -113,7 +108,7 @@ pub fn line(table: &mut [u8], n: u32, up: bool, full: bool) -> Answer
 
 // Port n has these settings from now on.
 pub fn configure(table: &mut [u8], n: u32, settings: Settings) -> Answer
-    ensures { λ r. ⌜ (r ≡ After·answer (Call·configure n settings) (now (table .entry))) × (now (table .exit) ≡ after (Call·configure n settings) (now (table .entry))) ⌝ }
+    ensures { λ r. ⌜ Meets (Call·configure n settings) (now (table .entry)) r (now (table .exit)) ⌝ }
 {
     match tests::find(table, n) {
         Found::Refused(why) => Answer::Refused(why),
@@ -129,7 +124,7 @@ pub fn configure(table: &mut [u8], n: u32, settings: Settings) -> Answer
 
 // The next LACPDU of port n is written into `out`, and sent by the caller.
 pub fn fetch(table: &mut [u8], n: u32, out: &mut [u8]) -> Answer
-    ensures { λ r. ⌜ (r ≡ After·answer (Call·fetch n (now (out .entry))) (now (table .entry))) × (now (table .exit) ≡ after (Call·fetch n (now (out .entry))) (now (table .entry))) × (now (out .exit) ≡ outgoing (Call·fetch n (now (out .entry))) (now (table .entry))) ⌝ }
+    ensures { λ r. ⌜ MeetsOut (Call·fetch n (now (out .entry))) (now (table .entry)) r (now (table .exit)) (now (out .exit)) ⌝ }
 {
     match tests::find(table, n) {
         Found::Refused(why) => Answer::Refused(why),
@@ -138,8 +133,8 @@ pub fn fetch(table: &mut [u8], n: u32, out: &mut [u8]) -> Answer
 }
 
 fn fetch_at(table: &mut [u8], i: usize, out: &mut [u8]) -> Answer
-    requires { ⌜ (tableInRange (now table) ≡ true) × (i < countIn (now table)) ⌝ }
-    ensures { λ r. ⌜ (r ≡ withRoom (now (out .entry)) (dueAnswer (due (portAt (now (table .entry)) i)))) × (now (table .exit) ≡ unless r (now (table .entry)) (afterSend (now (table .entry)) i)) × (now (out .exit) ≡ unless r (now (out .entry)) (over (lacpduOf (now (table .entry)) i) (now (out .entry)))) ⌝ }
+    requires { ⌜ InTable (now table) i ⌝ }
+    ensures { λ r. ⌜ MeetsFetch (now (table .entry)) i (now (out .entry)) r (now (table .exit)) (now (out .exit)) ⌝ }
 {
     if out.len() < 124 {
         return Answer::Refused(Reason::Buffer);

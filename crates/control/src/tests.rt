@@ -3,7 +3,7 @@ ghost use mathlib.Core.Path.{_≡_};
 ghost use mathlib.Core.Bool.{true};
 ghost use Prim.Native.Nat.{_<_};
 ghost use Rattle.port.specs.Transmit.{due};
-ghost use Rattle.table.specs.Table.{tableInRange, countIn, portAt};
+ghost use Rattle.table.specs.Table.{tableInRange, portAt, InTable};
 ghost use Rattle.control.specs.Answer.{isNumber, isRoom, found, frameAnswer};
 use crate::answer::Answer;
 use crate::answer::Reason;
@@ -25,7 +25,7 @@ fn is_number(table: &[u8], n: u32) -> bool
     requires { ⌜ tableInRange (now table) ≡ true ⌝ }
     ensures { λ r. ⌜ r ≡ isNumber (now (table .entry)) n ⌝ }
 {
-    let count = table[0] as u32;
+    let count = table::count(table) as u32;
     (1 <= n) & (n <= count)
 }
 
@@ -58,7 +58,7 @@ pub fn is_room(table: &[u8], count: u32) -> bool
 
 // Link and duplex of port i, from 0.
 pub fn line_at(table: &[u8], i: usize) -> Line
-    requires { ⌜ (tableInRange (now table) ≡ true) × (i < countIn (now table)) ⌝ }
+    requires { ⌜ InTable (now table) i ⌝ }
     ensures { λ r. ⌜ r ≡ portAt (now (table .entry)) i .line ⌝ }
 {
     let p = table::load(table, i);
@@ -67,7 +67,7 @@ pub fn line_at(table: &[u8], i: usize) -> Line
 
 // The mux state of port i, from 0.
 pub fn mux_at(table: &[u8], i: usize) -> Mux
-    requires { ⌜ (tableInRange (now table) ≡ true) × (i < countIn (now table)) ⌝ }
+    requires { ⌜ InTable (now table) i ⌝ }
     ensures { λ r. ⌜ r ≡ portAt (now (table .entry)) i .phase .mux ⌝ }
 {
     let p = table::load(table, i);
@@ -77,7 +77,7 @@ pub fn mux_at(table: &[u8], i: usize) -> Mux
 
 // What is due on port i, from 0.
 pub fn due_at(table: &[u8], i: usize) -> Due
-    requires { ⌜ (tableInRange (now table) ≡ true) × (i < countIn (now table)) ⌝ }
+    requires { ⌜ InTable (now table) i ⌝ }
     ensures { λ r. ⌜ r ≡ due (portAt (now (table .entry)) i) ⌝ }
 {
     let p = table::load(table, i);

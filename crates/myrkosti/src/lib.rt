@@ -1,11 +1,8 @@
 // The C interface (include/myrkosti.h): each call of `control` with numbers and lent octets. A call answers its number (R2).
 ghost use mathlib.Core.Path.{_≡_};
 ghost use Rattle.table.specs.Layout.{publishedSize};
-ghost use Rattle.table.specs.Record.{encoded};
-ghost use Rattle.control.specs.Answer.{answerNumber, lengthSent};
 ghost use Rattle.control.specs.Call.{start as Call·start, receive as Call·receive, tick as Call·tick, line as Call·line, configure as Call·configure, fetch as Call·fetch};
-ghost use Rattle.control.specs.After.{answer, after, outgoing};
-ghost use Rattle.control.specs.Report.{portReport, aggregatorReport};
+ghost use Rattle.control.specs.Meets.{MeetsNumber, MeetsNumberOut, MeetsFrame, MeetsPort, MeetsAggregator};
 ghost use Rattle.myrkosti.specs.Arguments.{settingsOf, systemOf, delayOf};
 use frame::block::Address;
 use frame::block::Block;
@@ -24,7 +21,7 @@ pub extern "C" fn myrkosti_table_size(ports: u32) -> u32
 // A tenth of a second has passed.
 #[no_mangle]
 pub extern "C" fn myrkosti_tick(table: &mut [u8]) -> u32
-    ensures { λ r. ⌜ (r ≡ answerNumber (answer Call·tick (now (table .entry)))) × (now (table .exit) ≡ after Call·tick (now (table .entry))) ⌝ }
+    ensures { λ r. ⌜ MeetsNumber Call·tick (now (table .entry)) r (now (table .exit)) ⌝ }
 {
     let a = control::tick(table);
     a.number() as u32
@@ -33,7 +30,7 @@ pub extern "C" fn myrkosti_tick(table: &mut [u8]) -> u32
 // The link of a port is up or down now, and its duplex full or half.
 #[no_mangle]
 pub extern "C" fn myrkosti_line(table: &mut [u8], port: u32, up: bool, full: bool) -> u32
-    ensures { λ r. ⌜ (r ≡ answerNumber (answer (Call·line port (record { up = up; full = full })) (now (table .entry)))) × (now (table .exit) ≡ after (Call·line port (record { up = up; full = full })) (now (table .entry))) ⌝ }
+    ensures { λ r. ⌜ MeetsNumber (Call·line port (record { up = up; full = full })) (now (table .entry)) r (now (table .exit)) ⌝ }
 {
     let a = control::line(table, port, up, full);
     a.number() as u32
@@ -42,7 +39,7 @@ pub extern "C" fn myrkosti_line(table: &mut [u8], port: u32, up: bool, full: boo
 // Writes what is due on a port into `out`.
 #[no_mangle]
 pub extern "C" fn myrkosti_fetch(table: &mut [u8], port: u32, out: &mut [u8]) -> u32
-    ensures { λ r. ⌜ (r ≡ answerNumber (answer (Call·fetch port (now (out .entry))) (now (table .entry)))) × (now (table .exit) ≡ after (Call·fetch port (now (out .entry))) (now (table .entry))) × (now (out .exit) ≡ outgoing (Call·fetch port (now (out .entry))) (now (table .entry))) ⌝ }
+    ensures { λ r. ⌜ MeetsNumberOut (Call·fetch port (now (out .entry))) (now (table .entry)) r (now (table .exit)) (now (out .exit)) ⌝ }
 {
     let a = control::fetch(table, port, out);
     a.number() as u32
@@ -57,7 +54,7 @@ pub extern "C" fn myrkosti_receive(
     out: &mut [u8],
     sent: &mut u32,
 ) -> u32
-    ensures { λ r. ⌜ (r ≡ answerNumber (answer (Call·receive port (now (frame .entry)) (now (out .entry))) (now (table .entry)))) × (now (table .exit) ≡ after (Call·receive port (now (frame .entry)) (now (out .entry))) (now (table .entry))) × (now (out .exit) ≡ outgoing (Call·receive port (now (frame .entry)) (now (out .entry))) (now (table .entry))) × (now (sent .exit) ≡ lengthSent (answer (Call·receive port (now (frame .entry)) (now (out .entry))) (now (table .entry)))) ⌝ }
+    ensures { λ r. ⌜ MeetsFrame (Call·receive port (now (frame .entry)) (now (out .entry))) (now (table .entry)) r (now (table .exit)) (now (out .exit)) (now (sent .exit)) ⌝ }
 {
     let a = control::receive(table, port, frame, out);
     *sent = a.length_sent() as u32;
@@ -100,7 +97,12 @@ pub extern "C" fn myrkosti_settings(
     aggregation: bool,
     partner: &[u8; 15],
 ) -> u32
-    ensures { λ r. ⌜ (r ≡ answerNumber (answer (Call·configure port (settingsOf (now (address .entry)) key priority activity timeout aggregation (now (partner .entry)))) (now (table .entry)))) × (now (table .exit) ≡ after (Call·configure port (settingsOf (now (address .entry)) key priority activity timeout aggregation (now (partner .entry)))) (now (table .entry))) ⌝ }
+    ensures { λ r. ⌜
+        MeetsNumber
+        (Call·configure port
+        (settingsOf (now (address .entry)) key priority activity timeout aggregation (now (partner .entry))))
+        (now (table .entry)) r (now (table .exit))
+        ⌝ }
 {
     let s = settings_of(
         address,
@@ -118,7 +120,7 @@ pub extern "C" fn myrkosti_settings(
 // The record of a port, as it lies in the table; zeros beside a refusal.
 #[no_mangle]
 pub extern "C" fn myrkosti_port(table: &[u8], port: u32, record: &mut [u8; 57]) -> u32
-    ensures { λ r. ⌜ (r ≡ answerNumber (portReport port (now (table .entry)) .answer)) × (now («record» .exit) ≡ encoded (portReport port (now (table .entry)) .port)) ⌝ }
+    ensures { λ r. ⌜ MeetsPort port (now (table .entry)) r (now («record» .exit)) ⌝ }
 {
     let r = control::report_port(table, port);
     let p = r.port;
@@ -138,7 +140,7 @@ pub extern "C" fn myrkosti_aggregator(
     count: &mut u32,
     lowest: &mut u32,
 ) -> u32
-    ensures { λ r. ⌜ (r ≡ answerNumber (aggregatorReport aggregator (now (table .entry)) .answer)) × (now (holding .exit) ≡ aggregatorReport aggregator (now (table .entry)) .sets .holding) × (now (attached .exit) ≡ aggregatorReport aggregator (now (table .entry)) .sets .attached) × (now (distributing .exit) ≡ aggregatorReport aggregator (now (table .entry)) .sets .distributing) × (now (count .exit) ≡ aggregatorReport aggregator (now (table .entry)) .sets .count) × (now (lowest .exit) ≡ aggregatorReport aggregator (now (table .entry)) .sets .lowest) ⌝ }
+    ensures { λ r. ⌜ MeetsAggregator aggregator (now (table .entry)) r (now (holding .exit)) (now (attached .exit)) (now (distributing .exit)) (now (count .exit)) (now (lowest .exit)) ⌝ }
 {
     let r = control::report_aggregator(table, aggregator);
     *holding = r.sets.holding;
@@ -166,7 +168,12 @@ pub extern "C" fn myrkosti_start(
     aggregation: bool,
     partner: &[u8; 15],
 ) -> u32
-    ensures { λ r. ⌜ (r ≡ answerNumber (answer (Call·start ports (systemOf «system_priority» (now (system .entry))) (delayOf «collector_max_delay») (settingsOf (now (address .entry)) key «port_priority» activity timeout aggregation (now (partner .entry)))) (now (table .entry)))) × (now (table .exit) ≡ after (Call·start ports (systemOf «system_priority» (now (system .entry))) (delayOf «collector_max_delay») (settingsOf (now (address .entry)) key «port_priority» activity timeout aggregation (now (partner .entry)))) (now (table .entry))) ⌝ }
+    ensures { λ r. ⌜
+        MeetsNumber
+        (Call·start ports (systemOf «system_priority» (now (system .entry))) (delayOf «collector_max_delay»)
+        (settingsOf (now (address .entry)) key «port_priority» activity timeout aggregation (now (partner .entry))))
+        (now (table .entry)) r (now (table .exit))
+        ⌝ }
 {
     let id = SystemId {
         priority: system_priority,

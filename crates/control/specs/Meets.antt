@@ -1,0 +1,60 @@
+-- What a call promises: its answer, and every octet that it leaves. The contracts of the calls and of the C functions say no more and no less.
+use Prim.Native.Nat.{ℕ}
+use mathlib.Core.Path.{_≡_}
+use mathlib.Core.List.{List}
+use Rattle.frame.specs.Class.{classOf}
+use Rattle.port.specs.Transmit.{due}
+use Rattle.table.specs.Record.{encoded}
+use Rattle.table.specs.Table.{portAt}
+use Rattle.work.specs.Work.{afterSend, lacpduOf, over}
+use Rattle.control.specs.declared.answer.Answer.{Answer}
+use Rattle.control.specs.Answer.{answerNumber, lengthSent, withRoom, frameAnswer, dueAnswer}
+use Rattle.control.specs.Call.{Call}
+use Rattle.control.specs.After.{answer, after, outgoing, unless, afterFrame, sentFor}
+use Rattle.control.specs.Report.{portReport, aggregatorReport}
+
+-- of a call on table t: the answer a, and the table u afterwards
+abbrev pub Meets : Call → List ℕ → Answer → List ℕ → Type 0
+Meets c t a u = (a ≡ answer c t) × (u ≡ after c t)
+
+-- of a call that is lent an outgoing buffer, the buffer o afterwards too
+abbrev pub MeetsOut : Call → List ℕ → Answer → List ℕ → List ℕ → Type 0
+MeetsOut c t a u o = (a ≡ answer c t) × (u ≡ after c t) × (o ≡ outgoing c t)
+
+-- ---- behind answers 1 and 2: port i, from 0, of a table in range
+
+abbrev pub MeetsReceive : List ℕ → ℕ → List ℕ → List ℕ → Answer → List ℕ → List ℕ → Type 0
+MeetsReceive t i frame out a u o =
+    (a ≡ withRoom out (frameAnswer (classOf frame) (portAt t i .line) (portAt t i .phase .mux)))
+    × (u ≡ afterFrame a t i frame)
+    × (o ≡ sentFor a t i frame out)
+
+abbrev pub MeetsFetch : List ℕ → ℕ → List ℕ → Answer → List ℕ → List ℕ → Type 0
+MeetsFetch t i out a u o =
+    (a ≡ withRoom out (dueAnswer (due (portAt t i)))) × (u ≡ unless a t (afterSend t i)) × (o ≡ unless a out (over (lacpduOf t i) out))
+
+-- ---- a C function: the answer's number n
+
+abbrev pub MeetsNumber : Call → List ℕ → ℕ → List ℕ → Type 0
+MeetsNumber c t n u = (n ≡ answerNumber (answer c t)) × (u ≡ after c t)
+
+abbrev pub MeetsNumberOut : Call → List ℕ → ℕ → List ℕ → List ℕ → Type 0
+MeetsNumberOut c t n u o = (n ≡ answerNumber (answer c t)) × (u ≡ after c t) × (o ≡ outgoing c t)
+
+-- and for a received frame the length k that was sent
+abbrev pub MeetsFrame : Call → List ℕ → ℕ → List ℕ → List ℕ → ℕ → Type 0
+MeetsFrame c t n u o k = (n ≡ answerNumber (answer c t)) × (u ≡ after c t) × (o ≡ outgoing c t) × (k ≡ lengthSent (answer c t))
+
+-- the report of a port: its record's octets r
+abbrev pub MeetsPort : ℕ → List ℕ → ℕ → List ℕ → Type 0
+MeetsPort port t n r = (n ≡ answerNumber (portReport port t .answer)) × (r ≡ encoded (portReport port t .port))
+
+-- the report of an aggregator: the sets of those that hold it, are attached and distribute, how many distribute and the lowest that does
+abbrev pub MeetsAggregator : ℕ → List ℕ → ℕ → ℕ → ℕ → ℕ → ℕ → ℕ → Type 0
+MeetsAggregator k t n holding attached distributing count lowest =
+    (n ≡ answerNumber (aggregatorReport k t .answer))
+    × (holding ≡ aggregatorReport k t .sets .holding)
+    × (attached ≡ aggregatorReport k t .sets .attached)
+    × (distributing ≡ aggregatorReport k t .sets .distributing)
+    × (count ≡ aggregatorReport k t .sets .count)
+    × (lowest ≡ aggregatorReport k t .sets .lowest)
