@@ -130,7 +130,7 @@ sent-line p = refl
 heard-at-line : (t : List ℕ) (i : ℕ) (frame : List ℕ) → heardAt t i frame .line ≡ portAt t i .line
 unfolding heardAt received current
 heard-at-line t i frame =
-    heard-line (actorBlock (ours t) (i + 1) (portAt t i)) (blockOf (actorPart frame)) (blockOf (partnerPart frame)) (portAt t i)
+    heard-line (actorBlock (ours t .system) (i + 1) (portAt t i)) (blockOf (actorPart frame)) (blockOf (partnerPart frame)) (portAt t i)
 
 moved-line : (b : Bool) (p : Port) → cond b (moved p) p .line ≡ p .line
 unfolding moved portDisabled initialized recordDefault
