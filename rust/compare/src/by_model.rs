@@ -1,13 +1,17 @@
 //! A request performed by the model.
 
-use myrkosti::raw::{Call, Reply, Request};
+use calls::{Call, Outcome, Reply, Report, Request};
 
 /// What the model makes of the request.
 pub fn by_model(request: &Request) -> Reply {
-    let mut reply = Reply::before(request.table.clone(), request.out.clone());
-    let Reply { sent, record, aggregator: [a, b, c, d, e], table, out, .. } = &mut reply;
-    let answer = match &request.call {
-        Call::TableSize { ports } => model::table_size(*ports),
+    request.performed_by(perform)
+}
+
+fn perform(call: &Call, table: &mut [u8], out: &mut [u8]) -> Outcome {
+    let mut outcome = Outcome::UNTOUCHED;
+    let Outcome { sent, record, aggregator: [a, b, c, d, e], .. } = &mut outcome;
+    let answer = match call {
+        Call::Report(Report::TableSize { ports }) => model::table_size(*ports),
         Call::Start { ports, system_priority, system, collector_max_delay, settings: s } => model::start(
             table,
             *ports,
@@ -37,9 +41,9 @@ pub fn by_model(request: &Request) -> Reply {
             &s.partner,
         ),
         Call::Fetch { port } => model::fetch(table, *port, out),
-        Call::Port { port } => model::port(table, *port, record),
-        Call::Aggregator { aggregator } => model::aggregator(table, *aggregator, a, b, c, d, e),
+        Call::Report(Report::Port { port }) => model::port(table, *port, record),
+        Call::Report(Report::Aggregator { aggregator }) => model::aggregator(table, *aggregator, a, b, c, d, e),
     };
-    reply.answer = answer;
-    reply
+    outcome.answer = answer;
+    outcome
 }

@@ -2,7 +2,7 @@
 
 use crate::memory::FIELDS;
 use crate::world::{HEADER, RECORD};
-use myrkosti::raw::{Reply, Request};
+use calls::{Call, Reply, Request};
 use std::fmt::Write;
 
 fn hex(octets: &[u8]) -> String {
@@ -47,8 +47,11 @@ fn tables(text: &mut String, before: &[u8], model: &[u8], library: &[u8]) {
 /// A description of a difference.
 pub fn describe(request: &Request, model: &Reply, library: &Reply) -> String {
     let mut text = String::new();
-    let _ = writeln!(text, "call: {:?}", request.call);
-    if let myrkosti::raw::Call::Receive { frame, .. } = &request.call {
+    let _ = match &request.call {
+        Call::Report(report) => writeln!(text, "call: {report:?}"),
+        call => writeln!(text, "call: {call:?}"),
+    };
+    if let Call::Receive { frame, .. } = &request.call {
         let _ = writeln!(text, "frame ({} octets): {}", frame.len(), hex(frame));
     }
     let _ = writeln!(text, "outgoing buffer: {} octets", request.out.len());
@@ -59,10 +62,15 @@ pub fn describe(request: &Request, model: &Reply, library: &Reply) -> String {
         let _ = writeln!(text, "  {}", hex(record));
     }
     text.push_str("differences:\n");
-    line(&mut text, "answer", &model.answer, &library.answer);
-    line(&mut text, "sent", &model.sent, &library.sent);
-    line(&mut text, "record", &hex(&model.record), &hex(&library.record));
-    line(&mut text, "holding, attached, distributing, count, lowest", &model.aggregator, &library.aggregator);
+    line(&mut text, "answer", &model.outcome.answer, &library.outcome.answer);
+    line(&mut text, "sent", &model.outcome.sent, &library.outcome.sent);
+    line(&mut text, "record", &hex(&model.outcome.record), &hex(&library.outcome.record));
+    line(
+        &mut text,
+        "holding, attached, distributing, count, lowest",
+        &model.outcome.aggregator,
+        &library.outcome.aggregator,
+    );
     line(&mut text, "outgoing buffer", &hex(&model.out), &hex(&library.out));
     tables(&mut text, &request.table, &model.table, &library.table);
     text

@@ -13,8 +13,9 @@ mod tally;
 mod world;
 
 use by_model::by_model;
+use calls::{Reply, Request};
 use model::breakage::{self, Breakage};
-use myrkosti::raw::{self, Reply, Request, Unreachable};
+use myrkosti::raw::{self, Unreachable};
 use random::Random;
 use scenario::{Kind, Scenario};
 use std::process::ExitCode;
@@ -61,7 +62,7 @@ struct Pending {
 struct Comparison {
     tally: Tally,
     runs: [u64; Kind::ALL.len()],
-    requests: Vec<Request>,
+    requests: Vec<Request<'static>>,
     pending: Vec<Pending>,
 }
 
@@ -104,7 +105,7 @@ impl Comparison {
 
     /// The library performs what the model has performed.
     fn catch_up(&mut self) -> Result<Option<Difference>, Unreachable> {
-        let replies = raw::perform(&self.requests)?;
+        let replies = raw::perform_all(&self.requests)?;
         for ((request, pending), library) in self.requests.drain(..).zip(self.pending.drain(..)).zip(replies) {
             self.tally.count(&request, &library);
             if pending.reply != library {
@@ -208,7 +209,7 @@ fn main() -> ExitCode {
 #[cfg(test)]
 mod tests {
     use super::*;
-    use myrkosti::raw::{Call, SettingsArguments};
+    use calls::{Call, Report, SettingsArguments};
     use std::slice::from_ref;
 
     #[test]
@@ -242,9 +243,9 @@ mod tests {
             let out = vec![0; world::FRAME];
             let request = Request { call, table: self.0.clone(), out };
             let reply = by_model(&request);
-            assert_eq!(raw::perform(from_ref(&request)).unwrap(), from_ref(&reply));
+            assert_eq!(raw::perform_all(from_ref(&request)).unwrap(), from_ref(&reply));
             self.0 = reply.table;
-            reply.answer
+            reply.outcome.answer
         }
 
         fn ticks(&mut self, count: u32) {
@@ -261,7 +262,7 @@ mod tests {
             if full || !up {
                 let actor = [0, 1, 0, 0, 0, 0, 0, 5, 0, 1, 0, 1, 0, 1, 0x3D];
                 let frame = world::frame(1, &actor, &world::says_of_itself(&both.0, 1));
-                assert_eq!(both.call(Call::Receive { port: 1, frame }), 0);
+                assert_eq!(both.call(Call::Receive { port: 1, frame: frame.into() }), 0);
             }
             both.ticks(20);
             assert_eq!(both.0[world::HEADER + 2], 4);
@@ -307,7 +308,7 @@ mod tests {
         for (place, age) in (14..17).flat_map(|place| (0..=255).map(move |age| (place, age))) {
             let kept = both.0.clone();
             both.0[world::HEADER + place] = age;
-            assert_eq!(both.call(Call::Port { port: 1 }), u32::from((11..=254).contains(&age)));
+            assert_eq!(both.call(Report::Port { port: 1 }.into()), u32::from((11..=254).contains(&age)));
             both.0 = kept;
         }
     }

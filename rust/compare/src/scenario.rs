@@ -3,7 +3,7 @@
 use crate::memory;
 use crate::random::Random;
 use crate::world::{self, World, FRAME};
-use myrkosti::raw::{Call, Reply, Request};
+use calls::{Call, Reply, Report, Request};
 use std::collections::VecDeque;
 
 /// What a run is about.
@@ -144,7 +144,7 @@ impl Scenario {
     }
 
     /// The next call, and none when the run is over.
-    pub fn next(&mut self, random: &mut Random) -> Option<Request> {
+    pub fn next(&mut self, random: &mut Random) -> Option<Request<'static>> {
         self.left = self.left.checked_sub(1)?;
         if self.table.is_empty() {
             self.table = vec![0xA5; model::table_size(self.world.count) as usize];
@@ -170,7 +170,7 @@ impl Scenario {
 
     /// Takes note of what came of the last call. Memory that is no table is soon given up.
     pub fn after(&mut self, random: &mut Random, reply: &Reply) {
-        if reply.answer == 1 && random.percent(40) {
+        if reply.outcome.answer == 1 && random.percent(40) {
             self.table.clear();
             self.plans.clear();
         } else if !self.table.is_empty() && reply.table.len() == self.table.len() {
@@ -179,7 +179,7 @@ impl Scenario {
     }
 
     /// The call on the present table, with an outgoing buffer if it takes one.
-    fn request(&self, random: &mut Random, call: Call) -> Request {
+    fn request(&self, random: &mut Random, call: Call<'static>) -> Request<'static> {
         let out = match call {
             Call::Receive { .. } | Call::Fetch { .. } => {
                 let mut out = vec![0; FRAME + random.of(&[0, 0, 0, 1, 7, 60])];
@@ -197,13 +197,13 @@ impl Scenario {
         self.plans.extend((1..=self.world.count).map(Plan::Hear));
     }
 
-    fn planned(&mut self, random: &mut Random, plan: Plan) -> Call {
+    fn planned(&mut self, random: &mut Random, plan: Plan) -> Call<'static> {
         match plan {
             Plan::Tick => Call::Tick,
-            Plan::Hear(port) => Call::Receive { port, frame: self.world.lacpdu(random, &self.table, port) },
+            Plan::Hear(port) => Call::Receive { port, frame: self.world.lacpdu(random, &self.table, port).into() },
             Plan::HearCollecting(port, collecting) => {
                 self.world.set_collecting(port, collecting);
-                Call::Receive { port, frame: self.world.lacpdu(random, &self.table, port) }
+                Call::Receive { port, frame: self.world.lacpdu(random, &self.table, port).into() }
             }
             Plan::Link(port, up) => Call::Line { port, up, full: world::line_of(&self.table, port).1 },
             Plan::Duplex(port, full) => Call::Line { port, up: world::line_of(&self.table, port).0, full },
@@ -224,7 +224,7 @@ impl Scenario {
     }
 
     /// Chooses until there is a call to make.
-    fn act(&mut self, random: &mut Random) -> Request {
+    fn act(&mut self, random: &mut Random) -> Request<'static> {
         let port = self.world.port(random);
         let actions = if self.kind == Kind::AnyMemory { BALANCED } else { REALISTIC };
         match random.weighted(actions) {
@@ -286,14 +286,14 @@ impl Scenario {
             }
             Action::Marker => {
                 let frame = world::marker(random, 1);
-                return self.request(random, Call::Receive { port, frame });
+                return self.request(random, Call::Receive { port, frame: frame.into() });
             }
             Action::Response => {
                 let frame = world::marker(random, 2);
-                return self.request(random, Call::Receive { port, frame });
+                return self.request(random, Call::Receive { port, frame: frame.into() });
             }
-            Action::Port => return self.request(random, Call::Port { port }),
-            Action::Aggregator => return self.request(random, Call::Aggregator { aggregator: port }),
+            Action::Port => return self.request(random, Report::Port { port }.into()),
+            Action::Aggregator => return self.request(random, Report::Aggregator { aggregator: port }.into()),
             Action::MoveCable => self.world.move_cable(random),
             Action::FarEnd => self.world.change_far_end(random),
             Action::Restart => {
@@ -312,7 +312,7 @@ impl Scenario {
     }
 
     /// A frame of any length from 0 to 200, or with an octet or a few changed.
-    fn damaged(&mut self, random: &mut Random) -> Call {
+    fn damaged(&mut self, random: &mut Random) -> Call<'static> {
         let port = self.world.port(random);
         let mut frame = match random.below(4) {
             0 => world::marker(random, 1),
@@ -334,11 +334,11 @@ impl Scenario {
                 }
             }
         }
-        Call::Receive { port, frame }
+        Call::Receive { port, frame: frame.into() }
     }
 
     /// A call with a port that there is not, a short buffer, a wrong default, a table of another size, or several of these.
-    fn refused(&mut self, random: &mut Random) -> Request {
+    fn refused(&mut self, random: &mut Random) -> Request<'static> {
         let count = self.world.count;
         let mut port = self.world.port(random);
         if random.percent(40) {
@@ -350,8 +350,8 @@ impl Scenario {
             settings.partner[14] ^= random.of(&[0x08, 0x10, 0x18]);
         }
         let call = match random.below(9) {
-            0 if random.percent(80) => Call::TableSize { ports: random.below(40) },
-            0 => Call::TableSize { ports: random.bits() as u32 },
+            0 if random.percent(80) => Report::TableSize { ports: random.below(40) }.into(),
+            0 => Report::TableSize { ports: random.bits() as u32 }.into(),
             1 => match self.world.start(random) {
                 Call::Start { system_priority, system, collector_max_delay, .. } => {
                     let ports = random.weighted(&[(4, count), (1, 0), (1, 33), (1, count + 1), (1, 256 + count)]);
@@ -363,9 +363,9 @@ impl Scenario {
             3 => Call::Line { port, up: random.flag(), full: random.flag() },
             4 => Call::Settings { port, settings },
             5 => Call::Fetch { port },
-            6 => Call::Port { port },
-            7 => Call::Aggregator { aggregator: port },
-            _ if random.flag() => Call::Receive { port, frame: self.world.lacpdu(random, &self.table, port) },
+            6 => Report::Port { port }.into(),
+            7 => Report::Aggregator { aggregator: port }.into(),
+            _ if random.flag() => Call::Receive { port, frame: self.world.lacpdu(random, &self.table, port).into() },
             _ => match self.damaged(random) {
                 Call::Receive { frame, .. } => Call::Receive { port, frame },
                 call => call,

@@ -1,22 +1,20 @@
 //! How many calls of each kind and each answer were compared.
 
 use crate::world;
-use myrkosti::raw::{Call, Reply, Request};
+use calls::{Call, Reply, Report, Request, NAMES};
 use std::collections::BTreeMap;
 use std::fmt;
 
-/// Answers by call.
+/// Answers by the number of the call.
 #[derive(Default)]
 pub struct Tally {
-    counts: BTreeMap<(usize, u32), u64>,
+    counts: BTreeMap<(u8, u32), u64>,
     receive: [u64; 6],
     periodic: [u64; 4],
     mux: [u64; 5],
     /// Accepted line calls, by the old and by the new values.
     lines: [[u64; 4]; 4],
 }
-
-const CALLS: [&str; 9] = ["table_size", "start", "receive", "tick", "line", "settings", "fetch", "port", "aggregator"];
 
 const LINES: [(&str, (bool, bool)); 4] = [
     ("up full", (true, true)),
@@ -25,30 +23,17 @@ const LINES: [(&str, (bool, bool)); 4] = [
     ("down half", (false, false)),
 ];
 
-fn place(call: &Call) -> usize {
-    match call {
-        Call::TableSize { .. } => 0,
-        Call::Start { .. } => 1,
-        Call::Receive { .. } => 2,
-        Call::Tick => 3,
-        Call::Line { .. } => 4,
-        Call::Settings { .. } => 5,
-        Call::Fetch { .. } => 6,
-        Call::Port { .. } => 7,
-        Call::Aggregator { .. } => 8,
-    }
-}
-
 impl Tally {
     /// Counts a call that was compared.
     pub fn count(&mut self, request: &Request, reply: &Reply) {
-        let answer = if matches!(request.call, Call::TableSize { .. }) { 0 } else { reply.answer };
-        *self.counts.entry((place(&request.call), answer)).or_default() += 1;
-        if let (Call::Line { port, up, full }, 0) = (&request.call, reply.answer) {
+        let size = matches!(request.call, Call::Report(Report::TableSize { .. }));
+        let answer = if size { 0 } else { reply.outcome.answer };
+        *self.counts.entry((request.call.number(), answer)).or_default() += 1;
+        if let (Call::Line { port, up, full }, 0) = (&request.call, reply.outcome.answer) {
             let place = |line| LINES.iter().position(|(_, other)| *other == line).unwrap_or(0);
             self.lines[place(world::line_of(&request.table, *port))][place((*up, *full))] += 1;
         }
-        if reply.answer == 0 {
+        if reply.outcome.answer == 0 {
             for record in reply.table.get(11..).unwrap_or_default().chunks_exact(57) {
                 let raise = |counts: &mut [u64], state: u8| {
                     if let Some(count) = counts.get_mut(usize::from(state)) {
@@ -81,7 +66,7 @@ impl fmt::Display for Tally {
             write!(f, "{answer:>9}")?;
         }
         writeln!(f)?;
-        for (call, name) in CALLS.iter().enumerate() {
+        for (call, name) in (0..).zip(NAMES) {
             write!(f, "{name:<11}")?;
             for answer in 0..=12 {
                 match self.counts.get(&(call, answer)) {

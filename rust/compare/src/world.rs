@@ -1,7 +1,7 @@
 //! A small universe: our ports, cables, and the far ends that speak over them.
 
 use crate::random::Random;
-use myrkosti::raw::{Call, SettingsArguments};
+use calls::{Call, SettingsArguments};
 
 /// Octets of an information block.
 pub const BLOCK: usize = 15;
@@ -169,7 +169,7 @@ impl World {
     }
 
     /// The start of a table of this world.
-    pub fn start(&self, random: &mut Random) -> Call {
+    pub fn start(&self, random: &mut Random) -> Call<'static> {
         Call::Start {
             ports: self.count,
             system_priority: self.system_priority,

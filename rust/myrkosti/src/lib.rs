@@ -49,6 +49,7 @@ mod record;
 mod table;
 
 pub use answer::{Answer, Refusal};
+pub use calls::{BLOCK, RECORD};
 pub use record::{Block, MuxState, PeriodicState, PortState, ReceiveState, Record, Settings, SystemId};
 pub use table::{AggregatorReport, PortSet, Received, Table, TableRef};
 
@@ -56,7 +57,3 @@ pub use table::{AggregatorReport, PortSet, Received, Table, TableRef};
 pub const PORTS: u32 = 32;
 /// Octets of every frame that the library writes, without FCS; an outgoing buffer has at least as many.
 pub const FRAME: usize = 124;
-/// Octets of an information block.
-pub const BLOCK: usize = 15;
-/// Octets of a port's record.
-pub const RECORD: usize = 57;

@@ -225,7 +225,7 @@ pub struct Record {
 }
 
 impl Record {
-    /// The record in these octets, as [`raw::port`](crate::raw::port) gives them; none if a field is out of its range.
+    /// The record in these octets, as [`raw::Report::Port`](crate::raw::Report::Port) gives them; none if a field is out of its range.
     pub fn from_octets(octets: &[u8; RECORD]) -> Option<Record> {
         let mut fields = Fields(octets);
         let [receive, periodic, mux, selected, aggregator, ntt, link, duplex, actor_state] = fields.octets()?;

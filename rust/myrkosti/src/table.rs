@@ -2,7 +2,8 @@
 
 use crate::answer::{Answer, Refusal};
 use crate::record::{Record, Settings, SystemId};
-use crate::{raw, FRAME, RECORD};
+use crate::{raw, FRAME};
+use calls::{Call, Outcome, Report, SettingsArguments};
 
 /// A table of 1 to 32 ports: one Aggregation System, in the memory `M`.
 ///
@@ -90,7 +91,7 @@ impl Table {
     pub fn size(ports: u32) -> Option<usize> {
         /// No table is larger.
         const LARGEST: u32 = 32_768;
-        let octets = raw::table_size(ports);
+        let octets = raw::report(Report::TableSize { ports }, &[]).answer;
         (1..=LARGEST).contains(&octets).then_some(octets as usize)
     }
 }
@@ -144,20 +145,10 @@ impl<M: AsRef<[u8]> + AsMut<[u8]>> Table<M> {
         collector_max_delay: u16,
         settings: &Settings,
     ) -> Result<(), Refusal> {
-        answered(raw::start(
-            self.memory.as_mut(),
-            ports,
-            system.priority,
-            &system.address,
-            collector_max_delay,
-            &settings.address,
-            settings.key,
-            settings.port_priority,
-            settings.activity,
-            settings.short_timeout,
-            settings.aggregation,
-            &settings.default_partner.to_octets(),
-        ))
+        let (system_priority, system) = (system.priority, system.address);
+        let settings = arguments(settings);
+        self.perform(&Call::Start { ports, system_priority, system, collector_max_delay, settings }, &mut [])?;
+        Ok(())
     }
 
     /// A frame came in on a port: hand over every frame to 01-80-C2-00-00-02, without FCS, as it came. The outgoing buffer has at
@@ -166,8 +157,7 @@ impl<M: AsRef<[u8]> + AsMut<[u8]>> Table<M> {
     /// # Errors
     /// Refusals 1 to 3, 5 to 9 and 12.
     pub fn receive<'o>(&mut self, port: u32, frame: &[u8], out: &'o mut [u8]) -> Result<Received<'o>, Refusal> {
-        let mut sent = 0;
-        answered(raw::receive(self.memory.as_mut(), port, frame, out, &mut sent))?;
+        let sent = self.perform(&Call::Receive { port, frame: frame.into() }, out)?.sent;
         let out: &'o [u8] = out;
         Ok(match (sent as usize, out.get(..FRAME)) {
             (FRAME, Some(response)) => Received::Marker(response),
@@ -181,7 +171,8 @@ impl<M: AsRef<[u8]> + AsMut<[u8]>> Table<M> {
     /// # Errors
     /// [`Refusal::TableWrong`].
     pub fn tick(&mut self) -> Result<(), Refusal> {
-        answered(raw::tick(self.memory.as_mut()))
+        self.perform(&Call::Tick, &mut [])?;
+        Ok(())
     }
 
     /// The link of a port is up or down now, and its duplex full or half: both as the driver reads them together. With both as they
@@ -191,7 +182,8 @@ impl<M: AsRef<[u8]> + AsMut<[u8]>> Table<M> {
     /// # Errors
     /// [`Refusal::TableWrong`], [`Refusal::NoSuchPort`].
     pub fn line(&mut self, port: u32, up: bool, full: bool) -> Result<(), Refusal> {
-        answered(raw::line(self.memory.as_mut(), port, up, full))
+        self.perform(&Call::Line { port, up, full }, &mut [])?;
+        Ok(())
     }
 
     /// A port has these settings from now on. The same again change nothing. Another key, port priority or Aggregation takes the
@@ -200,17 +192,8 @@ impl<M: AsRef<[u8]> + AsMut<[u8]>> Table<M> {
     /// # Errors
     /// [`Refusal::TableWrong`], [`Refusal::NoSuchPort`], [`Refusal::DefaultWrong`].
     pub fn settings(&mut self, port: u32, settings: &Settings) -> Result<(), Refusal> {
-        answered(raw::settings(
-            self.memory.as_mut(),
-            port,
-            &settings.address,
-            settings.key,
-            settings.port_priority,
-            settings.activity,
-            settings.short_timeout,
-            settings.aggregation,
-            &settings.default_partner.to_octets(),
-        ))
+        self.perform(&Call::Settings { port, settings: arguments(settings) }, &mut [])?;
+        Ok(())
     }
 
     /// The next LACPDU of a port, to be sent on it at once: the first [`FRAME`] octets of the outgoing buffer. Ask every port
@@ -219,7 +202,7 @@ impl<M: AsRef<[u8]> + AsMut<[u8]>> Table<M> {
     /// # Errors
     /// Refusals 1 to 3, [`Refusal::NothingToSend`], [`Refusal::TooManySends`].
     pub fn fetch<'o>(&mut self, port: u32, out: &'o mut [u8]) -> Result<&'o [u8], Refusal> {
-        answered(raw::fetch(self.memory.as_mut(), port, out))?;
+        self.perform(&Call::Fetch { port }, out)?;
         let out: &'o [u8] = out;
         out.get(..FRAME).ok_or(Refusal::BufferShort)
     }
@@ -229,8 +212,7 @@ impl<M: AsRef<[u8]> + AsMut<[u8]>> Table<M> {
     /// # Errors
     /// [`Refusal::TableWrong`], [`Refusal::NoSuchPort`].
     pub fn port(&self, port: u32) -> Result<Record, Refusal> {
-        let mut record = [0; RECORD];
-        answered(raw::port(self.memory.as_ref(), port, &mut record))?;
+        let record = self.report(Report::Port { port })?.record;
         Record::from_octets(&record).ok_or(Refusal::TableWrong)
     }
 
@@ -239,16 +221,8 @@ impl<M: AsRef<[u8]> + AsMut<[u8]>> Table<M> {
     /// # Errors
     /// [`Refusal::TableWrong`], [`Refusal::NoSuchPort`].
     pub fn aggregator(&self, aggregator: u32) -> Result<AggregatorReport, Refusal> {
-        let [mut holding, mut attached, mut distributing, mut count, mut lowest] = [0; 5];
-        answered(raw::aggregator(
-            self.memory.as_ref(),
-            aggregator,
-            &mut holding,
-            &mut attached,
-            &mut distributing,
-            &mut count,
-            &mut lowest,
-        ))?;
+        let [holding, attached, distributing, count, lowest] =
+            self.report(Report::Aggregator { aggregator })?.aggregator;
         Ok(AggregatorReport {
             holding: PortSet(holding),
             attached: PortSet(attached),
@@ -257,10 +231,30 @@ impl<M: AsRef<[u8]> + AsMut<[u8]>> Table<M> {
             lowest: (lowest != 0).then_some(lowest),
         })
     }
+
+    fn perform(&mut self, call: &Call, out: &mut [u8]) -> Result<Outcome, Refusal> {
+        accepted(raw::perform(call, self.memory.as_mut(), out))
+    }
+
+    fn report(&self, report: Report) -> Result<Outcome, Refusal> {
+        accepted(raw::report(report, self.memory.as_ref()))
+    }
 }
 
-fn answered(number: u32) -> Result<(), Refusal> {
-    Answer::from_number(number).result()
+fn accepted(outcome: Outcome) -> Result<Outcome, Refusal> {
+    Answer::from_number(outcome.answer).result().map(|()| outcome)
+}
+
+fn arguments(settings: &Settings) -> SettingsArguments {
+    SettingsArguments {
+        address: settings.address,
+        key: settings.key,
+        port_priority: settings.port_priority,
+        activity: settings.activity,
+        timeout: settings.short_timeout,
+        aggregation: settings.aggregation,
+        partner: settings.default_partner.to_octets(),
+    }
 }
 
 #[cfg(test)]

@@ -212,9 +212,9 @@ fn many_at_once_and_from_many_threads() {
     std::thread::scope(|scope| {
         for _ in 0..4 {
             scope.spawn(|| {
-                let replies = raw::perform(&vec![request.clone(); 5000]).unwrap();
+                let replies = raw::perform_all(&vec![request.clone(); 5000]).unwrap();
                 assert_eq!(replies.len(), 5000);
-                assert!(replies.iter().all(|reply| reply.answer == 0 && *reply == replies[0]));
+                assert!(replies.iter().all(|reply| reply.outcome.answer == 0 && *reply == replies[0]));
             });
         }
     });

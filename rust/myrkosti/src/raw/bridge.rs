@@ -1,9 +1,7 @@
 //! The library in another process: `bridge/bridge.c` links the archive and runs under an emulator. That file describes the octets
 //! of requests and replies.
 
-use super::many::{Call, Reply, Request, SettingsArguments, Unreachable};
-use super::UNREACHABLE;
-use crate::{BLOCK, RECORD};
+use super::{Call, Outcome, Reply, Report, Request, SettingsArguments, Unreachable, UNREACHABLE};
 use std::env;
 use std::ffi::OsString;
 use std::io::{self, BufReader, Read, Write};
@@ -51,22 +49,24 @@ impl Bridge {
     }
 
     fn reply(&mut self, request: &Request) -> io::Result<Reply> {
-        let mut reply = Reply::before(vec![0; request.table.len()], vec![0; request.out.len()]);
-        reply.answer = self.number()?;
-        reply.sent = self.number()?;
-        self.replies.read_exact(&mut reply.record)?;
-        for figure in &mut reply.aggregator {
+        let mut outcome = Outcome { answer: self.number()?, sent: self.number()?, ..Outcome::UNTOUCHED };
+        self.replies.read_exact(&mut outcome.record)?;
+        for figure in &mut outcome.aggregator {
             *figure = self.number()?;
         }
-        self.replies.read_exact(&mut reply.table)?;
-        self.replies.read_exact(&mut reply.out)?;
-        Ok(reply)
+        Ok(Reply { outcome, table: self.octets(request.table.len())?, out: self.octets(request.out.len())? })
     }
 
     fn number(&mut self) -> io::Result<u32> {
         let mut octets = [0; 4];
         self.replies.read_exact(&mut octets)?;
         Ok(u32::from_le_bytes(octets))
+    }
+
+    fn octets(&mut self, count: usize) -> io::Result<Vec<u8>> {
+        let mut octets = vec![0; count];
+        self.replies.read_exact(&mut octets)?;
+        Ok(octets)
     }
 }
 
@@ -91,12 +91,10 @@ struct Arguments<'a> {
     frame: &'a [u8],
 }
 
-fn arguments(call: &Call) -> Arguments<'_> {
-    let none = Arguments::default();
+fn arguments<'a>(call: &'a Call) -> Arguments<'a> {
+    let none = Arguments { call: call.number(), ..Arguments::default() };
     match *call {
-        Call::TableSize { ports } => Arguments { number: ports, ..none },
         Call::Start { ports, system_priority, system, collector_max_delay, settings } => Arguments {
-            call: 1,
             flags: own_bits(&settings),
             number: ports,
             system_priority,
@@ -105,15 +103,16 @@ fn arguments(call: &Call) -> Arguments<'_> {
             settings,
             ..none
         },
-        Call::Receive { port, ref frame } => Arguments { call: 2, number: port, frame, ..none },
-        Call::Tick => Arguments { call: 3, ..none },
-        Call::Line { port, up, full } => Arguments { call: 4, flags: flags([up, full, false]), number: port, ..none },
-        Call::Settings { port, settings } => {
-            Arguments { call: 5, flags: own_bits(&settings), number: port, settings, ..none }
-        }
-        Call::Fetch { port } => Arguments { call: 6, number: port, ..none },
-        Call::Port { port } => Arguments { call: 7, number: port, ..none },
-        Call::Aggregator { aggregator } => Arguments { call: 8, number: aggregator, ..none },
+        Call::Receive { port, ref frame } => Arguments { number: port, frame: cut(frame), ..none },
+        Call::Tick => none,
+        Call::Line { port, up, full } => Arguments { flags: flags([up, full, false]), number: port, ..none },
+        Call::Settings { port, settings } => Arguments { flags: own_bits(&settings), number: port, settings, ..none },
+        Call::Fetch { port } => Arguments { number: port, ..none },
+        Call::Report(
+            Report::TableSize { ports: number }
+            | Report::Port { port: number }
+            | Report::Aggregator { aggregator: number },
+        ) => Arguments { number, ..none },
     }
 }
 
@@ -150,7 +149,50 @@ fn bridge() -> MutexGuard<'static, Option<Bridge>> {
     BRIDGE.lock().unwrap_or_else(PoisonError::into_inner)
 }
 
-pub(super) fn perform(requests: &[Request]) -> Result<Vec<Reply>, Unreachable> {
+/// Performs one call on this table, with this outgoing buffer if it has one.
+pub fn perform(call: &Call, table: &mut [u8], out: &mut [u8]) -> Outcome {
+    let Some(reply) = alone(call.clone(), table, out) else {
+        return Outcome::refused(UNREACHABLE);
+    };
+    copy_back(table, &reply.table);
+    copy_back(out, &reply.out);
+    reply.outcome
+}
+
+/// Performs a call that only reads this table.
+pub fn report(report: Report, table: &[u8]) -> Outcome {
+    alone(report.into(), table, &[]).map_or(Outcome::refused(UNREACHABLE), |reply| reply.outcome)
+}
+
+/// One call on copies of what is lent. The bridge copies all of it, so long areas are cut: no table, and no part of a frame or buffer
+/// that the library looks at, is longer.
+fn alone(call: Call, table: &[u8], out: &[u8]) -> Option<Reply> {
+    exchange(&[Request { call, table: cut(table).into(), out: cut(out).into() }]).ok()?.pop()
+}
+
+fn cut(octets: &[u8]) -> &[u8] {
+    octets.get(..LENT).unwrap_or(octets)
+}
+
+fn copy_back(to: &mut [u8], from: &[u8]) {
+    for (to, from) in to.iter_mut().zip(from) {
+        *to = *from;
+    }
+}
+
+pub(super) fn perform_all(requests: &[Request]) -> Result<Vec<Reply>, Unreachable> {
+    if requests.iter().any(lends_too_much) {
+        return Err(Unreachable("a request lends too much for the bridge".into()));
+    }
+    exchange(requests)
+}
+
+fn lends_too_much(request: &Request) -> bool {
+    let frame = if let Call::Receive { frame, .. } = &request.call { frame.len() } else { 0 };
+    request.table.len().max(frame).max(request.out.len()) > LENT
+}
+
+fn exchange(requests: &[Request]) -> Result<Vec<Reply>, Unreachable> {
     let mut bridge = bridge();
     let mut replies = Vec::with_capacity(requests.len());
     while replies.len() < requests.len() {
@@ -171,9 +213,6 @@ fn perform_some(bridge: &mut Option<Bridge>, requests: &[Request]) -> io::Result
     let mut batch = Vec::new();
     let mut taken = 0;
     for request in requests {
-        if request.table.len() > LENT || request.out.len() > LENT || arguments(&request.call).frame.len() > LENT {
-            return Err(io::Error::other("a request lends too much for the bridge"));
-        }
         encode(request, &mut batch);
         taken += 1;
         if batch.len() > BATCH {
@@ -185,134 +224,4 @@ fn perform_some(bridge: &mut Option<Bridge>, requests: &[Request]) -> io::Result
         None => bridge.insert(Bridge::start()?),
     };
     running.perform(&batch, requests.get(..taken).unwrap_or_default())
-}
-
-/// Performs one call and copies back what it changed. The bridge copies all that is lent, so long areas are cut: no table, and no
-/// part of a frame or buffer that the library looks at, is longer.
-fn call(call: Call, table: &[u8], out: &[u8]) -> Option<Reply> {
-    let request = Request { call, table: cut(table).into(), out: cut(out).into() };
-    perform(&[request]).ok()?.pop()
-}
-
-fn cut(octets: &[u8]) -> &[u8] {
-    octets.get(..LENT).unwrap_or(octets)
-}
-
-fn copy_back(to: &mut [u8], from: &[u8]) {
-    for (to, from) in to.iter_mut().zip(from) {
-        *to = *from;
-    }
-}
-
-/// A call that has no outgoing buffer.
-fn change(table: &mut [u8], asked: Call) -> u32 {
-    let Some(reply) = call(asked, table, &[]) else {
-        return UNREACHABLE;
-    };
-    copy_back(table, &reply.table);
-    reply.answer
-}
-
-/// The octets of the memory of a table of that many ports; 0 for a count outside 1 to 32.
-pub fn table_size(ports: u32) -> u32 {
-    call(Call::TableSize { ports }, &[], &[]).map_or(0, |reply| reply.answer)
-}
-
-/// Starts a table. Answers 0, 1 or 4.
-#[allow(clippy::too_many_arguments)] // the signature is that of the C interface
-pub fn start(
-    table: &mut [u8],
-    ports: u32,
-    system_priority: u16,
-    system: &[u8; 6],
-    collector_max_delay: u16,
-    address: &[u8; 6],
-    key: u16,
-    port_priority: u16,
-    activity: bool,
-    timeout: bool,
-    aggregation: bool,
-    partner: &[u8; BLOCK],
-) -> u32 {
-    let settings =
-        SettingsArguments { address: *address, key, port_priority, activity, timeout, aggregation, partner: *partner };
-    change(table, Call::Start { ports, system_priority, system: *system, collector_max_delay, settings })
-}
-
-/// A frame came in on a port. Answers 0 to 3, 5 to 9 and 12.
-pub fn receive(table: &mut [u8], port: u32, frame: &[u8], out: &mut [u8], sent: &mut u32) -> u32 {
-    *sent = 0;
-    let Some(reply) = call(Call::Receive { port, frame: cut(frame).into() }, table, out) else {
-        return UNREACHABLE;
-    };
-    *sent = reply.sent;
-    copy_back(table, &reply.table);
-    copy_back(out, &reply.out);
-    reply.answer
-}
-
-/// A tenth of a second has passed. Answers 0 or 1.
-pub fn tick(table: &mut [u8]) -> u32 {
-    change(table, Call::Tick)
-}
-
-/// The link of a port is up or down now, and its duplex full or half. Answers 0, 1 or 2.
-pub fn line(table: &mut [u8], port: u32, up: bool, full: bool) -> u32 {
-    change(table, Call::Line { port, up, full })
-}
-
-/// A port has these settings from now on. Answers 0, 1, 2 or 4.
-#[allow(clippy::too_many_arguments)] // the signature is that of the C interface
-pub fn settings(
-    table: &mut [u8],
-    port: u32,
-    address: &[u8; 6],
-    key: u16,
-    port_priority: u16,
-    activity: bool,
-    timeout: bool,
-    aggregation: bool,
-    partner: &[u8; BLOCK],
-) -> u32 {
-    let settings =
-        SettingsArguments { address: *address, key, port_priority, activity, timeout, aggregation, partner: *partner };
-    change(table, Call::Settings { port, settings })
-}
-
-/// The next LACPDU of a port. Answers 0 to 3, 10 or 11.
-pub fn fetch(table: &mut [u8], port: u32, out: &mut [u8]) -> u32 {
-    let Some(reply) = call(Call::Fetch { port }, table, out) else {
-        return UNREACHABLE;
-    };
-    copy_back(table, &reply.table);
-    copy_back(out, &reply.out);
-    reply.answer
-}
-
-/// The record of a port, zeros beside a refusal. Answers 0, 1 or 2.
-pub fn port(table: &[u8], port: u32, record: &mut [u8; RECORD]) -> u32 {
-    let Some(reply) = call(Call::Port { port }, table, &[]) else {
-        *record = [0; RECORD];
-        return UNREACHABLE;
-    };
-    *record = reply.record;
-    reply.answer
-}
-
-/// The ports of an aggregator, zeros beside a refusal. Answers 0, 1 or 2.
-pub fn aggregator(
-    table: &[u8],
-    aggregator: u32,
-    holding: &mut u32,
-    attached: &mut u32,
-    distributing: &mut u32,
-    count: &mut u32,
-    lowest: &mut u32,
-) -> u32 {
-    let reply = call(Call::Aggregator { aggregator }, table, &[]);
-    let (answer, figures) = reply.map_or((UNREACHABLE, [0; 5]), |reply| (reply.answer, reply.aggregator));
-    for (to, figure) in [holding, attached, distributing, count, lowest].into_iter().zip(figures) {
-        *to = figure;
-    }
-    answer
 }

@@ -1,10 +1,14 @@
 //! The calls of `include/myrkosti.h`: numbers and lent octets, slices for pointers and lengths.
 //!
 //! They answer the number that the library answers. What the header says of each holds here too: an answer other than 0 leaves the
-//! table and the outgoing buffer as they came, and `sent`, `record` and the five numbers of an aggregator are written at every
-//! call.
+//! table and the outgoing buffer as they came, and `sent`, `record` and the five numbers of an aggregator are written by every
+//! call that has them.
 //!
-//! [`perform`] takes many calls at once, each with its own memory, which is much faster where the library runs under an emulator.
+//! [`perform`] takes one call, [`report`] one that only reads the table. [`perform_all`] takes many calls at once, each with its own
+//! memory, which is much faster where the library runs under an emulator.
+
+use std::error::Error;
+use std::fmt;
 
 #[cfg(not(direct))]
 #[path = "bridge.rs"]
@@ -15,11 +19,29 @@ mod machine;
 #[allow(unsafe_code)]
 mod machine;
 
-mod many;
-
-pub use machine::{aggregator, fetch, line, port, receive, settings, start, table_size, tick};
-pub use many::{perform, Call, Reply, Request, SettingsArguments, Unreachable};
+pub use calls::{Call, Outcome, Reply, Report, Request, SettingsArguments};
+pub use machine::{perform, report};
 
 /// Answered where the library could not be reached, which happens only under an emulator. Nothing was changed then, but what
 /// is written at every call is zero.
 pub const UNREACHABLE: u32 = u32::MAX;
+
+/// The library could not be reached.
+#[derive(Debug)]
+pub struct Unreachable(String);
+
+impl fmt::Display for Unreachable {
+    fn fmt(&self, f: &mut fmt::Formatter<'_>) -> fmt::Result {
+        write!(f, "the library could not be reached: {}", self.0)
+    }
+}
+
+impl Error for Unreachable {}
+
+/// Performs each request in turn, each on its own memory, and gives their replies.
+///
+/// # Errors
+/// Only where the library runs under an emulator that did not start or ended.
+pub fn perform_all(requests: &[Request]) -> Result<Vec<Reply>, Unreachable> {
+    machine::perform_all(requests)
+}

@@ -1,0 +1,188 @@
+//! The calls of `include/myrkosti.h` as values: what each is given, and what comes of it. No rule stands here.
+//!
+//! The library linked, the library over the bridge and the model each perform a [`Call`] on lent memory by one function `perform`,
+//! which gives an [`Outcome`], and a [`Report`] on a table that is only read by one function `report`. So a further call is a variant
+//! with its number and name here, and an arm there.
+
+#![forbid(unsafe_code)]
+
+use std::borrow::Cow;
+
+/// Octets of an information block.
+pub const BLOCK: usize = 15;
+/// Octets of a port's record.
+pub const RECORD: usize = 57;
+
+/// A call with its arguments, except for the table and the outgoing buffer.
+#[derive(Clone, Debug, PartialEq, Eq)]
+pub enum Call<'a> {
+    /// Starts a table. Answers 0, 1 or 4.
+    Start {
+        /// Port count.
+        ports: u32,
+        /// System priority.
+        system_priority: u16,
+        /// System address.
+        system: [u8; 6],
+        /// CollectorMaxDelay.
+        collector_max_delay: u16,
+        /// The settings of every port.
+        settings: SettingsArguments,
+    },
+    /// A frame came in on a port. Answers 0 to 3, 5 to 9 and 12.
+    Receive {
+        /// Port, from 1.
+        port: u32,
+        /// The frame.
+        frame: Cow<'a, [u8]>,
+    },
+    /// A tenth of a second has passed. Answers 0 or 1.
+    Tick,
+    /// The link of a port is up or down now, and its duplex full or half. Answers 0, 1 or 2.
+    Line {
+        /// Port, from 1.
+        port: u32,
+        /// The link is up.
+        up: bool,
+        /// The duplex is full.
+        full: bool,
+    },
+    /// A port has these settings from now on. Answers 0, 1, 2 or 4.
+    Settings {
+        /// Port, from 1.
+        port: u32,
+        /// Its settings.
+        settings: SettingsArguments,
+    },
+    /// The next LACPDU of a port. Answers 0 to 3, 10 or 11.
+    Fetch {
+        /// Port, from 1.
+        port: u32,
+    },
+    /// A call that only reads the table.
+    Report(Report),
+}
+
+/// A call that only reads the table.
+#[derive(Clone, Copy, Debug, PartialEq, Eq)]
+pub enum Report {
+    /// The octets of the memory of a table of that many ports, in place of an answer; 0 for a count outside 1 to 32. Looks at no table.
+    TableSize {
+        /// Port count.
+        ports: u32,
+    },
+    /// The record of a port, zeros beside a refusal. Answers 0, 1 or 2.
+    Port {
+        /// Port, from 1.
+        port: u32,
+    },
+    /// The ports of an aggregator, zeros beside a refusal. Answers 0, 1 or 2.
+    Aggregator {
+        /// Aggregator, from 1.
+        aggregator: u32,
+    },
+}
+
+/// Settings as the calls take them.
+#[derive(Clone, Copy, Debug, Default, PartialEq, Eq)]
+pub struct SettingsArguments {
+    /// Own address.
+    pub address: [u8; 6],
+    /// Key.
+    pub key: u16,
+    /// Port priority.
+    pub port_priority: u16,
+    /// Active.
+    pub activity: bool,
+    /// Short timeout.
+    pub timeout: bool,
+    /// Aggregatable.
+    pub aggregation: bool,
+    /// Default partner block.
+    pub partner: [u8; BLOCK],
+}
+
+/// The names of the calls, each at its number.
+pub const NAMES: [&str; 9] =
+    ["table_size", "start", "receive", "tick", "line", "settings", "fetch", "port", "aggregator"];
+
+impl Call<'_> {
+    /// The call's number: its place in [`NAMES`], and what the bridge knows it by.
+    pub fn number(&self) -> u8 {
+        match self {
+            Call::Report(Report::TableSize { .. }) => 0,
+            Call::Start { .. } => 1,
+            Call::Receive { .. } => 2,
+            Call::Tick => 3,
+            Call::Line { .. } => 4,
+            Call::Settings { .. } => 5,
+            Call::Fetch { .. } => 6,
+            Call::Report(Report::Port { .. }) => 7,
+            Call::Report(Report::Aggregator { .. }) => 8,
+        }
+    }
+}
+
+impl From<Report> for Call<'_> {
+    fn from(report: Report) -> Self {
+        Call::Report(report)
+    }
+}
+
+/// What a call gives beside what it leaves in the lent memory.
+#[derive(Clone, Copy, Debug, PartialEq, Eq)]
+pub struct Outcome {
+    /// The answer, or the size.
+    pub answer: u32,
+    /// `sent`, of a received frame.
+    pub sent: u32,
+    /// `record`, of a port.
+    pub record: [u8; RECORD],
+    /// holding, attached, distributing, count, lowest, of an aggregator.
+    pub aggregator: [u32; 5],
+}
+
+impl Outcome {
+    /// Nothing is written yet: 0xEE in each octet, so that one can see what a call writes.
+    pub const UNTOUCHED: Outcome = {
+        const UNTOUCHED: u8 = 0xEE;
+        let number = u32::from_ne_bytes([UNTOUCHED; 4]);
+        Outcome { answer: number, sent: number, record: [UNTOUCHED; RECORD], aggregator: [number; 5] }
+    };
+
+    /// This answer, and zeros.
+    pub const fn refused(answer: u32) -> Outcome {
+        Outcome { answer, sent: 0, record: [0; RECORD], aggregator: [0; 5] }
+    }
+}
+
+/// A call and memory to lend to it.
+#[derive(Clone, Debug, PartialEq, Eq)]
+pub struct Request<'a> {
+    /// The call.
+    pub call: Call<'a>,
+    /// The table.
+    pub table: Vec<u8>,
+    /// The outgoing buffer; only receive and fetch have one.
+    pub out: Vec<u8>,
+}
+
+/// What came of a request.
+#[derive(Clone, Debug, PartialEq, Eq)]
+pub struct Reply {
+    /// What the call gave.
+    pub outcome: Outcome,
+    /// The table after the call.
+    pub table: Vec<u8>,
+    /// The outgoing buffer after the call.
+    pub out: Vec<u8>,
+}
+
+impl Request<'_> {
+    /// The reply of whoever performs calls by this function, which works on copies of the memory.
+    pub fn performed_by(&self, perform: impl FnOnce(&Call, &mut [u8], &mut [u8]) -> Outcome) -> Reply {
+        let (mut table, mut out) = (self.table.clone(), self.out.clone());
+        let outcome = perform(&self.call, &mut table, &mut out);
+        Reply { outcome, table, out }
+    }
+}
