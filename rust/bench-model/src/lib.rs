@@ -8,8 +8,8 @@
 #![allow(clippy::missing_safety_doc)] // one duty for all functions, above
 #![allow(clippy::too_many_arguments)] // the signatures are those of the C interface
 
-use model::record::RECORD;
-use model::wire::BLOCK;
+use calls::{Call, Report, SettingsArguments, BLOCK, RECORD};
+use model::{perform, report};
 use std::slice::{from_raw_parts, from_raw_parts_mut};
 
 /// Starts a table.
@@ -29,20 +29,10 @@ pub unsafe extern "C" fn model_start(
     aggregation: bool,
     partner: &[u8; BLOCK],
 ) -> u32 {
-    model::start(
-        from_raw_parts_mut(table, table_len),
-        ports,
-        system_priority,
-        system,
-        collector_max_delay,
-        address,
-        key,
-        port_priority,
-        activity,
-        timeout,
-        aggregation,
-        partner,
-    )
+    let (system, address, partner) = (*system, *address, *partner);
+    let settings = SettingsArguments { address, key, port_priority, activity, timeout, aggregation, partner };
+    let start = Call::Start { ports, system_priority, system, collector_max_delay, settings };
+    perform(&start, from_raw_parts_mut(table, table_len), &mut []).answer
 }
 
 /// A frame came in on a port.
@@ -57,20 +47,22 @@ pub unsafe extern "C" fn model_receive(
     out_len: usize,
     sent: &mut u32,
 ) -> u32 {
-    let table = from_raw_parts_mut(table, table_len);
-    model::receive(table, port, from_raw_parts(frame, frame_len), from_raw_parts_mut(out, out_len), sent)
+    let receive = Call::Receive { port, frame: from_raw_parts(frame, frame_len).into() };
+    let outcome = perform(&receive, from_raw_parts_mut(table, table_len), from_raw_parts_mut(out, out_len));
+    *sent = outcome.sent;
+    outcome.answer
 }
 
 /// A tenth of a second has passed.
 #[no_mangle]
 pub unsafe extern "C" fn model_tick(table: *mut u8, table_len: usize) -> u32 {
-    model::tick(from_raw_parts_mut(table, table_len))
+    perform(&Call::Tick, from_raw_parts_mut(table, table_len), &mut []).answer
 }
 
 /// The link of a port is up or down now, and its duplex full or half.
 #[no_mangle]
 pub unsafe extern "C" fn model_line(table: *mut u8, table_len: usize, port: u32, up: bool, full: bool) -> u32 {
-    model::line(from_raw_parts_mut(table, table_len), port, up, full)
+    perform(&Call::Line { port, up, full }, from_raw_parts_mut(table, table_len), &mut []).answer
 }
 
 /// A port has these settings from now on.
@@ -87,20 +79,23 @@ pub unsafe extern "C" fn model_settings(
     aggregation: bool,
     partner: &[u8; BLOCK],
 ) -> u32 {
-    let table = from_raw_parts_mut(table, table_len);
-    model::settings(table, port, address, key, port_priority, activity, timeout, aggregation, partner)
+    let (address, partner) = (*address, *partner);
+    let settings = SettingsArguments { address, key, port_priority, activity, timeout, aggregation, partner };
+    perform(&Call::Settings { port, settings }, from_raw_parts_mut(table, table_len), &mut []).answer
 }
 
 /// The next LACPDU of a port.
 #[no_mangle]
 pub unsafe extern "C" fn model_fetch(table: *mut u8, table_len: usize, port: u32, out: *mut u8, out_len: usize) -> u32 {
-    model::fetch(from_raw_parts_mut(table, table_len), port, from_raw_parts_mut(out, out_len))
+    perform(&Call::Fetch { port }, from_raw_parts_mut(table, table_len), from_raw_parts_mut(out, out_len)).answer
 }
 
 /// The record of a port.
 #[no_mangle]
 pub unsafe extern "C" fn model_port(table: *const u8, table_len: usize, port: u32, record: &mut [u8; RECORD]) -> u32 {
-    model::port(from_raw_parts(table, table_len), port, record)
+    let outcome = report(Report::Port { port }, from_raw_parts(table, table_len));
+    *record = outcome.record;
+    outcome.answer
 }
 
 /// The ports of an aggregator.
@@ -115,6 +110,7 @@ pub unsafe extern "C" fn model_aggregator(
     count: &mut u32,
     lowest: &mut u32,
 ) -> u32 {
-    let table = from_raw_parts(table, table_len);
-    model::aggregator(table, aggregator, holding, attached, distributing, count, lowest)
+    let outcome = report(Report::Aggregator { aggregator }, from_raw_parts(table, table_len));
+    [*holding, *attached, *distributing, *count, *lowest] = outcome.aggregator;
+    outcome.answer
 }

@@ -4,7 +4,6 @@
 //! The model goes first, and the library then performs the same calls in batches, each on the octets that stood before it. As long
 //! as no difference was found these are the library's own octets, and at the first difference the comparison ends.
 
-mod by_model;
 mod difference;
 mod memory;
 mod random;
@@ -12,7 +11,6 @@ mod scenario;
 mod tally;
 mod world;
 
-use by_model::by_model;
 use calls::{Reply, Request};
 use model::breakage::{self, Breakage};
 use myrkosti::raw::{self, Unreachable};
@@ -83,7 +81,7 @@ impl Comparison {
             self.runs[place] += 1;
             let mut step = 0;
             while let Some(request) = scenario.next(&mut random) {
-                let reply = by_model(&request);
+                let reply = request.performed_by(model::perform);
                 scenario.after(&mut random, &reply);
                 self.requests.push(request);
                 self.pending.push(Pending { run, kind: scenario.kind, step, reply });
@@ -242,7 +240,7 @@ mod tests {
         fn call(&mut self, call: Call) -> u32 {
             let out = vec![0; world::FRAME];
             let request = Request { call, table: self.0.clone(), out };
-            let reply = by_model(&request);
+            let reply = request.performed_by(model::perform);
             assert_eq!(raw::perform_all(from_ref(&request)).unwrap(), from_ref(&reply));
             self.0 = reply.table;
             reply.outcome.answer

@@ -1,10 +1,11 @@
-//! The calls of `include/myrkosti.h`, with slices for pointers and lengths: refusals in their order (R2.14 of docs/RULES.md),
-//! then the steps of R4. Each answers its number (R2).
+//! The calls of `rust/calls`, which are those of `include/myrkosti.h`: refusals in their order (R2.14 of docs/RULES.md), then the
+//! steps of R4. Each answers its number (R2).
 
 use crate::breakage::{self, Breakage};
 use crate::receive::displace;
 use crate::record::{self, Mux, Periodic, Port, Receive, Settings, Table, HEADER, OLDEST_AGE, OWN_BITS, RECORD};
-use crate::wire::{self, Block, Frame, State, BLOCK, FRAME};
+use crate::wire::{self, Block, Frame, State, FRAME};
+use ::calls::{Call, Outcome, Report, SettingsArguments};
 
 /// Why a call was refused; the discriminants are the answer numbers.
 #[derive(Clone, Copy, Debug, PartialEq, Eq)]
@@ -31,6 +32,54 @@ fn number<T>(result: Result<T, Refusal>) -> u32 {
     }
 }
 
+/// Performs a call on this table, with this outgoing buffer if it has one.
+#[inline(always)] // so that whoever names the call, as bench-model does, has no dispatch
+pub fn perform(call: &Call, table: &mut [u8], out: &mut [u8]) -> Outcome {
+    let mut outcome = Outcome::UNTOUCHED;
+    outcome.answer = match *call {
+        Call::Start { ports, system_priority, system, collector_max_delay, ref settings } => {
+            let begun = begun(table, ports, &own(settings));
+            number(begun.map(|ports| start(table, Table { system_priority, system, collector_max_delay, ports })))
+        }
+        Call::Receive { port, ref frame } => {
+            let sent = receive(table, port, frame, out);
+            outcome.sent = sent.unwrap_or(0);
+            number(sent)
+        }
+        Call::Tick => number(tick(table)),
+        Call::Line { port, up, full } => number(line(table, port, (up, full))),
+        Call::Settings { port, ref settings } => number(set(table, port, &own(settings))),
+        Call::Fetch { port } => number(fetch(table, port, out)),
+        Call::Report(asked) => return report(asked, table),
+    };
+    outcome
+}
+
+/// Performs a call that only reads this table.
+#[inline(always)]
+pub fn report(report: Report, table: &[u8]) -> Outcome {
+    let mut outcome = Outcome::UNTOUCHED;
+    outcome.answer = match report {
+        Report::TableSize { ports } => table_size(ports),
+        Report::Port { port } => {
+            let record = record_of(table, port);
+            outcome.record = record.unwrap_or([0; RECORD]);
+            number(record)
+        }
+        Report::Aggregator { aggregator } => {
+            let ports = ports_of(table, aggregator);
+            outcome.aggregator = ports.unwrap_or([0; 5]);
+            number(ports)
+        }
+    };
+    outcome
+}
+
+/// The octets of a table's memory; 0 for a count outside 1 to 32.
+pub fn table_size(ports: u32) -> u32 {
+    record::size(ports).map_or(0, |size| size as u32)
+}
+
 /// Tests 1 and 2.
 fn open(memory: &[u8], n: u32) -> Result<Table, Refusal> {
     let table = Table::read(memory).ok_or(Refusal::TableWrong)?;
@@ -55,12 +104,19 @@ fn right_default(settings: &Settings) -> Result<(), Refusal> {
     }
 }
 
-fn own_bits(activity: bool, timeout: bool, aggregation: bool) -> u8 {
-    let mut state = State(0);
-    state.put(State::ACTIVITY, activity);
-    state.put(State::TIMEOUT, timeout);
-    state.put(State::AGGREGATION, aggregation);
-    state.0
+/// The settings that a call is given.
+fn own(given: &SettingsArguments) -> Settings {
+    let mut own_bits = State(0);
+    own_bits.put(State::ACTIVITY, given.activity);
+    own_bits.put(State::TIMEOUT, given.timeout);
+    own_bits.put(State::AGGREGATION, given.aggregation);
+    Settings {
+        address: given.address,
+        key: given.key,
+        port_priority: given.port_priority,
+        own_bits: own_bits.0,
+        default: Block::read(&given.partner),
+    }
 }
 
 /// The end of an accepted call that changes something: periodic machines, then steps 3 to 6, over all ports.
@@ -76,49 +132,23 @@ fn work(table: &mut Table) {
     table.settle();
 }
 
-/// The octets of a table's memory; 0 for a count outside 1 to 32.
-pub fn table_size(ports: u32) -> u32 {
-    record::size(ports).map_or(0, |size| size as u32)
+/// The ports with which a table begins in this memory.
+fn begun(memory: &[u8], ports: u32, settings: &Settings) -> Result<Vec<Port>, Refusal> {
+    if record::size(ports) != Some(memory.len()) {
+        return Err(Refusal::TableWrong);
+    }
+    right_default(settings)?;
+    Ok(vec![begun_port(settings); ports as usize])
 }
 
 /// Starts a table.
-#[allow(clippy::too_many_arguments)] // the signature is that of the C interface
-pub fn start(
-    table: &mut [u8],
-    ports: u32,
-    system_priority: u16,
-    system: &[u8; 6],
-    collector_max_delay: u16,
-    address: &[u8; 6],
-    key: u16,
-    port_priority: u16,
-    activity: bool,
-    timeout: bool,
-    aggregation: bool,
-    partner: &[u8; BLOCK],
-) -> u32 {
-    let settings = Settings {
-        address: *address,
-        key,
-        port_priority,
-        own_bits: own_bits(activity, timeout, aggregation),
-        default: Block::read(partner),
-    };
-    if record::size(ports) != Some(table.len()) {
-        return Refusal::TableWrong as u32;
-    }
-    if let Err(refusal) = right_default(&settings) {
-        return refusal as u32;
-    }
-    let port = begun(&settings);
-    let mut begun = Table { system_priority, system: *system, collector_max_delay, ports: vec![port; ports as usize] };
+fn start(memory: &mut [u8], mut begun: Table) {
     begun.settle();
-    begun.write(table);
-    0
+    begun.write(memory);
 }
 
 /// A port after INITIALIZE and PORT_DISABLED: link down, duplex full, NTT set, no send remembered.
-fn begun(settings: &Settings) -> Port {
+fn begun_port(settings: &Settings) -> Port {
     let mut port = Port {
         receive: Receive::Initialize,
         periodic: Periodic::NoPeriodic,
@@ -143,17 +173,8 @@ fn begun(settings: &Settings) -> Port {
     port
 }
 
-/// A frame came in on a port.
-pub fn receive(table: &mut [u8], port: u32, frame: &[u8], out: &mut [u8], sent: &mut u32) -> u32 {
-    *sent = 0;
-    let result = received(table, port, frame, out);
-    if let Ok(length) = result {
-        *sent = length;
-    }
-    number(result)
-}
-
-fn received(memory: &mut [u8], n: u32, frame: &[u8], out: &mut [u8]) -> Result<u32, Refusal> {
+/// A frame came in on a port; how many octets are to be sent.
+fn receive(memory: &mut [u8], n: u32, frame: &[u8], out: &mut [u8]) -> Result<u32, Refusal> {
     let mut table = open(memory, n)?;
     if breakage::is(Breakage::BufferTestedAfterFrame) {
         wire::read(frame)?;
@@ -179,16 +200,14 @@ fn received(memory: &mut [u8], n: u32, frame: &[u8], out: &mut [u8]) -> Result<u
 }
 
 /// A tenth of a second has passed.
-pub fn tick(table: &mut [u8]) -> u32 {
-    let Some(mut read) = Table::read(table) else {
-        return Refusal::TableWrong as u32;
-    };
-    for port in &mut read.ports {
+fn tick(memory: &mut [u8]) -> Result<(), Refusal> {
+    let mut table = Table::read(memory).ok_or(Refusal::TableWrong)?;
+    for port in &mut table.ports {
         port.ticked();
         port.receive_machine();
     }
-    finish(read, table);
-    0
+    finish(table, memory);
+    Ok(())
 }
 
 impl Port {
@@ -224,20 +243,20 @@ impl Port {
 
 /// The link of a port is up or down now, and its duplex full or half (request M-103): one event, and none where both are as they
 /// were.
-pub fn line(table: &mut [u8], port: u32, up: bool, full: bool) -> u32 {
-    number(open(table, port).map(|mut read| {
-        let at = port as usize - 1;
-        let (old, new) = (read.ports[at].line(), (up, full));
-        if old == new {
-            return;
-        }
-        if let Some(way) = by_way_of(old, new).filter(|way| *way != old && *way != new) {
-            read.ports[at].relined(way);
-            work(&mut read);
-        }
-        read.ports[at].relined(new);
-        finish(read, table);
-    }))
+fn line(memory: &mut [u8], n: u32, new: (bool, bool)) -> Result<(), Refusal> {
+    let mut table = open(memory, n)?;
+    let at = n as usize - 1;
+    let old = table.ports[at].line();
+    if old == new {
+        return Ok(());
+    }
+    if let Some(way) = by_way_of(old, new).filter(|way| *way != old && *way != new) {
+        table.ports[at].relined(way);
+        work(&mut table);
+    }
+    table.ports[at].relined(new);
+    finish(table, memory);
+    Ok(())
 }
 
 /// What two calls would stop at on the way: nothing, but in the breakages.
@@ -252,28 +271,6 @@ fn by_way_of(old: (bool, bool), new: (bool, bool)) -> Option<(bool, bool)> {
 }
 
 /// A port has these settings from now on.
-#[allow(clippy::too_many_arguments)] // the signature is that of the C interface
-pub fn settings(
-    table: &mut [u8],
-    port: u32,
-    address: &[u8; 6],
-    key: u16,
-    port_priority: u16,
-    activity: bool,
-    timeout: bool,
-    aggregation: bool,
-    partner: &[u8; BLOCK],
-) -> u32 {
-    let settings = Settings {
-        address: *address,
-        key,
-        port_priority,
-        own_bits: own_bits(activity, timeout, aggregation),
-        default: Block::read(partner),
-    };
-    number(set(table, port, &settings))
-}
-
 fn set(memory: &mut [u8], n: u32, new: &Settings) -> Result<(), Refusal> {
     let mut table = open(memory, n)?;
     right_default(new)?;
@@ -296,11 +293,7 @@ fn set(memory: &mut [u8], n: u32, new: &Settings) -> Result<(), Refusal> {
 }
 
 /// The next LACPDU of a port: changes only NTT and the ages of that port.
-pub fn fetch(table: &mut [u8], port: u32, out: &mut [u8]) -> u32 {
-    number(fetched(table, port, out))
-}
-
-fn fetched(memory: &mut [u8], n: u32, out: &mut [u8]) -> Result<(), Refusal> {
+fn fetch(memory: &mut [u8], n: u32, out: &mut [u8]) -> Result<(), Refusal> {
     let mut table = open(memory, n)?;
     let out = long_enough(out)?;
     let actor = table.actor(n);
@@ -317,42 +310,32 @@ fn fetched(memory: &mut [u8], n: u32, out: &mut [u8]) -> Result<(), Refusal> {
     Ok(())
 }
 
-/// The record of a port, zeros beside a refusal.
-pub fn port(table: &[u8], port: u32, record: &mut [u8; RECORD]) -> u32 {
-    *record = [0; RECORD];
-    number(open(table, port).map(|_| {
-        let at = HEADER + RECORD * (port as usize - 1);
-        record.copy_from_slice(&table[at..at + RECORD]);
-    }))
+/// The record of a port.
+fn record_of(memory: &[u8], n: u32) -> Result<[u8; RECORD], Refusal> {
+    open(memory, n)?;
+    let mut record = [0; RECORD];
+    let at = HEADER + RECORD * (n as usize - 1);
+    record.copy_from_slice(&memory[at..at + RECORD]);
+    Ok(record)
 }
 
 /// The ports that hold an aggregator, are attached to it and distribute; how many distribute, and the lowest of them.
-pub fn aggregator(
-    table: &[u8],
-    aggregator: u32,
-    holding: &mut u32,
-    attached: &mut u32,
-    distributing: &mut u32,
-    count: &mut u32,
-    lowest: &mut u32,
-) -> u32 {
-    for figure in [&mut *holding, attached, distributing, count, lowest] {
-        *figure = 0;
-    }
-    number(open(table, aggregator).map(|read| {
-        for (n, port) in (1..).zip(&read.ports).filter(|(_, port)| u32::from(port.aggregator) == aggregator) {
-            let bit = 1 << (n - 1);
-            *holding |= bit;
-            if port.mux.attached() {
-                *attached |= bit;
-            }
-            if port.mux.distributes() {
-                *distributing |= bit;
-                *count += 1;
-                if *lowest == 0 {
-                    *lowest = n;
-                }
+fn ports_of(memory: &[u8], aggregator: u32) -> Result<[u32; 5], Refusal> {
+    let table = open(memory, aggregator)?;
+    let [mut holding, mut attached, mut distributing, mut count, mut lowest] = [0; 5];
+    for (n, port) in (1..).zip(&table.ports).filter(|(_, port)| u32::from(port.aggregator) == aggregator) {
+        let bit = 1 << (n - 1);
+        holding |= bit;
+        if port.mux.attached() {
+            attached |= bit;
+        }
+        if port.mux.distributes() {
+            distributing |= bit;
+            count += 1;
+            if lowest == 0 {
+                lowest = n;
             }
         }
-    }))
+    }
+    Ok([holding, attached, distributing, count, lowest])
 }

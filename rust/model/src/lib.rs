@@ -1,14 +1,14 @@
 //! An independent model of document 01 over IEEE Std 802.3ad-2000, Clause 43.
 //!
-//! It takes the calls of `include/myrkosti.h` over the same octets, with slices for pointers and lengths, and was
-//! written from the papers without sight of the library's source, so that each can check the other. It reads the
+//! It performs the calls of `include/myrkosti.h` over the same octets, and was written from the papers without sight of the
+//! library's source, so that each can check the other: they share the type of a call (`rust/calls`), and no rule. It reads the
 //! whole table into values, works on those, and writes the whole table back: plain before fast.
 //!
 //! | File | Subject |
 //! |---|---|
 //! | [`wire`] | octets of frames, the information block, the state octet |
 //! | [`record`] | a port's record, the table in memory and its ranges |
-//! | [`mod@receive`] | Receive machine and the functions of 43.4.9; displaced ports |
+//! | [`receive`] | Receive machine and the functions of 43.4.9; displaced ports |
 //! | [`periodic`] | Periodic Transmission machine |
 //! | [`mux`] | Mux machine, independent control |
 //! | [`select`] | the selection rule, Ready, steps 3 to 6 of the order of work |
@@ -26,4 +26,4 @@ pub mod record;
 pub mod select;
 pub mod wire;
 
-pub use calls::{aggregator, fetch, line, port, receive, settings, start, table_size, tick};
+pub use crate::calls::{perform, report, table_size};

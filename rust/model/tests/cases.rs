@@ -2,6 +2,7 @@
 
 mod common;
 
+use calls::{Call, Report};
 use common::{far, lacpdu, marker, set, Bench, ADDRESS, DELAY};
 use model::record::{Mux, Receive};
 use model::wire::FRAME;
@@ -136,14 +137,14 @@ fn unproved_cases() {
     frame[16] = 9;
     assert_eq!(t.hand(1, &frame), 0);
     assert_eq!(t.hand(1, &frame[..13]), 6);
-    let mut record = [9; 57];
     for n in [0, 33, u32::MAX] {
         assert_eq!(t.hand(n, &frame), 2);
-        assert_eq!(model::port(&t.memory, n, &mut record), 2);
-        assert_eq!(record, [0; 57]);
+        let report = t.report(Report::Port { port: n });
+        assert_eq!((report.answer, report.record), (2, [0; 57]));
     }
-    assert_eq!(model::port(&t.memory, 32, &mut record), 0);
-    assert_eq!(record, t.memory[11 + 57 * 31..]);
+    let report = t.report(Report::Port { port: 32 });
+    assert_eq!(report.answer, 0);
+    assert_eq!(report.record, t.memory[11 + 57 * 31..]);
 }
 
 #[test]
@@ -152,7 +153,7 @@ fn an_lacpdu_as_laid_out() {
     t.link(2, true);
     t.rx(2, far(5, 6, 0x3F));
     let mut out = [0xEE; FRAME + 2];
-    assert_eq!(model::fetch(&mut t.memory, 2, &mut out), 0);
+    assert_eq!(t.perform(&Call::Fetch { port: 2 }, &mut out).answer, 0);
     let mut expected = vec![0x01, 0x80, 0xC2, 0, 0, 2];
     expected.extend(ADDRESS);
     expected.extend([0x88, 0x09, 1, 1, 1, 20]);
@@ -170,15 +171,16 @@ fn a_response_as_laid_out() {
     t.link(1, true);
     t.rx(1, far(5, 6, 0x3F));
     t.ticks(20);
-    let (mut out, mut sent, before) = ([0xEE; FRAME + 2], 0, t.memory.clone());
-    assert_eq!(model::receive(&mut t.memory, 1, &marker(1), &mut out, &mut sent), 0);
+    let (mut out, before) = ([0xEE; FRAME + 2], t.memory.clone());
+    let outcome = t.perform(&Call::Receive { port: 1, frame: marker(1)[..].into() }, &mut out);
+    assert_eq!(outcome.answer, 0);
     let mut expected = vec![0x01, 0x80, 0xC2, 0, 0, 2];
     expected.extend(ADDRESS);
     expected.extend([0x88, 0x09, 2, 1, 2, 16]);
     expected.extend([0x77; 12]);
     expected.extend([0; 94]);
     expected.extend([0xEE; 2]);
-    assert_eq!((out[..].to_vec(), sent, &t.memory), (expected, 124, &before));
+    assert_eq!((out[..].to_vec(), outcome.sent, &t.memory), (expected, 124, &before));
 }
 
 #[test]

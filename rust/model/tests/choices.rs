@@ -2,6 +2,7 @@
 
 mod common;
 
+use calls::{Call, Outcome, Report, SettingsArguments};
 use common::{far, lacpdu, marker, set, Bench, Set};
 use model::record::{Mux, Periodic, Port, Receive};
 use model::wire::{Block, State, FRAME};
@@ -370,9 +371,8 @@ fn ready_without_a_tick() {
 fn passing_states_are_in_range() {
     let mut t = Bench::start(1, 5, 0);
     t.poke(1, |p| (p.periodic, p.receive) = (Periodic::PeriodicTx, Receive::Initialize));
-    let mut record = [0; 57];
-    assert_eq!(model::port(&t.memory, 1, &mut record), 0);
-    assert_eq!(record[..2], [0, 3]);
+    let report = t.report(Report::Port { port: 1 });
+    assert_eq!((report.answer, &report.record[..2]), (0, &[0, 3][..]));
     t.poke(1, |p| (p.link, p.ntt) = (true, false));
     t.ticks(1);
     let p = t.port(1);
@@ -385,21 +385,21 @@ fn ages_are_ranged() {
     for at in [14, 15, 16] {
         for (age, answer) in [(0, 0), (9, 0), (10, 0), (11, 1), (12, 1), (254, 1), (255, 0)] {
             t.memory[11 + at] = age;
-            assert_eq!(model::port(&t.memory, 1, &mut [0; 57]), answer, "{age} in octet {at}");
+            assert_eq!(t.report(Report::Port { port: 1 }).answer, answer, "{age} in octet {at}");
         }
     }
     for (at, first_wrong) in [(0, 6), (1, 4), (2, 5), (3, 2), (4, 2), (5, 2), (6, 2), (7, 2), (13, 21)] {
         let kept = t.memory[11 + at];
         t.memory[11 + at] = first_wrong;
-        assert_eq!(model::tick(&mut t.memory), 1, "octet {at}");
+        assert_eq!(t.call(&Call::Tick), 1, "octet {at}");
         t.memory[11 + at] = kept;
     }
     for (at, highest) in [(9, 900_u16), (11, 300)] {
         t.memory[11 + at..13 + at].copy_from_slice(&(highest + 1).to_be_bytes());
-        assert_eq!(model::tick(&mut t.memory), 1, "octet {at}");
+        assert_eq!(t.call(&Call::Tick), 1, "octet {at}");
         t.memory[11 + at..13 + at].copy_from_slice(&highest.to_be_bytes());
     }
-    assert_eq!(model::tick(&mut t.memory), 0);
+    assert_eq!(t.call(&Call::Tick), 0);
 }
 
 #[test]
@@ -450,14 +450,14 @@ fn displaced() {
 
 #[test]
 fn loopback_and_zeros() {
-    let mut memory = vec![0; 11 + 57 * 2];
-    let zero = [0; 6];
-    assert_eq!(model::start(&mut memory, 2, 0, &zero, 0, &zero, 0, 0, true, true, true, &[0; 15]), 0);
-    assert_eq!((memory[11 + 4], memory[11 + 57 + 4]), (1, 2));
-    let mut default = [0; 15];
-    default[14] = 0x04;
-    assert_eq!(model::start(&mut memory, 2, 0, &zero, 0, &zero, 0, 0, true, true, true, &default), 0);
-    assert_eq!((memory[11 + 4], memory[11 + 57 + 4]), (1, 2));
+    let mut t = Bench { memory: vec![0; 11 + 57 * 2] };
+    for default_state in [0, 0x04] {
+        let mut settings = SettingsArguments { activity: true, timeout: true, aggregation: true, ..Default::default() };
+        settings.partner[14] = default_state;
+        let start = Call::Start { ports: 2, system_priority: 0, system: [0; 6], collector_max_delay: 0, settings };
+        assert_eq!(t.call(&start), 0);
+        assert_eq!(t.held(), [1, 2]);
+    }
     assert_eq!(Bench::start(3, 5, 0x04).held(), [1, 1, 1]);
     let mut t = Bench::start(2, 5, 0);
     for n in [1, 2] {
@@ -558,18 +558,19 @@ fn frame_tests() {
 fn order_of_refusals() {
     let mut t = Bench::start(1, 5, 0);
     let mut out = [0xFF; 123];
-    let mut sent = 9;
-    assert_eq!(model::receive(&mut t.memory, 1, &[0; 5], &mut out, &mut sent), 3);
-    assert_eq!(model::receive(&mut t.memory, 0, &[0; 5], &mut out, &mut sent), 2);
+    let receive = |port| Call::Receive { port, frame: [0; 5][..].into() };
+    let said = |outcome: Outcome| (outcome.answer, outcome.sent);
+    assert_eq!(said(t.perform(&receive(1), &mut out)), (3, 0));
+    assert_eq!(said(t.perform(&receive(0), &mut out)), (2, 0));
     t.memory.push(0);
-    assert_eq!(model::receive(&mut t.memory, 0, &[0; 5], &mut out, &mut sent), 1);
-    assert_eq!(model::fetch(&mut t.memory, 0, &mut out), 1);
+    assert_eq!(said(t.perform(&receive(0), &mut out)), (1, 0));
+    assert_eq!(t.perform(&Call::Fetch { port: 0 }, &mut out).answer, 1);
     t.memory.pop();
-    assert_eq!(model::fetch(&mut t.memory, 0, &mut out), 2);
-    assert_eq!(model::fetch(&mut t.memory, 1, &mut out), 3);
+    assert_eq!(t.perform(&Call::Fetch { port: 0 }, &mut out).answer, 2);
+    assert_eq!(t.perform(&Call::Fetch { port: 1 }, &mut out).answer, 3);
     assert_eq!((t.settings(2, set(5, 0x10)), t.settings(1, set(5, 0x10))), (2, 4));
     assert_eq!((t.restart(33, set(5, 0x08)), t.restart(1, set(5, 0x08))), (1, 4));
-    assert_eq!((sent, out), (0, [0xFF; 123]));
+    assert_eq!(out, [0xFF; 123]);
 }
 
 #[test]
@@ -644,21 +645,19 @@ fn distributing_sets_no_ntt() {
 #[test]
 fn memory_size_is_exact() {
     let t = Bench::start(2, 5, 0);
-    let mut record = [0; 57];
     for length in (0..t.memory.len()).chain([t.memory.len() + 1]) {
-        let mut memory = t.memory.clone();
-        memory.resize(length, 0);
-        assert_eq!(model::tick(&mut memory), 1);
-        assert_eq!(model::port(&memory, 1, &mut record), 1);
+        let mut other = Bench { memory: t.memory.clone() };
+        other.memory.resize(length, 0);
+        assert_eq!(other.call(&Call::Tick), 1);
+        assert_eq!(other.report(Report::Port { port: 1 }).answer, 1);
     }
 }
 
 #[test]
 fn aggregator_report() {
     let report = |t: &Bench, n| {
-        let [mut a, mut b, mut c, mut d, mut e] = [9; 5];
-        let answer = model::aggregator(&t.memory, n, &mut a, &mut b, &mut c, &mut d, &mut e);
-        (answer, [a, b, c, d, e])
+        let outcome = t.report(Report::Aggregator { aggregator: n });
+        (outcome.answer, outcome.aggregator)
     };
     let mut t = Bench::start(32, 7, 0x04);
     assert_eq!(report(&t, 1), (0, [u32::MAX, 0, 0, 0, 0]));
@@ -684,6 +683,6 @@ fn the_lent_blocks_stay() {
     t.link(1, true);
     assert_eq!((t.port(1).default.state.0, t.port(1).partner.state.0), (0x1D, 0x17));
     let mut out = [0; FRAME];
-    assert_eq!(model::fetch(&mut t.memory, 1, &mut out), 0);
+    assert_eq!(t.perform(&Call::Fetch { port: 1 }, &mut out).answer, 0);
     assert_eq!(out[52], 0x17);
 }

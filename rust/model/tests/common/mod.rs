@@ -2,6 +2,7 @@
 //! priority 1, own bits active 1, short 2, aggregatable 4.
 #![allow(dead_code, missing_docs)]
 
+use calls::{Call, Outcome, Report, SettingsArguments};
 use model::record::{Port, Table};
 use model::wire::{self, Block, State, FRAME};
 
@@ -17,6 +18,20 @@ pub struct Set {
     pub priority: u16,
     pub bits: u8,
     pub default: Block,
+}
+
+impl Set {
+    fn arguments(&self) -> SettingsArguments {
+        SettingsArguments {
+            address: self.address,
+            key: self.key,
+            port_priority: self.priority,
+            activity: self.bits & 1 != 0,
+            timeout: self.bits & 2 != 0,
+            aggregation: self.bits & 4 != 0,
+            partner: self.default.octets(),
+        }
+    }
 }
 
 /// Key 1, priority 1, these own bits, a default block of zeros with that state.
@@ -46,9 +61,26 @@ impl Bench {
     }
 
     pub fn restart(&mut self, count: u32, set: Set) -> u32 {
-        let Set { address, key, priority, bits, default } = set;
-        let (a, t, g) = (bits & 1 != 0, bits & 2 != 0, bits & 4 != 0);
-        model::start(&mut self.memory, count, 1, &OURS, DELAY, &address, key, priority, a, t, g, &default.octets())
+        self.call(&Call::Start {
+            ports: count,
+            system_priority: 1,
+            system: OURS,
+            collector_max_delay: DELAY,
+            settings: set.arguments(),
+        })
+    }
+
+    /// The answer to a call, with a buffer of 124 octets.
+    pub fn call(&mut self, call: &Call) -> u32 {
+        self.perform(call, &mut [0xFF; FRAME]).answer
+    }
+
+    pub fn perform(&mut self, call: &Call, out: &mut [u8]) -> Outcome {
+        model::perform(call, &mut self.memory, out)
+    }
+
+    pub fn report(&self, report: Report) -> Outcome {
+        model::report(report, &self.memory)
     }
 
     pub fn table(&self) -> Table {
@@ -68,12 +100,12 @@ impl Bench {
 
     pub fn ticks(&mut self, count: u32) {
         for _ in 0..count {
-            assert_eq!(model::tick(&mut self.memory), 0);
+            assert_eq!(self.call(&Call::Tick), 0);
         }
     }
 
     pub fn line(&mut self, n: u32, up: bool, full: bool) {
-        assert_eq!(model::line(&mut self.memory, n, up, full), 0);
+        assert_eq!(self.call(&Call::Line { port: n, up, full }), 0);
     }
 
     /// The link alone: the duplex is as it was.
@@ -89,19 +121,17 @@ impl Bench {
     }
 
     pub fn settings(&mut self, n: u32, set: Set) -> u32 {
-        let Set { address, key, priority, bits, default } = set;
-        let (a, t, g) = (bits & 1 != 0, bits & 2 != 0, bits & 4 != 0);
-        model::settings(&mut self.memory, n, &address, key, priority, a, t, g, &default.octets())
+        self.call(&Call::Settings { port: n, settings: set.arguments() })
     }
 
     pub fn fetch(&mut self, n: u32) -> u32 {
-        model::fetch(&mut self.memory, n, &mut [0xFF; FRAME])
+        self.call(&Call::Fetch { port: n })
     }
 
     /// Hands over a frame with a buffer of 124 octets.
     pub fn hand(&mut self, n: u32, frame: &[u8]) -> u32 {
-        let mut sent = 9;
-        let answer = model::receive(&mut self.memory, n, frame, &mut [0xFF; FRAME], &mut sent);
+        let Outcome { answer, sent, .. } =
+            self.perform(&Call::Receive { port: n, frame: frame.into() }, &mut [0xFF; FRAME]);
         assert!(sent == 0 || sent == 124 && answer == 0);
         answer
     }
