@@ -49,6 +49,7 @@ mod record;
 mod table;
 
 pub use answer::{Answer, Refusal};
+#[doc(inline)]
 pub use calls::{BLOCK, RECORD};
 pub use record::{Block, MuxState, PeriodicState, PortState, ReceiveState, Record, Settings, SystemId};
 pub use table::{AggregatorReport, PortSet, Received, Table, TableRef};

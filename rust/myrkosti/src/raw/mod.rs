@@ -19,6 +19,7 @@ mod machine;
 #[allow(unsafe_code)]
 mod machine;
 
+#[doc(inline)]
 pub use calls::{Call, Outcome, Reply, Report, Request, SettingsArguments};
 pub use machine::{perform, report};
 
