@@ -40,8 +40,8 @@ peers:
 	rt staticlib myrkosti
 	tools/outside.sh peers
 
-# Not in the gate: changes a definition and the code that meets it together, one pair at a time, and shows which facts of claims or runs refuse it.
-# Takes about half an hour.
+# Not in the gate: changes a definition and the code that meets it together, one pair at a time, and shows which facts of claims or runs refuse it; then
+# tries the wrong definitions, contracts, statements and programs of tools/mutants/. Takes about an hour.
 mutants:
 	python3 tools/mutants.py
 

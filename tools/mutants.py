@@ -370,4 +370,5 @@ MUTANTS = [
         ("machine/src/compare.rt", "(us.state.activity & b.state.activity)", "(us.state.activity & us.state.activity)"))),
 ]
 
-main(sys.argv[1:])
+if __name__ == "__main__":
+    main(sys.argv[1:])
