@@ -1,7 +1,6 @@
 // The calls (R1.2). Each may be given anything: memory of any length and content, any port number, frame, buffer and setting. It tests in
 // the order of R2.14, and a refusal leaves table and outgoing buffer as they came; what an accepted call does stands in `work`.
 ghost use mathlib.Core.Path.{_≡_};
-ghost use Prim.Native.Nat.{_<_};
 ghost use Rattle.table.specs.Table.{InTable};
 ghost use Rattle.control.specs.Call.{start as Call·start, receive as Call·receive, tick as Call·tick, line as Call·line, configure as Call·configure, fetch as Call·fetch};
 ghost use Rattle.control.specs.Meets.{Meets, MeetsOut, MeetsReceive, MeetsFetch};
@@ -66,16 +65,18 @@ fn receive_at(table: &mut [u8], i: usize, frame: &[u8], out: &mut [u8]) -> Answe
     if out.len() < 124 {
         return Answer::Refused(Reason::Buffer);
     }
-    let line = tests::line_at(table, i);
-    let mux = tests::mux_at(table, i);
+    let p = table::load(table, i);
+    let line = p.line;
+    let phase = p.phase;
+    let mux = phase.mux;
     match tests::judge(frame::class::classify(frame), line, mux) {
         Answer::Done => Answer::Done,
         Answer::Lacpdu => {
-            work::hear(table, i, frame);
+            work::hear(table, i, p, frame);
             Answer::Lacpdu
         }
         Answer::Marker => {
-            work::respond(table, i, frame, out);
+            work::respond(p, frame, out);
             Answer::Marker
         }
         Answer::Refused(why) => Answer::Refused(why),
@@ -139,11 +140,12 @@ fn fetch_at(table: &mut [u8], i: usize, out: &mut [u8]) -> Answer
     if out.len() < 124 {
         return Answer::Refused(Reason::Buffer);
     }
-    match tests::due_at(table, i) {
+    let p = table::load(table, i);
+    match p.due() {
         Due::Nothing => Answer::Refused(Reason::NothingToSend),
         Due::Barred => Answer::Refused(Reason::Barred),
         Due::Lacpdu => {
-            work::send(table, i, out);
+            work::send(table, i, p, out);
             Answer::Done
         }
     }

@@ -1,16 +1,13 @@
 // The tests that come before any work, in the order of R2.14.
 ghost use mathlib.Core.Path.{_≡_};
 ghost use mathlib.Core.Bool.{true};
-ghost use Prim.Native.Nat.{_<_};
-ghost use Rattle.port.specs.Transmit.{due};
-ghost use Rattle.table.specs.Table.{tableInRange, portAt, InTable};
+ghost use Rattle.table.specs.Table.{tableInRange};
 ghost use Rattle.control.specs.Answer.{isNumber, isRoom, found, frameAnswer};
 use crate::answer::Answer;
 use crate::answer::Reason;
 use frame::class::Class;
 use machine::states::Line;
 use machine::states::Mux;
-use port::transmit::Due;
 use table::layout::MOST_PORTS;
 use table::layout::place_of;
 
@@ -54,34 +51,6 @@ pub fn is_room(table: &[u8], count: u32) -> bool
         return false;
     }
     table.len() == place_of(count as usize)
-}
-
-// Link and duplex of port i, from 0.
-pub fn line_at(table: &[u8], i: usize) -> Line
-    requires { ⌜ InTable (now table) i ⌝ }
-    ensures { λ r. ⌜ r ≡ portAt (now (table .entry)) i .line ⌝ }
-{
-    let p = table::load(table, i);
-    p.line
-}
-
-// The mux state of port i, from 0.
-pub fn mux_at(table: &[u8], i: usize) -> Mux
-    requires { ⌜ InTable (now table) i ⌝ }
-    ensures { λ r. ⌜ r ≡ portAt (now (table .entry)) i .phase .mux ⌝ }
-{
-    let p = table::load(table, i);
-    let h = p.phase;
-    h.mux
-}
-
-// What is due on port i, from 0.
-pub fn due_at(table: &[u8], i: usize) -> Due
-    requires { ⌜ InTable (now table) i ⌝ }
-    ensures { λ r. ⌜ r ≡ due (portAt (now (table .entry)) i) ⌝ }
-{
-    let p = table::load(table, i);
-    p.due()
 }
 
 // Of a frame: what its tests said, and at the end what the port says to it (R2.5, R2.9, R2.12).

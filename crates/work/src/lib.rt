@@ -4,12 +4,13 @@ ghost use mathlib.Core.Path.{_≡_};
 ghost use mathlib.Core.Bool.{true};
 ghost use Prim.Native.Nat.{_+_, _<_, _≤_};
 ghost use lib.ListN.{length, replicate};
+ghost use Rattle.frame.specs.Wire.{response};
 ghost use Rattle.table.specs.Layout.{headerOf, tableSize, mostPorts};
 ghost use Rattle.table.specs.Range.{portInRange};
-ghost use Rattle.table.specs.Table.{tableInRange, InTable, countIn, ports};
+ghost use Rattle.table.specs.Table.{tableInRange, InTable, countIn, ports, portAt};
 ghost use Rattle.settings.specs.Settings.{started};
 ghost use Rattle.trunk.specs.Worked.{Worked, Became};
-ghost use Rattle.work.specs.Work.{ours, worked, afterOne, afterStart, heardAt, afterHeard, afterTick, afterLine, afterSettings, afterSend, lacpduOf, responseOf, over};
+ghost use Rattle.work.specs.Work.{ours, worked, afterOne, afterStart, heardAt, afterHeard, afterTick, afterLine, afterSettings, afterSend, lacpduOf, over};
 use frame::block::Block;
 use machine::states::Line;
 use port::record::Port;
@@ -70,12 +71,12 @@ pub fn configure(table: &mut [u8], i: usize, settings: Settings)
     change(table, i, settings.configure(p));
 }
 
-// An accepted LACPDU on port i, and the ports whose partner it shows to have moved.
-pub fn hear(table: &mut [u8], i: usize, frame: &[u8])
-    requires { ⌜ InTable (now table) i × (124 ≤ length (now frame)) ⌝ }
+// An accepted LACPDU on port i, whose record is p, and the ports whose partner it shows to have moved.
+pub fn hear(table: &mut [u8], i: usize, p: Port, frame: &[u8])
+    requires { ⌜ InTable (now table) i × (p ≡ portAt (now table) i) × (124 ≤ length (now frame)) ⌝ }
     ensures { λ _. ⌜ now (table .exit) ≡ afterHeard (now (table .entry)) i (now (frame .entry)) ⌝ }
 {
-    hear_at(table, i, frame);
+    hear_at(table, i, p, frame);
     sweep(
         table,
         Step::Displaced(i, Block::read(frame::wire::actor(frame))),
@@ -91,14 +92,13 @@ fn number_of(i: usize) -> u16
     (i + 1) as u16
 }
 
-// Port i records what an LACPDU says (CURRENT, 43.4.12).
-fn hear_at(table: &mut [u8], i: usize, frame: &[u8])
-    requires { ⌜ InTable (now table) i × (124 ≤ length (now frame)) ⌝ }
+// Port i, whose record is p, records what an LACPDU says (CURRENT, 43.4.12).
+fn hear_at(table: &mut [u8], i: usize, p: Port, frame: &[u8])
+    requires { ⌜ InTable (now table) i × (p ≡ portAt (now table) i) × (124 ≤ length (now frame)) ⌝ }
     ensures { λ _. ⌜ Became (now (table .entry)) (now (table .exit)) i (heardAt (now (table .entry)) i (now (frame .entry))) ⌝ }
 {
     let ours = table::layout::read_header(table);
     let us = ours.system;
-    let p = table::load(table, i);
     let q = p.receive_lacpdu(
         us,
         number_of(i),
@@ -108,37 +108,34 @@ fn hear_at(table: &mut [u8], i: usize, frame: &[u8])
     table::store(table, i, q);
 }
 
-// Writes the LACPDU of port i over the first 124 octets of out, and remembers the send.
-pub fn send(table: &mut [u8], i: usize, out: &mut [u8])
-    requires { ⌜ InTable (now table) i × (124 ≤ length (now out)) ⌝ }
+// Writes the LACPDU of port i, whose record is p, over the first 124 octets of out, and remembers the send.
+pub fn send(table: &mut [u8], i: usize, p: Port, out: &mut [u8])
+    requires { ⌜ InTable (now table) i × (p ≡ portAt (now table) i) × (124 ≤ length (now out)) ⌝ }
     ensures { λ _. ⌜ (now (table .exit) ≡ afterSend (now (table .entry)) i) × (now (out .exit) ≡ over (lacpduOf (now (table .entry)) i) (now (out .entry))) ⌝ }
 {
-    write_due(table, i, out);
-    let p = table::load(table, i);
+    write_due(table, i, p, out);
     table::store(table, i, p.sent());
 }
 
-// Writes the LACPDU of port i over the first 124 octets of out.
-fn write_due(table: &[u8], i: usize, out: &mut [u8])
-    requires { ⌜ InTable (now table) i × (124 ≤ length (now out)) ⌝ }
+// Writes the LACPDU of port i, whose record is p, over the first 124 octets of out.
+fn write_due(table: &[u8], i: usize, p: Port, out: &mut [u8])
+    requires { ⌜ InTable (now table) i × (p ≡ portAt (now table) i) × (124 ≤ length (now out)) ⌝ }
     ensures { λ _. ⌜ now (out .exit) ≡ over (lacpduOf (now (table .entry)) i) (now (out .entry)) ⌝ }
 {
     let ours = table::layout::read_header(table);
     let us = ours.system;
     let delay = ours.delay;
-    let p = table::load(table, i);
     let address = p.own.address;
     let partner = p.partner;
     let actor = p.actor_block(us, number_of(i));
     frame::wire::write_lacpdu(out, address, actor, partner, delay);
 }
 
-// Writes port i's Response to a Marker over the first 124 octets of out.
-pub fn respond(table: &[u8], i: usize, frame: &[u8], out: &mut [u8])
-    requires { ⌜ InTable (now table) i × (124 ≤ length (now frame)) × (124 ≤ length (now out)) ⌝ }
-    ensures { λ _. ⌜ now (out .exit) ≡ over (responseOf (now (table .entry)) i (now (frame .entry))) (now (out .entry)) ⌝ }
+// Writes the Response to a Marker, from the port whose record is p, over the first 124 octets of out.
+pub fn respond(p: Port, frame: &[u8], out: &mut [u8])
+    requires { ⌜ (124 ≤ length (now frame)) × (124 ≤ length (now out)) ⌝ }
+    ensures { λ _. ⌜ now (out .exit) ≡ over (response (p .own .address) (now (frame .entry))) (now (out .entry)) ⌝ }
 {
-    let p = table::load(table, i);
     let address = p.own.address;
     frame::wire::write_response(out, address, frame);
 }

@@ -1,8 +1,11 @@
--- `control::fetch_at` meets its contract: answer 3, then 10 and 11 by what is due, or the send. Assumes nothing.
-use mathlib.Core.Path.{refl, sym, _∙_}
+-- `control::fetch_at` meets its contract: answer 3, then 10 and 11 by what is due of the record that is loaded, or the send. Assumes nothing.
+use mathlib.Core.Path.{refl, sym, ap, _∙_}
+use native.Mathlib.Omega.{arith}
 use denote.Ref.{now}
 use lib.ListN.{length}
 use borrow.Author.Tests.{lt-ltb, le-ltb}
+use Rattle.port.specs.Transmit.{due}
+use Rattle.trunk.proofs.TableWork.{lies}
 use borrow.Author.Needs.{needs}
 use Rattle.control.proofs.fetch_at.Statement.{statement}
 use Rattle.control.proofs.fetch_at.Tie as tie
@@ -10,8 +13,11 @@ use Rattle.control.proofs.fetch_at.Tie as tie
 returns : tie.Need-returns
 returns c = let short = lt-ltb (length (now (c .before .before .before .args .out))) 124 (c .if1 .taken) in (rw short, refl, refl)
 
-due-at-requires : tie.Need-due-at-requires
-due-at-requires c κs = search needs
+load-requires : tie.Need-load-requires
+load-requires c κs = lies _ _ (c .before .before .before .before .pre)
+
+due-requires : tie.Need-due-requires
+due-requires c κs = search needs
 
 enum-told : tie.Need-enum-told
 enum-told c = search needs
@@ -23,23 +29,23 @@ enum-told-3 : tie.Need-enum-told-3
 enum-told-3 c = search needs
 
 send-requires : tie.Need-send-requires
-send-requires c κs = search needs
+send-requires c κs = (c .before .before .before .before .before .before .before .before .before .before .pre, c .before .before .before .before .before .load .ensures, omega (arith, c .before .before .before .before .before .before .before .if1 .left))
 
 same-length : tie.Need-same-length
 same-length c = search needs
 
 returns-2 : tie.Need-returns-2
 returns-2 c =
-    let long = le-ltb (length (now (c .before .before .before .before .before .before .before .args .out))) 124 (c .before .before .before .before .if1 .left) in
-    (rw (long, sym (c .before .before .due-at .ensures) ∙ (c .enum-told .given .1)), refl, refl)
+    let long = le-ltb (length (now (c .before .before .before .before .before .before .before .before .args .out))) 124 (c .before .before .before .before .before .if1 .left) in
+    (rw (long, ap due (sym (c .before .before .before .load .ensures)) ∙ sym (c .before .before .due .ensures) ∙ (c .enum-told .given .1)), refl, refl)
 
 same-length-2 : tie.Need-same-length-2
 same-length-2 c = search needs
 
 returns-3 : tie.Need-returns-3
 returns-3 c =
-    let long = le-ltb (length (now (c .before .before .before .before .before .before .before .args .out))) 124 (c .before .before .before .before .if1 .left) in
-    (rw (long, sym (c .before .before .due-at .ensures) ∙ (c .enum-told2 .given .1)), refl, refl)
+    let long = le-ltb (length (now (c .before .before .before .before .before .before .before .before .args .out))) 124 (c .before .before .before .before .before .if1 .left) in
+    (rw (long, ap due (sym (c .before .before .before .load .ensures)) ∙ sym (c .before .before .due .ensures) ∙ (c .enum-told2 .given .1)), refl, refl)
 
 same-length-3 : tie.Need-same-length-3
 same-length-3 c = search needs
@@ -49,15 +55,16 @@ same-length-4 c = search needs
 
 returns-4 : tie.Need-returns-4
 returns-4 c =
-    let long = le-ltb (length (now (c .before .before .before .before .before .before .before .before .before .before .before .before .before .before .args .out))) 124 (c .before .before .before .before .before .before .before .before .before .before .before .if1 .left) in
-    (rw (long, sym (c .before .before .before .before .before .before .before .before .before .due-at .ensures) ∙ (c .before .before .before .before .before .before .before .enum-told3 .given .1)), c .before .before .before .before .send .ensures .0, c .before .before .before .before .send .ensures .1)
+    let long = le-ltb (length (now (c .before .before .before .before .before .before .before .before .before .before .before .before .before .before .before .args .out))) 124 (c .before .before .before .before .before .before .before .before .before .before .before .before .if1 .left) in
+    (rw (long, ap due (sym (c .before .before .before .before .before .before .before .before .before .before .load .ensures)) ∙ sym (c .before .before .before .before .before .before .before .before .before .due .ensures) ∙ (c .before .before .before .before .before .before .before .enum-told3 .given .1)), c .before .before .before .before .send .ensures .0, c .before .before .before .before .send .ensures .1)
 
 pub fetch-at-spec : {M : Type 1} → statement M
 fetch-at-spec =
     tie.close
     (tie.spec
     returns
-    due-at-requires
+    load-requires
+    due-requires
     enum-told
     enum-told-2
     enum-told-3

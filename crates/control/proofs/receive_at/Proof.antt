@@ -1,11 +1,14 @@
--- `control::receive_at` meets its contract: answer 3, then what the frame and the port say; an LACPDU is heard, a Marker answered.
--- Assumes nothing.
+-- `control::receive_at` meets its contract: answer 3, then what the frame and the port say; an LACPDU is heard, a Marker answered. The record is
+-- loaded once: what is judged, heard and answered is of the port as it came. Assumes nothing.
 use mathlib.Core.Path.{refl, sym, _∙_}
 use native.Mathlib.Omega.{arith}
 use denote.Ref.{now}
 use lib.ListN.{length}
 use borrow.Author.Tests.{lt-ltb, le-ltb}
+use Rattle.frame.specs.Wire.{response}
 use Rattle.table.specs.Table.{portAt}
+use Rattle.trunk.proofs.TableWork.{lies}
+use Rattle.work.specs.Work.{responseOf, over}
 use Rattle.control.specs.Answer.{frameAnswer}
 use Rattle.control.proofs.CallLaws.{lacpdu-whole, marker-whole}
 use borrow.Author.Needs.{needs}
@@ -15,11 +18,8 @@ use Rattle.control.proofs.receive_at.Tie as tie
 returns : tie.Need-returns
 returns c = let short = lt-ltb (length (now (c .before .before .before .before .args .out))) 124 (c .if1 .taken) in (rw short, refl, refl)
 
-line-at-requires : tie.Need-line-at-requires
-line-at-requires c κs = search needs
-
-mux-at-requires : tie.Need-mux-at-requires
-mux-at-requires c κs = search needs
+load-requires : tie.Need-load-requires
+load-requires c κs = lies _ _ (c .before .before .before .before .before .pre)
 
 classify-requires : tie.Need-classify-requires
 classify-requires c κs = search needs
@@ -37,18 +37,18 @@ hear-requires : tie.Need-hear-requires
 hear-requires c κs =
     let a = (c .before .before .before .before .before .before .before .before .before .before .before .before .before .args) in
     let p = portAt (now (a .table)) (a .i) in
-    let is = (λ j. frameAnswer (sym (c .before .before .before .before .classify .ensures) j) (sym (c .before .before .before .before .before .before .before .line-at .ensures) j) (sym (c .before .before .before .before .before .mux-at .ensures) j)) ∙ sym (c .before .before .before .judge .ensures) ∙ (c .before .enum-told2 .given .1) in
-    (c .before .before .before .before .before .before .before .before .before .before .before .before .before .pre, lacpdu-whole (now (a .frame)) (p .line) (p .phase .mux) is)
+    let is = (λ j. frameAnswer (sym (c .before .before .before .before .classify .ensures) j) (sym (c .before .before .before .before .before .before .before .load .ensures) j .line) (sym (c .before .before .before .before .before .before .before .load .ensures) j .phase .mux)) ∙ sym (c .before .before .before .judge .ensures) ∙ (c .before .enum-told2 .given .1) in
+    (c .before .before .before .before .before .before .before .before .before .before .before .before .before .pre, c .before .before .before .before .before .before .before .load .ensures, lacpdu-whole (now (a .frame)) (p .line) (p .phase .mux) is)
 
 enum-told-3 : tie.Need-enum-told-3
 enum-told-3 c = search needs
 
 respond-requires : tie.Need-respond-requires
 respond-requires c κs =
-    let a = (c .before .before .before .before .before .before .before .before .before .before .before .before .before .before .args) in
+    let a = (c .before .before .before .before .before .before .before .before .before .before .before .before .before .args) in
     let p = portAt (now (a .table)) (a .i) in
-    let is = (λ j. frameAnswer (sym (c .before .before .before .before .before .classify .ensures) j) (sym (c .before .before .before .before .before .before .before .before .line-at .ensures) j) (sym (c .before .before .before .before .before .before .mux-at .ensures) j)) ∙ sym (c .before .before .before .before .judge .ensures) ∙ (c .before .before .enum-told3 .given .1) in
-    (c .before .before .before .before .before .before .before .before .before .before .before .before .before .before .pre, marker-whole (now (a .frame)) (p .line) (p .phase .mux) is, omega (arith, c .before .before .before .before .before .before .before .before .before .before .if1 .left))
+    let is = (λ j. frameAnswer (sym (c .before .before .before .before .classify .ensures) j) (sym (c .before .before .before .before .before .before .before .load .ensures) j .line) (sym (c .before .before .before .before .before .before .before .load .ensures) j .phase .mux)) ∙ sym (c .before .before .before .judge .ensures) ∙ (c .before .enum-told3 .given .1) in
+    (marker-whole (now (a .frame)) (p .line) (p .phase .mux) is, omega (arith, c .before .before .before .before .before .before .before .before .before .if1 .left))
 
 enum-known-why : tie.Need-enum-known-why
 enum-known-why c = search needs
@@ -59,7 +59,7 @@ same-length c = search needs
 returns-2 : tie.Need-returns-2
 returns-2 c =
     let long = le-ltb (length (now (c .before .before .before .before .before .before .before .before .before .before .before .before .args .out))) 124 (c .before .before .before .before .before .before .before .before .if1 .left) in
-    let is = (λ j. frameAnswer (sym (c .before .before .before .classify .ensures) j) (sym (c .before .before .before .before .before .before .line-at .ensures) j) (sym (c .before .before .before .before .mux-at .ensures) j)) ∙ sym (c .before .before .judge .ensures) ∙ (c .enum-told .given .1) in
+    let is = (λ j. frameAnswer (sym (c .before .before .before .classify .ensures) j) (sym (c .before .before .before .before .before .before .load .ensures) j .line) (sym (c .before .before .before .before .before .before .load .ensures) j .phase .mux)) ∙ sym (c .before .before .judge .ensures) ∙ (c .enum-told .given .1) in
     (rw (long, is), refl, refl)
 
 same-length-2 : tie.Need-same-length-2
@@ -68,7 +68,7 @@ same-length-2 c = search needs
 returns-3 : tie.Need-returns-3
 returns-3 c =
     let long = le-ltb (length (now (c .before .before .before .before .before .before .before .before .before .before .before .before .before .before .before .before .args .out))) 124 (c .before .before .before .before .before .before .before .before .before .before .before .before .if1 .left) in
-    let is = (λ j. frameAnswer (sym (c .before .before .before .before .before .before .before .classify .ensures) j) (sym (c .before .before .before .before .before .before .before .before .before .before .line-at .ensures) j) (sym (c .before .before .before .before .before .before .before .before .mux-at .ensures) j)) ∙ sym (c .before .before .before .before .before .before .judge .ensures) ∙ (c .before .before .before .before .enum-told2 .given .1) in
+    let is = (λ j. frameAnswer (sym (c .before .before .before .before .before .before .before .classify .ensures) j) (sym (c .before .before .before .before .before .before .before .before .before .before .load .ensures) j .line) (sym (c .before .before .before .before .before .before .before .before .before .before .load .ensures) j .phase .mux)) ∙ sym (c .before .before .before .before .before .before .judge .ensures) ∙ (c .before .before .before .before .enum-told2 .given .1) in
     (rw (long, is), c .before .before .hear .ensures, refl)
 
 same-length-3 : tie.Need-same-length-3
@@ -78,10 +78,12 @@ same-length-4 : tie.Need-same-length-4
 same-length-4 c = search needs
 
 returns-4 : tie.Need-returns-4
+unfolding responseOf
 returns-4 c =
-    let long = le-ltb (length (now (c .before .before .before .before .before .before .before .before .before .before .before .before .before .before .before .before .before .args .out))) 124 (c .before .before .before .before .before .before .before .before .before .before .before .before .before .if1 .left) in
-    let is = (λ j. frameAnswer (sym (c .before .before .before .before .before .before .before .before .classify .ensures) j) (sym (c .before .before .before .before .before .before .before .before .before .before .before .line-at .ensures) j) (sym (c .before .before .before .before .before .before .before .before .before .mux-at .ensures) j)) ∙ sym (c .before .before .before .before .before .before .before .judge .ensures) ∙ (c .before .before .before .before .before .enum-told3 .given .1) in
-    (rw (long, is), refl, c .before .before .respond .ensures)
+    let a = (c .before .before .before .before .before .before .before .before .before .before .before .before .before .before .before .before .args) in
+    let long = le-ltb (length (now (c .before .before .before .before .before .before .before .before .before .before .before .before .before .before .before .before .args .out))) 124 (c .before .before .before .before .before .before .before .before .before .before .before .before .if1 .left) in
+    let is = (λ j. frameAnswer (sym (c .before .before .before .before .before .before .before .classify .ensures) j) (sym (c .before .before .before .before .before .before .before .before .before .before .load .ensures) j .line) (sym (c .before .before .before .before .before .before .before .before .before .before .load .ensures) j .phase .mux)) ∙ sym (c .before .before .before .before .before .before .judge .ensures) ∙ (c .before .before .before .before .enum-told3 .given .1) in
+    (rw (long, is), refl, c .before .before .respond .ensures ∙ (λ j. over (response (c .before .before .before .before .before .before .before .before .before .before .load .ensures j .own .address) (now (a .frame))) (now (a .out))))
 
 same-length-5 : tie.Need-same-length-5
 same-length-5 c = search needs
@@ -89,7 +91,7 @@ same-length-5 c = search needs
 returns-5 : tie.Need-returns-5
 returns-5 c =
     let long = le-ltb (length (now (c .before .before .before .before .before .before .before .before .before .before .before .before .before .args .out))) 124 (c .before .before .before .before .before .before .before .before .before .if1 .left) in
-    let is = (λ j. frameAnswer (sym (c .before .before .before .before .classify .ensures) j) (sym (c .before .before .before .before .before .before .before .line-at .ensures) j) (sym (c .before .before .before .before .before .mux-at .ensures) j)) ∙ sym (c .before .before .before .judge .ensures) ∙ (c .before .why .given .1) in
+    let is = (λ j. frameAnswer (sym (c .before .before .before .before .classify .ensures) j) (sym (c .before .before .before .before .before .before .before .load .ensures) j .line) (sym (c .before .before .before .before .before .before .before .load .ensures) j .phase .mux)) ∙ sym (c .before .before .before .judge .ensures) ∙ (c .before .why .given .1) in
     (rw (long, is), refl, refl)
 
 pub receive-at-spec : {M : Type 1} → statement M
@@ -97,8 +99,7 @@ receive-at-spec =
     tie.close
     (tie.spec
     returns
-    line-at-requires
-    mux-at-requires
+    load-requires
     classify-requires
     judge-requires
     enum-told

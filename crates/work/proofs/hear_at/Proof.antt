@@ -1,4 +1,5 @@
--- `work::hear_at` meets its contract: the record is loaded, CURRENT, and stored, and stays in range. Assumes nothing.
+-- `work::hear_at` meets its contract: the record that is handed down is the port's; it goes to CURRENT, is stored, and stays in range.
+-- Assumes nothing.
 use Prim.Native.Nat.{_+_}
 use denote.Ref.{now}
 use Rattle.frame.specs.Block.{blockOf}
@@ -16,11 +17,8 @@ use Rattle.work.proofs.hear_at.Tie as tie
 read-header-requires : tie.Need-read-header-requires
 read-header-requires c κs = in-range _ (c .before .before .before .pre .0 .0) .header
 
-load-requires : tie.Need-load-requires
-load-requires c κs = lies _ _ (c .before .before .before .before .before .before .pre .0)
-
 number-of-requires : tie.Need-number-of-requires
-number-of-requires c κs = below-most _ (c .before .before .before .before .before .before .before .pre .0 .0) (c .before .before .before .before .before .before .before .args .i) (c .before .before .before .before .before .before .before .pre .0 .1)
+number-of-requires c κs = below-most _ (c .before .before .before .before .before .pre .0 .0) (c .before .before .before .before .before .args .i) (c .before .before .before .before .before .pre .0 .1)
 
 actor-requires : tie.Need-actor-requires
 actor-requires c κs = search needs
@@ -32,7 +30,7 @@ receive-lacpdu-requires : tie.Need-receive-lacpdu-requires
 receive-lacpdu-requires c κs = search needs
 
 store-requires : tie.Need-store-requires
-store-requires c κs = lies _ _ (c .before .before .before .before .before .before .before .before .before .before .before .before .pre .0)
+store-requires c κs = lies _ _ (c .before .before .before .before .before .before .before .before .before .before .pre .0)
 
 same-length : tie.Need-same-length
 same-length c = search needs
@@ -40,18 +38,18 @@ same-length c = search needs
 returns : tie.Need-returns
 unfolding heardAt
 returns c =
-    let a = (c .before .before .before .before .before .before .before .before .before .before .before .before .before .before .before .args) in
+    let a = (c .before .before .before .before .before .before .before .before .before .before .before .before .before .args) in
+    let e = (c .before .before .before .before .before .before .before .before .before .before .before .before .before .pre) in
     let t = now (a .table) in
     let l = now (a .frame) in
-    let h = (c .before .before .before .before .before .before .before .before .before .before .before .before .before .before .before .pre .0 .1) in
     let fit =
     received-ranged (countIn t) (ours t .system) (a .i + 1) (blockOf (actorPart l)) (blockOf (partnerPart l)) (portAt t (a .i))
-    (part-fits 18 33 l (λ j. (c .before .before .before .before .before .before .before .before .before .before .before .before .before .shared-slice-known .given) j .fits))
-    (ranged-at t (c .before .before .before .before .before .before .before .before .before .before .before .before .before .before .before .pre .0 .0) (λ j. (c .before .before .before .before .before .before .before .before .before .before .before .before .before .before .slice-known .given) j .fits) (a .i) h) in
-    rw (c .before .before .store .ensures, c .before .before .before .before .receive-lacpdu .ensures, c .before .before .before .before .before .partner .ensures .0, c .before .before .before .before .before .before .actor .ensures .0, c .before .before .before .before .before .before .before .number-of .ensures, c .before .before .before .before .before .before .before .before .load .ensures, c .before .before .before .before .before .before .before .before .before .before .before .read-header .ensures)
-    (stored t (a .i) (heardAt t (a .i) l) (c .before .before .before .before .before .before .before .before .before .before .before .before .before .before .before .pre .0 .0) h fit)
+    (part-fits 18 33 l (λ j. (c .before .before .before .before .before .before .before .before .before .before .before .shared-slice-known .given) j .fits))
+    (ranged-at t (e .0 .0) (λ j. (c .before .before .before .before .before .before .before .before .before .before .before .before .slice-known .given) j .fits) (a .i) (e .0 .1)) in
+    rw (c .before .before .store .ensures, c .before .before .before .before .receive-lacpdu .ensures, c .before .before .before .before .before .partner .ensures .0, c .before .before .before .before .before .before .actor .ensures .0, c .before .before .before .before .before .before .before .number-of .ensures, e .1, c .before .before .before .before .before .before .before .before .before .read-header .ensures)
+    (stored t (a .i) (heardAt t (a .i) l) (e .0 .0) (e .0 .1) fit)
 
 pub hear-at-spec : {M : Type 1} → statement M
 hear-at-spec =
     tie.close
-    (tie.spec read-header-requires load-requires number-of-requires actor-requires partner-requires receive-lacpdu-requires store-requires same-length returns)
+    (tie.spec read-header-requires number-of-requires actor-requires partner-requires receive-lacpdu-requires store-requires same-length returns)

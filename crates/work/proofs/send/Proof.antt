@@ -1,4 +1,5 @@
--- `work::send` meets its contract: the LACPDU is written from the table as it is, and then the send remembered. Assumes nothing.
+-- `work::send` meets its contract: the LACPDU is written from the record that is handed down, which is the port's, and then the send
+-- remembered in it. Assumes nothing.
 use denote.Ref.{now}
 use lib.ListN.{set}
 use Rattle.port.specs.Transmit.{sent}
@@ -15,14 +16,11 @@ use Rattle.work.proofs.send.Tie as tie
 write-due-requires : tie.Need-write-due-requires
 write-due-requires c κs = search needs
 
-load-requires : tie.Need-load-requires
-load-requires c κs = lies _ _ (c .before .before .before .before .before .before .before .before .pre .0)
-
 sent-requires : tie.Need-sent-requires
 sent-requires c κs = search needs
 
 store-requires : tie.Need-store-requires
-store-requires c κs = lies _ _ (c .before .before .before .before .before .before .before .before .before .before .before .pre .0)
+store-requires c κs = lies _ _ (c .before .before .before .before .before .before .before .before .before .pre .0)
 
 same-length : tie.Need-same-length
 same-length c = search needs
@@ -33,16 +31,15 @@ same-length-2 c = search needs
 returns : tie.Need-returns
 unfolding afterSend
 returns c =
-    let a = (c .before .before .before .before .before .before .before .before .before .before .before .before .before .before .args) in
+    let a = (c .before .before .before .before .before .before .before .before .before .before .before .before .args) in
+    let e = (c .before .before .before .before .before .before .before .before .before .before .before .before .pre) in
     let t = now (a .table) in
-    let e = (c .before .before .before .before .before .before .before .before .before .before .before .before .before .before .pre .0 .0) in
-    let h = (c .before .before .before .before .before .before .before .before .before .before .before .before .before .before .pre .0 .1) in
     let p = portAt t (a .i) in
-    let fit = sent-ranged (countIn t) p (ranged-at t e (λ j. (c .before .before .before .before .before .before .before .before .before .before .before .before .before .slice-known .given) j .fits) (a .i) h) in
+    let fit = sent-ranged (countIn t) p (ranged-at t (e .0 .0) (λ j. (c .before .before .before .before .before .before .before .before .before .before .before .slice-known .given) j .fits) (a .i) (e .0 .1)) in
     let put : Worked t (c .before .before .store .last .0) (set (ports t) (a .i) (sent p)) =
-    rw (c .before .before .store .ensures, c .before .before .before .sent .ensures, c .before .before .before .before .before .load .ensures) (stored t (a .i) (sent p) e h fit) in
-    (made-of put (λ j. (c .slice-known4 .given) j .fits), c .before .before .before .before .before .before .before .before .before .write-due .ensures)
+    rw (c .before .before .store .ensures, c .before .before .before .sent .ensures, e .1) (stored t (a .i) (sent p) (e .0 .0) (e .0 .1) fit) in
+    (made-of put (λ j. (c .slice-known4 .given) j .fits), c .before .before .before .before .before .before .before .write-due .ensures)
 
 pub send-spec : {M : Type 1} → statement M
 send-spec =
-    tie.close (tie.spec write-due-requires load-requires sent-requires store-requires same-length same-length-2 returns)
+    tie.close (tie.spec write-due-requires sent-requires store-requires same-length same-length-2 returns)

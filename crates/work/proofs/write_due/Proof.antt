@@ -1,6 +1,6 @@
--- `work::write_due` meets its contract: header and record are read, and the LACPDU is written from them. Assumes nothing.
+-- `work::write_due` meets its contract: the header is read, and the LACPDU is written from it and from the record that is handed down, which
+-- is the port's. Assumes nothing.
 use Rattle.table.proofs.TableLaws.{in-range}
-use Rattle.trunk.proofs.TableWork.{lies}
 use Rattle.work.specs.Work.{lacpduOf}
 use Rattle.work.proofs.WorkLaws.{below-most}
 use borrow.Author.Needs.{needs}
@@ -10,11 +10,8 @@ use Rattle.work.proofs.write_due.Tie as tie
 read-header-requires : tie.Need-read-header-requires
 read-header-requires c κs = in-range _ (c .before .before .pre .0 .0) .header
 
-load-requires : tie.Need-load-requires
-load-requires c κs = lies _ _ (c .before .before .before .before .before .pre .0)
-
 number-of-requires : tie.Need-number-of-requires
-number-of-requires c κs = below-most _ (c .before .before .before .before .before .before .before .before .pre .0 .0) (c .before .before .before .before .before .before .before .before .args .i) (c .before .before .before .before .before .before .before .before .pre .0 .1)
+number-of-requires c κs = below-most _ (c .before .before .before .before .before .before .before .pre .0 .0) (c .before .before .before .before .before .before .before .args .i) (c .before .before .before .before .before .before .before .pre .0 .1)
 
 actor-block-requires : tie.Need-actor-block-requires
 actor-block-requires c κs = search needs
@@ -27,9 +24,9 @@ same-length c = search needs
 
 returns : tie.Need-returns
 unfolding lacpduOf
-returns c = rw (c .before .before .write-lacpdu .ensures, c .before .before .before .before .actor-block .ensures, c .before .before .before .before .before .number-of .ensures, c .before .before .before .before .before .before .before .before .load .ensures, c .before .before .before .before .before .before .before .before .before .before .before .read-header .ensures)
+returns c = rw (c .before .before .write-lacpdu .ensures, c .before .before .before .before .actor-block .ensures, c .before .before .before .before .before .number-of .ensures, c .before .before .before .before .before .before .before .before .before .before .before .before .before .pre .1, c .before .before .before .before .before .before .before .before .before .before .read-header .ensures)
 
 pub write-due-spec : {M : Type 1} → statement M
 write-due-spec =
     tie.close
-    (tie.spec read-header-requires load-requires number-of-requires actor-block-requires write-lacpdu-requires same-length returns)
+    (tie.spec read-header-requires number-of-requires actor-block-requires write-lacpdu-requires same-length returns)
