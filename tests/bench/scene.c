@@ -239,8 +239,8 @@ const struct call CALLS[] = {
     {"fetch, nothing due", trunk, fetch, MYRKOSTI_NOTHING_TO_SEND},
     {"port report", trunk, report_port, MYRKOSTI_DONE},
     {"aggregator report", trunk, report_aggregator, MYRKOSTI_DONE},
-    {"link falls", trunk, fall, MYRKOSTI_DONE},
-    {"duplex halves", trunk, halve, MYRKOSTI_DONE},
+    {"line, link falls", trunk, fall, MYRKOSTI_DONE},
+    {"line, duplex halves", trunk, halve, MYRKOSTI_DONE},
     {"settings, new key", trunk, set_key, MYRKOSTI_DONE},
     {"start", trunk, begin, MYRKOSTI_DONE},
 };

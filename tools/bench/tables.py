@@ -4,7 +4,7 @@ from textwrap import fill
 
 PORTS = [1, 2, 4, 8, 16, 32]
 CALLS = ["receive, repeated", "receive, moves all", "tick", "tick, all waiting", "tick, all apart", "fetch", "fetch, nothing due",
-         "port report", "aggregator report", "link falls", "duplex halves", "settings, new key", "start"]
+         "port report", "aggregator report", "line, link falls", "line, duplex halves", "settings, new key", "start"]
 GROWTH = ["receive, repeated", "receive, moves all", "tick", "fetch", "port report", "aggregator report"]
 WHERE = ["tick", "tick, all apart", "receive, repeated", "receive, moves all", "aggregator report", "start"]
 AIM_RATIO, AIM_STACK = 3, 4096
