@@ -190,7 +190,8 @@ fn hear(p: Port) -> Port {
     let mut partner = [0u8; 15];
     block(5, 0x3d).write(&mut actor);
     p.actor_block(system(9), 1).write(&mut partner);
-    settle(p.receive_lacpdu(system(9), 1, &actor, &partner))
+    let a = Block::read(&actor);
+    settle(p.receive_lacpdu(system(9), 1, a, &actor, &partner))
 }
 
 pub fn print_story() {

@@ -124,11 +124,10 @@ impl Port {
     }
 
     // CURRENT: compares before it records, so that a changed partner is seen. Our own Timeout bit sets the timer, not the partner's.
-    fn current(self, us: Block, actor: &[u8], b: Block) -> Self
-        requires { ⌜ length (now actor) ≡ 15 ⌝ }
+    fn current(self, us: Block, a: Block, actor: &[u8], b: Block) -> Self
+        requires { ⌜ (length (now actor) ≡ 15) × (a ≡ blockOf (now actor)) ⌝ }
         ensures { λ r. ⌜ r ≡ Receive·current us (blockOf (now (actor .entry))) b self ⌝ }
     {
-        let a = Block::read(actor);
         let mut p = self.update_selected(a)
             .update_ntt(us, b)
             .record_pdu(us, actor, b);
@@ -181,14 +180,21 @@ impl Port {
         self.initialize().port_disabled()
     }
 
-    // An accepted LACPDU on this port, port `number` of `system`; its two blocks are parts of the frame.
-    pub fn receive_lacpdu(self, system: SystemId, number: u16, actor: &[u8], partner: &[u8]) -> Self
-        requires { ⌜ (length (now actor) ≡ 15) × (length (now partner) ≡ 15) ⌝ }
+    // An accepted LACPDU on this port, port `number` of `system`; its two blocks are parts of the frame, and `a` is the actor's as read.
+    pub fn receive_lacpdu(
+        self,
+        system: SystemId,
+        number: u16,
+        a: Block,
+        actor: &[u8],
+        partner: &[u8],
+    ) -> Self
+        requires { ⌜ (length (now actor) ≡ 15) × (a ≡ blockOf (now actor)) × (length (now partner) ≡ 15) ⌝ }
         ensures { λ r. ⌜ r ≡ received system number (blockOf (now (actor .entry))) (blockOf (now (partner .entry))) self ⌝ }
     {
         let us = self.actor_block(system, number);
         let b = Block::read(partner);
-        self.current(us, actor, b)
+        self.current(us, a, actor, b)
     }
 
     // Link and duplex as they now are. Every change goes by way of down.

@@ -4,7 +4,8 @@ ghost use mathlib.Core.Path.{_≡_};
 ghost use mathlib.Core.Bool.{true};
 ghost use Prim.Native.Nat.{_+_, _<_, _≤_};
 ghost use lib.ListN.{length, replicate};
-ghost use Rattle.frame.specs.Wire.{response};
+ghost use Rattle.frame.specs.Block.{blockOf};
+ghost use Rattle.frame.specs.Wire.{actorPart, response};
 ghost use Rattle.table.specs.Layout.{headerOf, tableSize, mostPorts};
 ghost use Rattle.table.specs.Range.{portInRange};
 ghost use Rattle.table.specs.Table.{tableInRange, InTable, countIn, ports, portAt};
@@ -76,11 +77,9 @@ pub fn hear(table: &mut [u8], i: usize, p: Port, frame: &[u8])
     requires { ⌜ InTable (now table) i × (p ≡ portAt (now table) i) × (124 ≤ length (now frame)) ⌝ }
     ensures { λ _. ⌜ now (table .exit) ≡ afterHeard (now (table .entry)) i (now (frame .entry)) ⌝ }
 {
-    hear_at(table, i, p, frame);
-    sweep(
-        table,
-        Step::Displaced(i, Block::read(frame::wire::actor(frame))),
-    );
+    let a = Block::read(frame::wire::actor(frame));
+    hear_at(table, i, p, a, frame);
+    sweep(table, Step::Displaced(i, a));
     finish(table);
 }
 
@@ -92,9 +91,9 @@ fn number_of(i: usize) -> u16
     (i + 1) as u16
 }
 
-// Port i, whose record is p, records what an LACPDU says (CURRENT, 43.4.12).
-fn hear_at(table: &mut [u8], i: usize, p: Port, frame: &[u8])
-    requires { ⌜ InTable (now table) i × (p ≡ portAt (now table) i) × (124 ≤ length (now frame)) ⌝ }
+// Port i, whose record is p, records what an LACPDU says (CURRENT, 43.4.12); a is the actor block in it.
+fn hear_at(table: &mut [u8], i: usize, p: Port, a: Block, frame: &[u8])
+    requires { ⌜ InTable (now table) i × (p ≡ portAt (now table) i) × (a ≡ blockOf (actorPart (now frame))) × (124 ≤ length (now frame)) ⌝ }
     ensures { λ _. ⌜ Became (now (table .entry)) (now (table .exit)) i (heardAt (now (table .entry)) i (now (frame .entry))) ⌝ }
 {
     let ours = table::layout::read_header(table);
@@ -102,6 +101,7 @@ fn hear_at(table: &mut [u8], i: usize, p: Port, frame: &[u8])
     let q = p.receive_lacpdu(
         us,
         number_of(i),
+        a,
         frame::wire::actor(frame),
         frame::wire::partner(frame),
     );

@@ -11,14 +11,17 @@ use borrow.Author.Needs.{needs}
 use Rattle.work.proofs.hear.Statement.{statement}
 use Rattle.work.proofs.hear.Tie as tie
 
-hear-at-requires : tie.Need-hear-at-requires
-hear-at-requires c κs = search needs
-
 actor-requires : tie.Need-actor-requires
 actor-requires c κs = search needs
 
 read-requires : tie.Need-read-requires
 read-requires c κs = search needs
+
+hear-at-requires : tie.Need-hear-at-requires
+hear-at-requires c κs =
+    let e = (c .before .before .before .before .before .pre) in
+    let a : _≡_ {A = Block} _ _ = c .before .read .ensures ∙ ap blockOf (c .before .before .actor .ensures .0) in
+    (e .0, e .1, a, e .2)
 
 sweep-requires : tie.Need-sweep-requires
 sweep-requires c κs = search needs
@@ -33,10 +36,10 @@ returns : tie.Need-returns
 unfolding afterHeard displaced
 returns c =
     let i = (c .before .before .before .before .before .before .before .before .before .before .before .before .before .before .before .before .args .i) in
-    let first = (c .before .before .before .before .before .before .before .before .before .before .before .before .hear-at .ensures) in
+    let first = (c .before .before .before .before .before .before .before .before .before .before .hear-at .ensures) in
     let second = (c .before .before .before .before .before .before .sweep .ensures) in
     let third = (c .before .before .finish .ensures) in
-    let a : _≡_ {A = Block} _ _ = c .before .before .before .before .before .before .before .read .ensures ∙ ap blockOf (c .before .before .before .before .before .before .before .before .actor .ensures .0) in
+    let a : _≡_ {A = Block} _ _ = c .before .before .before .before .before .before .before .before .before .before .before .before .read .ensures ∙ ap blockOf (c .before .before .before .before .before .before .before .before .before .before .before .before .before .actor .ensures .0) in
     made-of
     (said (λ j. worked ((second .header ∙ first .header) j) ((second .records ∙ (λ k. displaced i (a k) (first .records k))) j))
     (then (then first second) third))
@@ -45,4 +48,4 @@ returns c =
 pub hear-spec : {M : Type 1} → statement M
 hear-spec =
     tie.close
-    (tie.spec hear-at-requires actor-requires read-requires sweep-requires finish-requires same-length returns)
+    (tie.spec actor-requires read-requires hear-at-requires sweep-requires finish-requires same-length returns)

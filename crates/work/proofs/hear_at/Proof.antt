@@ -1,6 +1,7 @@
 -- `work::hear_at` meets its contract: the record that is handed down is the port's; it goes to CURRENT, is stored, and stays in range.
 -- Assumes nothing.
 use Prim.Native.Nat.{_+_}
+use mathlib.Core.Path.{sym, ap, _∙_}
 use denote.Ref.{now}
 use Rattle.frame.specs.Block.{blockOf}
 use Rattle.frame.specs.Wire.{actorPart, partnerPart}
@@ -27,7 +28,8 @@ partner-requires : tie.Need-partner-requires
 partner-requires c κs = search needs
 
 receive-lacpdu-requires : tie.Need-receive-lacpdu-requires
-receive-lacpdu-requires c κs = search needs
+receive-lacpdu-requires c κs =
+    (c .before .actor .ensures .1, c .before .before .before .before .before .before .before .before .pre .2 ∙ ap blockOf (sym (c .before .actor .ensures .0)), c .partner .ensures .1)
 
 store-requires : tie.Need-store-requires
 store-requires c κs = lies _ _ (c .before .before .before .before .before .before .before .before .before .before .pre .0)

@@ -4,9 +4,6 @@ use borrow.Author.Needs.{needs}
 use Rattle.port.proofs.record.Port.current.Statement.{statement}
 use Rattle.port.proofs.record.Port.current.Tie as tie
 
-read-requires : tie.Need-read-requires
-read-requires c κs = search needs
-
 update-selected-requires : tie.Need-update-selected-requires
 update-selected-requires c κs = search needs
 
@@ -24,13 +21,12 @@ in-state-requires c κs = search needs
 
 returns : tie.Need-returns
 unfolding current heard
-returns c = rw (c .in-state .ensures, c .before .timeout-time .ensures, c .before .before .before .record-pdu .ensures, c .before .before .before .before .update-ntt .ensures, c .before .before .before .before .before .update-selected .ensures, c .before .before .before .before .before .before .read .ensures)
+returns c = rw (c .in-state .ensures, c .before .timeout-time .ensures, c .before .before .before .record-pdu .ensures, c .before .before .before .before .update-ntt .ensures, c .before .before .before .before .before .update-selected .ensures, c .before .before .before .before .before .before .before .pre .1)
 
 pub current-spec : {M : Type 1} → statement M
 current-spec =
     tie.close
     (tie.spec
-    read-requires
     update-selected-requires
     update-ntt-requires
     record-pdu-requires
