@@ -299,11 +299,11 @@ MUTANTS = [
         ("port/src/receive.rt", "        self.partner.state.synchronization = false;\n        self.in_state(Receive::PortDisabled, 0)",
          "        self.partner.state.collecting = false;\n        self.in_state(Receive::PortDisabled, 0)"))),
     Mutant("6 the live partner", "settings that put the default block in force", ("live-though-set",), "", (
-        ("settings/specs/Settings.antt", "changed s p = withNtt (withActor (withOwn (regrouped s p) (ownOf s)) (ownBits s (p .actor))) true",
-         "changed s p = withNtt (withActor (Rattle.port.specs.Record.withPartner (withOwn (regrouped s p) (ownOf s)) (s .default)) (ownBits s (p .actor))) true"),)),
+        ("settings/specs/Settings.antt", "configured s p = withNtt (withActor (withOwn (regrouped s p) (ownOf s)) (ownBits s (p .actor))) true",
+         "configured s p = withNtt (withActor (Rattle.port.specs.Record.withPartner (withOwn (regrouped s p) (ownOf s)) (s .default)) (ownBits s (p .actor))) true"),)),
     Mutant("6 the live partner", "a line call that takes the new duplex first, and then the link", ("live-though-dropped",), "", (
-        ("port/specs/Receive.antt", "(receiveRun (withLine (receiveRun (withLine p (down (p .line)))) l))",
-         "(receiveRun (withLine (receiveRun (withLine (receiveRun (withLine p (down (p .line)))) (record { up = p .line .up; full = l .full }))) l))"),)),
+        ("port/specs/Receive.antt", "lined l p = receiveRun (withLine (receiveRun (withLine p (down (p .line)))) l)",
+         "lined l p = receiveRun (withLine (receiveRun (withLine (receiveRun (withLine p (down (p .line)))) (record { up = p .line .up; full = l .full }))) l)"),)),
     Mutant("7 reports", "COLLECTING counted as distributing", ("narrowed-true",), "report::stands_to", (
         ("report/specs/Sets.antt", "stands Distributes k p = eqb (p .aggregator) k && distributes (p .phase .mux)",
          "stands Distributes k p = eqb (p .aggregator) k && Rattle.machine.specs.Mux.collects (p .phase .mux)"),
@@ -355,7 +355,7 @@ MUTANTS = [
         ("machine/specs/Time.antt", "shortTimeoutTime = 30", "shortTimeoutTime = 29"), ("machine/src/receive.rt", "SHORT_TIMEOUT_TIME: u16 = 30", "SHORT_TIMEOUT_TIME: u16 = 29"))),
     Mutant("case the line changes", "a change on an up port that does not act as down, then up", ("from-up-full", "from-up-half"), "port::record::Port::set_line", (
         ("port/specs/Receive.antt", "down l = record { up = false; full = l .full }", "down l = record { up = l .up; full = l .full }"),
-        ("port/src/receive.rt", "        self.line.up = false;", "        self.line.up = old.up;"))),
+        ("port/src/receive.rt", "        self.line.up = false;", "        let old = self.line;\n        self.line.up = old.up;"))),
     Mutant("case 123, 124, 125", "124 octets refused", ("octets-124",), "frame::class::is_illegal", (
         ("frame/specs/Class.antt", "short l = ltb (length l) 124", "short l = ltb (length l) 125"),
         ("frame/src/class.rt", "    if s.len() < 124 {", "    if s.len() < 125 {"))),

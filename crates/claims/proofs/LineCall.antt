@@ -21,7 +21,7 @@ use Rattle.port.specs.Record.{withLine, withNtt, withActor, withOwn, actorBlock
 use Rattle.port.specs.Receive.{recordDefault, unselected, initialized, portDisabled, current, receiveRun, moved, received, down, lined}
 use Rattle.port.specs.Transmit.{due, sent, silent, quieted, ticked}
 use Rattle.settings.specs.declared.Settings.{Settings}
-use Rattle.settings.specs.Settings.{ownOf, ownBits, sameGrouping, sameSettings, regrouped, changed, configured}
+use Rattle.settings.specs.Settings.{ownOf, ownBits, sameGrouping, sameSettings, regrouped, configured}
 use Rattle.table.specs.Layout.{within}
 use Rattle.table.specs.Range.{ownFits}
 use Rattle.table.specs.Record.{decoded}
@@ -100,28 +100,22 @@ half-silent t m n e f = sound-silent t (never-stuck t m) n e f
 
 -- ---- what each call does to one record's line before settling
 
-lined-line : (l : Line) (p : Port) → sameLine l (p .line) ≡ false → lined l p .line ≡ l
+lined-line : (l : Line) (p : Port) → lined l p .line ≡ l
 unfolding lined
-lined-line l p e =
-    let q = withLine (receiveRun (withLine p (down (p .line)))) l in
-    ap (λ (b : Bool). cond b p (receiveRun q) .line) e ∙ run-line q
+lined-line l p = run-line (withLine (receiveRun (withLine p (down (p .line)))) l)
 
 advanced-line : (p : Port) → advanced p .line ≡ p .line
 unfolding advanced
 advanced-line p = run-line (ticked p) ∙ unfold ticked in refl
 
-changed-line : (b : Bool) (x : Settings) (p : Port)
+regrouped-line : (b : Bool) (x : Settings) (p : Port)
     → withNtt (withActor (withOwn (cond b p (unselected p)) (ownOf x)) (ownBits x (p .actor))) true .line ≡ p .line
-changed-line true x p = refl
-changed-line false x p = refl
+regrouped-line true x p = refl
+regrouped-line false x p = refl
 
 configured-line : (x : Settings) (p : Port) → configured x p .line ≡ p .line
-unfolding configured changed regrouped
-configured-line x p = by (sameSettings x p)
-  where
-    by : (b : Bool) → cond b p (changed x p) .line ≡ p .line
-    by true = refl
-    by false = changed-line (sameGrouping x p) x p
+unfolding configured regrouped
+configured-line x p = regrouped-line (sameGrouping x p) x p
 
 sent-line : (p : Port) → sent p .line ≡ p .line
 unfolding sent
@@ -166,7 +160,7 @@ module _ (t : List ℕ) (s : Sound t) (i : ℕ) (h : i < countIn t) where
       by true e = sym (line-true l (portAt t i .line) e)
       by false e =
           work-line (set (ports t) i q) (line-before t s i h l)
-          ∙ set-view (λ p. p .line) t s i h i q l (λ is. lined-line l (portAt t i) e) (λ other. absurd (true≢false (sym (eq-eqb i i refl) ∙ other)))
+          ∙ set-view (λ p. p .line) t s i h i q l (λ is. lined-line l (portAt t i)) (λ other. absurd (true≢false (sym (eq-eqb i i refl) ∙ other)))
 
   other-line : (m : ℕ) → m < countIn t → (l : Line) → eqb i m ≡ false → portAt (afterLine t m l) i .line ≡ portAt t i .line
   unfolding afterLine afterOne

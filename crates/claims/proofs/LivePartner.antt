@@ -27,7 +27,7 @@ use Rattle.port.specs.Receive.{recordPdu, unselected, portDisabled, expired, he
 use Rattle.port.specs.Receive.{receiveChoice, receiveStep, receiveRun, received, down, lined}
 use Rattle.port.specs.Transmit.{sent, due, ticked}
 use Rattle.settings.specs.declared.Settings.{Settings}
-use Rattle.settings.specs.Settings.{ownOf, ownBits, sameGrouping, sameSettings, regrouped, changed, configured}
+use Rattle.settings.specs.Settings.{ownOf, ownBits, sameGrouping, sameSettings, regrouped, configured}
 use Rattle.table.specs.Record.{decoded}
 use Rattle.table.specs.Range.{ownFits}
 use Rattle.table.specs.Table.{countIn, portAt, ports}
@@ -233,31 +233,22 @@ rise-lasting p l false full u f e h = still-lasting (withLine p l) (rise-chooses
 rise-lasting p l true true u f e h = run-lasting (withLine p l) u (expires (rise-chooses p l e ∙ rw (u, f)))
 rise-lasting p l true false u f e h = absurd (true≢false h)
 
-lined-lasting : (p : Port) → Standing p → (l : Line) → toHalf (p .line) l ≡ false → lastingOf (lined l p) ≡ lastingOf p
+lined-lasting : (p : Port) → Standing p → (l : Line) → l .up && not (l .full) ≡ false → lastingOf (lined l p) ≡ lastingOf p
 unfolding lined
-lined-lasting p s l h = by (sameLine l (p .line)) h
-  where
-    fell : Port
-    fell = receiveRun (withLine p (down (p .line)))
-
-    by : (b : Bool) → not b && (l .up && not (l .full)) ≡ false → lastingOf (cond b p (receiveRun (withLine fell l))) ≡ lastingOf p
-    by true e = refl
-    by false e = rise-lasting fell l (l .up) (l .full) refl refl (lined-falls p s) e ∙ fall-lasting p (s .receive)
+lined-lasting p s l h =
+    let fell = receiveRun (withLine p (down (p .line))) in
+    rise-lasting fell l (l .up) (l .full) refl refl (lined-falls p s) h ∙ fall-lasting p (s .receive)
 
 -- ---- settings, a send, and the frame itself
 
-changed-as : (b : Bool) (x : Settings) (p : Port)
+configured-as : (b : Bool) (x : Settings) (p : Port)
     → lastingOf (withNtt (withActor (withOwn (cond b p (unselected p)) (ownOf x)) (ownBits x (p .actor))) true) ≡ lastingOf p
-changed-as true x p = refl
-changed-as false x p = refl
+configured-as true x p = refl
+configured-as false x p = refl
 
 configured-lasting : (x : Settings) (p : Port) → lastingOf (configured x p) ≡ lastingOf p
-unfolding configured changed regrouped
-configured-lasting x p = by (sameSettings x p)
-  where
-    by : (b : Bool) → lastingOf (cond b p (changed x p)) ≡ lastingOf p
-    by true = refl
-    by false = changed-as (sameGrouping x p) x p
+unfolding configured regrouped
+configured-lasting x p = configured-as (sameGrouping x p) x p
 
 sent-lasting : (p : Port) → lastingOf (sent p) ≡ lastingOf p
 unfolding sent
@@ -295,14 +286,15 @@ module _ (t : List ℕ) (s : Sound t) (i : ℕ) (h : i < countIn t) where
 
   line-goes : (m : ℕ) → m < countIn t → (l : Line) → (eqb i m ≡ true → toHalf (portAt t m .line) l ≡ false) → Goes t (afterLine t m l) i
   unfolding afterLine afterOne
-  line-goes m g l f = by (sameLine l (portAt t m .line))
+  line-goes m g l f = by (sameLine l (portAt t m .line)) f
     where
-      by : (b : Bool) → Goes t (cond b t (again t (worked (ours t) (set (ports t) m (lined l (portAt t m)))))) i
-      by true = unchanged t i
-      by false =
+      by : (b : Bool) → (eqb i m ≡ true → not b && (l .up && not (l .full)) ≡ false)
+          → Goes t (cond b t (again t (worked (ours t) (set (ports t) m (lined l (portAt t m)))))) i
+      by true k = unchanged t i
+      by false k =
           work-goes (set (ports t) m (lined l (portAt t m))) (line-before t s m g l)
           (set-lasting m (lined l (portAt t m)) (λ e.
-          lined-lasting (portAt t m) (port-standing t s m g) l (f e) ∙ ap (λ (x : Port). lastingOf x) (at-same m e)))
+          lined-lasting (portAt t m) (port-standing t s m g) l (k e) ∙ ap (λ (x : Port). lastingOf x) (at-same m e)))
 
   settings-goes : (m : ℕ) → m < countIn t → (x : Settings) → ownFits (ownOf x) ≡ true → Goes t (afterSettings t m x) i
   unfolding afterSettings afterOne

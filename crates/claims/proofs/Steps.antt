@@ -19,7 +19,6 @@ use Rattle.machine.specs.declared.receive.ReceiveStep.the-variants.{Stay, Enter
 use Rattle.machine.specs.Ages.{agesTicked}
 use Rattle.machine.specs.Compare.{sameParty, sameView}
 use Rattle.machine.specs.Receive.{receiveNext}
-use Rattle.machine.specs.States.{sameLine}
 use Rattle.machine.specs.Time.{slowPeriodicTime, ranOut, timeoutTime}
 use Rattle.port.specs.declared.record.Port.{Port}
 use Rattle.port.specs.Record.{withLine, withNtt, withActor, withOwn, actorBlock}
@@ -29,7 +28,7 @@ use Rattle.port.specs.Timing.{Timed, usesPace, CurrentTimed}
 use Rattle.port.specs.Transmit.{sent, ticked}
 use Rattle.port.proofs.TimerLaws.{disabled-timed, expired-timed, off-timed, defaulted-timed, current-timed, ticked-timed}
 use Rattle.settings.specs.declared.Settings.{Settings}
-use Rattle.settings.specs.Settings.{ownOf, ownBits, sameGrouping, sameSettings, regrouped, changed, configured, blank, started}
+use Rattle.settings.specs.Settings.{ownOf, ownBits, sameGrouping, regrouped, configured, blank, started}
 use Rattle.trunk.specs.Advanced.{advanced}
 use Rattle.trunk.specs.Displaced.{isDisabled}
 use Rattle.claims.specs.AtRest.{goesWith, Resting}
@@ -376,36 +375,24 @@ module _ (p : Port) (s : Standing p) where
 
   pub lined-standing : (l : Line) → Standing (lined l p)
   unfolding lined fell
-  lined-standing l = by (sameLine l (p .line))
-    where
-      by : (b : Bool) → Standing (cond b p (receiveRun (withLine fell l)))
-      by true = s
-      by false = rises l
+  lined-standing l = rises l
 
 -- ---- settings
 
-changed-aside : (b : Bool) (s : Settings) (p : Port) → aside (withNtt (withActor (withOwn (cond b p (unselected p)) (ownOf s)) (ownBits s (p .actor))) true) ≡ aside p
-changed-aside true s p = refl
-changed-aside false s p = refl
+configured-aside : (b : Bool) (s : Settings) (p : Port) → aside (withNtt (withActor (withOwn (cond b p (unselected p)) (ownOf s)) (ownBits s (p .actor))) true) ≡ aside p
+configured-aside true s p = refl
+configured-aside false s p = refl
 
-changed-receive : (b : Bool) (s : Settings) (p : Port)
+configured-receive : (b : Bool) (s : Settings) (p : Port)
     → receivePart (withNtt (withActor (withOwn (cond b p (unselected p)) (ownOf s)) (ownBits s (p .actor))) true) ≡ receivePart p
-changed-receive true s p = refl
-changed-receive false s p = refl
-
-changed-standing : (s : Settings) (p : Port) → Standing p → Standing (changed s p)
-unfolding changed regrouped
-changed-standing s p h =
-    aside-standing p (changed s p) (changed-aside (sameGrouping s p) s p) h
-    (subst ReceiveRests (sym (changed-receive (sameGrouping s p) s p)) (h .receive))
+configured-receive true s p = refl
+configured-receive false s p = refl
 
 pub configured-standing : (s : Settings) (p : Port) → Standing p → Standing (configured s p)
-unfolding configured
-configured-standing s p h = by (sameSettings s p)
-  where
-    by : (b : Bool) → Standing (cond b p (changed s p))
-    by true = h
-    by false = changed-standing s p h
+unfolding configured regrouped
+configured-standing s p h =
+    aside-standing p (configured s p) (configured-aside (sameGrouping s p) s p) h
+    (subst ReceiveRests (sym (configured-receive (sameGrouping s p) s p)) (h .receive))
 
 -- ---- a send
 
@@ -461,21 +448,10 @@ moved-ages p = aside-ages p (moved p) (moved-aside p)
 
 pub lined-ages : (l : Line) (p : Port) → lined l p .ages ≡ p .ages
 unfolding lined
-lined-ages l p = by (sameLine l (p .line))
-  where
-    low : Port
-    low = receiveRun (withLine p (down (p .line)))
-
-    by : (b : Bool) → cond b p (receiveRun (withLine low l)) .ages ≡ p .ages
-    by true = refl
-    by false =
-        aside-ages low (receiveRun (withLine low l)) (run-aside (withLine low l))
-        ∙ aside-ages p low (run-aside (withLine p (down (p .line))))
+lined-ages l p =
+    let low = receiveRun (withLine p (down (p .line))) in
+    aside-ages low (receiveRun (withLine low l)) (run-aside (withLine low l)) ∙ aside-ages p low (run-aside (withLine p (down (p .line))))
 
 pub configured-ages : (s : Settings) (p : Port) → configured s p .ages ≡ p .ages
-unfolding configured changed regrouped
-configured-ages s p = by (sameSettings s p)
-  where
-    by : (b : Bool) → cond b p (changed s p) .ages ≡ p .ages
-    by true = refl
-    by false = aside-ages p (changed s p) (changed-aside (sameGrouping s p) s p)
+unfolding configured regrouped
+configured-ages s p = aside-ages p (configured s p) (configured-aside (sameGrouping s p) s p)

@@ -11,7 +11,6 @@ use Rattle.machine.specs.declared.states.Receive.the-variants.{Initialize, Port
 use Rattle.machine.specs.declared.states.Line.{Line}
 use Rattle.machine.specs.declared.receive.ReceiveStep.{ReceiveStep}
 use Rattle.machine.specs.declared.receive.ReceiveStep.the-variants as receive
-use Rattle.machine.specs.States.{sameLine}
 use Rattle.machine.specs.declared.states.Periodic.{Periodic}
 use Rattle.machine.specs.declared.states.Periodic.the-variants.{NoPeriodic, FastPeriodic, SlowPeriodic, PeriodicTx}
 use Rattle.machine.specs.declared.states.Mux.{Mux}
@@ -130,15 +129,11 @@ pub moved-timed : (p : Port) → CurrentTimed (moved p)
 unfolding moved
 moved-timed p = disabled-timed (initialized p)
 
-if-timed : (b : Bool) (p q : Port) → CurrentTimed p → CurrentTimed q → CurrentTimed (cond b p q)
-if-timed true p q h k = h
-if-timed false p q h k = k
-
 pub lined-timed : (l : Line) (p : Port) → CurrentTimed p → CurrentTimed (lined l p)
 unfolding lined
 lined-timed l p h =
     let q = receiveRun (withLine p (down (p .line))) in
-    if-timed (sameLine l (p .line)) p (receiveRun (withLine q l)) h (receive-run-timed (withLine q l) (receive-run-timed (withLine p (down (p .line))) h))
+    receive-run-timed (withLine q l) (receive-run-timed (withLine p (down (p .line))) h)
 
 -- ---- a tick
 

@@ -12,7 +12,6 @@ use Rattle.port.specs.declared.record.Port.{Port}
 use Rattle.machine.specs.declared.receive.ReceiveStep.{ReceiveStep}
 use Rattle.machine.specs.declared.receive.ReceiveStep.the-variants.{Stay, Enter}
 use Rattle.machine.specs.Receive.{receiveNext}
-use Rattle.machine.specs.States.{sameLine}
 use Rattle.port.specs.Record.{withReceive, withSelected, withCurrent, withNtt, withActor, withPartner, withLine, actorBlock}
 use Rattle.machine.specs.Bits.{withTimeout, withAggregation, withSynchronization, withDefaulted, withExpired, alike}
 use Rattle.machine.specs.Compare.{sameParty, sameView, inSync}
@@ -113,10 +112,9 @@ moved p = portDisabled (initialized p)
 unfoldable pub received : SystemId → ℕ → Block → Block → Port → Port
 received system number a b p = current (actorBlock system number p) a b p
 
--- another line (R8): the one that is there changes nothing, and every other is reached by way of down, which is what R8.3 asks of an
--- up port
+-- another line (R8): every one is reached by way of down, which is what R8.3 asks of an up port
 abbrev pub down : Line → Line
 down l = record { up = false; full = l .full }
 
 unfoldable pub lined : Line → Port → Port
-lined l p = cond (sameLine l (p .line)) p (receiveRun (withLine (receiveRun (withLine p (down (p .line)))) l))
+lined l p = receiveRun (withLine (receiveRun (withLine p (down (p .line)))) l)

@@ -197,14 +197,10 @@ impl Port {
         self.current(us, a, actor, b)
     }
 
-    // Link and duplex as they now are. Every change goes by way of down.
+    // Another link and duplex. Every change goes by way of down.
     pub fn set_line(mut self, line: Line) -> Self
         ensures { λ r. ⌜ r ≡ lined line self ⌝ }
     {
-        let old = self.line;
-        if line.same(old) {
-            return self;
-        }
         self.line.up = false;
         let mut p = self.receive();
         p.line = line;

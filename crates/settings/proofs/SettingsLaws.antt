@@ -14,7 +14,7 @@ use Rattle.port.specs.declared.record.Port.{Port}
 use Rattle.port.specs.Compared.{Compared, compared}
 use Rattle.port.specs.Receive.{unselected}
 use Rattle.settings.specs.declared.Settings.{Settings}
-use Rattle.settings.specs.Settings.{sameGrouping, sameSettings, regrouped, changed, configured}
+use Rattle.settings.specs.Settings.{sameGrouping, regrouped, configured}
 
 apart : {A : Type 0} → Unselected ≡ Selected → A
 apart e = let z : _≡_ {A = ℕ} 0 1 = cc in absurd (omega arith)
@@ -40,9 +40,9 @@ same-rule s p e =
       partnerAggregation = p .partner .state .aggregation;
     }
 
-pub changed-unselects : (s : Settings) (p : Port) → changed s p .phase .selected ≡ Selected → compared (changed s p) ≡ compared p
-unfolding changed regrouped
-changed-unselects s p h = go (sameGrouping s p) refl h
+pub configured-unselects : (s : Settings) (p : Port) → configured s p .phase .selected ≡ Selected → compared (configured s p) ≡ compared p
+unfolding configured regrouped
+configured-unselects s p h = go (sameGrouping s p) refl h
   where
     go : (b : Bool) → sameGrouping s p ≡ b → cond b p (unselected p) .phase .selected ≡ Selected
         → _≡_ {A = Compared} (record {
@@ -60,14 +60,6 @@ if-partner true p = refl
 if-partner false p = refl
 
 -- R12.4: no settings touch the partner block in force
-pub changed-partner : (s : Settings) (p : Port) → changed s p .partner ≡ p .partner
-unfolding changed regrouped
-changed-partner s p = if-partner (sameGrouping s p) p
-
-if-unselects : (b : Bool) (s : Settings) (p : Port) → cond b p (changed s p) .phase .selected ≡ Selected → compared (cond b p (changed s p)) ≡ compared p
-if-unselects true s p h = refl
-if-unselects false s p h = changed-unselects s p h
-
-pub configured-unselects : (s : Settings) (p : Port) → configured s p .phase .selected ≡ Selected → compared (configured s p) ≡ compared p
-unfolding configured
-configured-unselects s p h = if-unselects (sameSettings s p) s p h
+pub configured-partner : (s : Settings) (p : Port) → configured s p .partner ≡ p .partner
+unfolding configured regrouped
+configured-partner s p = if-partner (sameGrouping s p) p

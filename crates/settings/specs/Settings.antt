@@ -40,11 +40,8 @@ unfoldable pub regrouped : Settings → Port → Port
 regrouped s p = cond (sameGrouping s p) p (unselected p)
 
 -- other settings (R12.2, R12.3)
-unfoldable pub changed : Settings → Port → Port
-changed s p = withNtt (withActor (withOwn (regrouped s p) (ownOf s)) (ownBits s (p .actor))) true
-
 unfoldable pub configured : Settings → Port → Port
-configured s p = cond (sameSettings s p) p (changed s p)
+configured s p = withNtt (withActor (withOwn (regrouped s p) (ownOf s)) (ownBits s (p .actor))) true
 
 -- the test of answer 4 (R2.4)
 unfoldable pub lawful : Settings → Bool

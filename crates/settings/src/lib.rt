@@ -1,6 +1,6 @@
 // A port's settings: one set at start, with which every port begins, and changed by a call.
 ghost use mathlib.Core.Path.{_≡_};
-ghost use Rattle.settings.specs.Settings.{regrouped, sameGrouping, sameSettings, changed, configured, lawful, blank, started, ownOf, ownBits};
+ghost use Rattle.settings.specs.Settings.{regrouped, sameGrouping, sameSettings, configured, lawful, blank, started, ownOf, ownBits};
 use frame::block::Address;
 use frame::block::Block;
 use frame::state::PortState;
@@ -148,8 +148,9 @@ impl Settings {
         p.with_selected(Selection::Unselected)
     }
 
-    fn change(self, p: Port) -> Port
-        ensures { λ r. ⌜ r ≡ changed self p ⌝ }
+    // The port with these settings, which are other ones. The partner in force stays as it is (R12.4).
+    pub fn configure(self, p: Port) -> Port
+        ensures { λ r. ⌜ r ≡ configured self p ⌝ }
     {
         let old = p.actor;
         let actor = self.bits(old);
@@ -159,15 +160,5 @@ impl Settings {
         q.own = own;
         q.ntt = true;
         q
-    }
-
-    // The port with these settings, or as it is where it has them. The partner in force stays as it is (R12.4).
-    pub fn configure(self, p: Port) -> Port
-        ensures { λ r. ⌜ r ≡ configured self p ⌝ }
-    {
-        if self.is_held(p) {
-            return p;
-        }
-        self.change(p)
     }
 }

@@ -16,7 +16,6 @@ use Rattle.machine.specs.declared.states.Line.{Line}
 use Rattle.machine.specs.declared.states.Ages.{Ages}
 use Rattle.machine.specs.Ages.{noSend, ages, sentAges}
 use Rattle.machine.specs.Compare.{sameParty, sameView}
-use Rattle.machine.specs.States.{sameLine}
 use Rattle.machine.specs.Time.{longTimeoutTime, timeoutTime}
 use Rattle.port.specs.declared.record.Port.{Port}
 use Rattle.port.specs.Record.{withLine, withNtt, actorBlock}
@@ -24,7 +23,7 @@ use Rattle.port.specs.Receive.{down, recordPdu, updateSelected, updateNtt, unse
 use Rattle.port.specs.Receive.{recordDefault, initialized, portDisabled}
 use Rattle.port.specs.Transmit.{sent}
 use Rattle.settings.specs.declared.Settings.{Settings}
-use Rattle.settings.specs.Settings.{ownOf, sameGrouping, sameSettings, regrouped, changed, configured, blank, started}
+use Rattle.settings.specs.Settings.{ownOf, sameGrouping, regrouped, configured, blank, started}
 use Rattle.table.specs.Range.{timersInRange, ageInRange, agesInRange, blockFits, ownFits, portInRange}
 use Rattle.table.proofs.OctetLaws.{take-octets, drop-octets}
 use Rattle.table.proofs.RangeLaws.{both, joined, ranged, ranged-is, within-is, block-fits}
@@ -92,40 +91,23 @@ module _ (count : ℕ) where
 
   pub lined-ranged : (l : Line) (p : Port) → portInRange count p ≡ true → portInRange count (lined l p) ≡ true
   unfolding lined
-  lined-ranged l p e = by (sameLine l (p .line))
-    where
-      fell : Port
-      fell = receiveRun (withLine p (down (p .line)))
-
-      by : (b : Bool) → portInRange count (cond b p (receiveRun (withLine fell l))) ≡ true
-      by true = e
-      by false = receive-ranged count (withLine fell l) (line-ranged l fell (receive-ranged count (withLine p (down (p .line))) (line-ranged (down (p .line)) p e)))
+  lined-ranged l p e =
+      let fell = receiveRun (withLine p (down (p .line))) in
+      receive-ranged count (withLine fell l) (line-ranged l fell (receive-ranged count (withLine p (down (p .line))) (line-ranged (down (p .line)) p e)))
 
   -- ---- settings
 
-  changed-ranged : (s : Settings) (p : Port) → ownFits (ownOf s) ≡ true → portInRange count p ≡ true → portInRange count (changed s p) ≡ true
-  unfolding changed regrouped
-  changed-ranged s p h e =
-      let r = ranged count (cond (sameGrouping s p) p (unselected p)) (if-unselected (sameGrouping s p) p e) in
-      ranged-is count (changed s p) (record { aggregator = r .aggregator; timers = r .timers; ages = r .ages; own = h; partner = r .partner })
-
   pub configured-ranged : (s : Settings) (p : Port) → ownFits (ownOf s) ≡ true → portInRange count p ≡ true → portInRange count (configured s p) ≡ true
-  unfolding configured
-  configured-ranged s p h e = by (sameSettings s p)
-    where
-      by : (b : Bool) → portInRange count (cond b p (changed s p)) ≡ true
-      by true = e
-      by false = changed-ranged s p h e
+  unfolding configured regrouped
+  configured-ranged s p h e =
+      let r = ranged count (cond (sameGrouping s p) p (unselected p)) (if-unselected (sameGrouping s p) p e) in
+      ranged-is count (configured s p) (record { aggregator = r .aggregator; timers = r .timers; ages = r .ages; own = h; partner = r .partner })
 
   -- the same from what the record then holds
   pub configured-typed : (s : Settings) (p : Port) → ownFits (configured s p .own) ≡ true → portInRange count p ≡ true
       → portInRange count (configured s p) ≡ true
-  unfolding configured changed
-  configured-typed s p h e = by (sameSettings s p) h
-    where
-      by : (b : Bool) → ownFits (cond b p (changed s p) .own) ≡ true → portInRange count (cond b p (changed s p)) ≡ true
-      by true k = e
-      by false k = changed-ranged s p k e
+  unfolding configured
+  configured-typed s p h e = configured-ranged s p h e
 
   pub sent-ranged : (p : Port) → portInRange count p ≡ true → portInRange count (sent p) ≡ true
   unfolding sent
