@@ -7,6 +7,7 @@ use mathlib.Core.List.{List, [], _∷_, _++_}
 use native.Mathlib.Omega.{arith}
 use lib.ListN.{length}
 use lib.Dec.{eqb, ltb}
+use Rattle.octets.specs.Octets.{Octets}
 use Rattle.frame.specs.declared.class.Class.{Class}
 use Rattle.frame.specs.declared.class.Class.the-variants as class
 use Rattle.frame.specs.Class.{classOf}
@@ -30,7 +31,7 @@ use Rattle.control.specs.declared.answer.Reason.the-variants as reason
 use Rattle.control.specs.Answer.{isNumber, onPort, withRoom, withDefault, frameAnswer, dueAnswer}
 use Rattle.control.specs.Call.{Call, start, receive, tick, line, configure, fetch, report, aggregator}
 use Rattle.control.specs.After.{answer, afterFrame, changedBy, unless, after, outgoing, bufferOf, writtenBy}
-use Rattle.claims.specs.Run.{isLacpdu, Octets, Takes, AllTake, accepted, run, Made}
+use Rattle.claims.specs.Run.{isLacpdu, Takes, AllTake, accepted, run, Made}
 use Rattle.claims.specs.AtRest.{Sound}
 use Rattle.claims.specs.Claims.{isStart, NeverStuck, NoAnswerOne, RefusalsSilent}
 use Rattle.claims.proofs.Sound.{send-sound, line-sound, settings-sound, heard-sound, tick-sound, start-sound}

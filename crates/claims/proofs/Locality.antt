@@ -9,6 +9,7 @@ use lib.ListN.{length, getD, set, length-map, length-set}
 use lib.Seq.{getD-set-other}
 use lib.Dec.{eqb}
 use borrow.Author.Tests.{eqb-false}
+use Rattle.octets.specs.Octets.{Octets}
 use Rattle.frame.specs.declared.block.Block.{Block}
 use Rattle.frame.specs.Block.{blockOf}
 use Rattle.frame.specs.Wire.{actorPart}
@@ -39,7 +40,7 @@ use Rattle.control.specs.declared.answer.Answer.the-variants.{Done, Lacpdu, Mar
 use Rattle.control.specs.Answer.{withRoom, withDefault, dueAnswer}
 use Rattle.control.specs.Call.{Call, start, receive, tick, line, configure, fetch, report, aggregator}
 use Rattle.control.specs.After.{answer, afterFrame, changedBy, unless, after}
-use Rattle.claims.specs.Run.{Octets, Takes, accepted, isLacpdu}
+use Rattle.claims.specs.Run.{Takes, accepted, isLacpdu}
 use Rattle.claims.specs.AtRest.{Sound}
 use Rattle.claims.specs.Locality.{touches, Apart, Locality}
 use Rattle.claims.proofs.Sound.{Before, in-ports, port-resting, work-ports, line-before, settings-before, heard-before, send-ports}

@@ -7,6 +7,7 @@ use mathlib.Core.List.{List, [], map}
 use native.Mathlib.Omega.{arith}
 use lib.ListN.{length, getD, set, replicate, length-map, length-set, length-replicate}
 use lib.Dec.{eqb}
+use Rattle.octets.specs.Octets.{Octets}
 use Rattle.frame.specs.declared.block.Block.{Block}
 use Rattle.frame.specs.Block.{blockOf}
 use Rattle.frame.specs.Wire.{actorPart, partnerPart}
@@ -37,7 +38,6 @@ use Rattle.trunk.proofs.RangeKept.{reselected-ranged, attached-ranged, climbed-
 use Rattle.trunk.proofs.AdvanceRange.{ticked-ranged, periodic-ranged, receive-ranged}
 use Rattle.work.specs.Work.{ours, again, worked, afterOne, afterStart, heardAt, afterHeard, afterTick, afterLine, afterSettings, afterSend}
 use Rattle.work.proofs.RangeWork.{part-fits, received-ranged, lined-ranged, configured-ranged, sent-ranged, started-ranged}
-use Rattle.claims.specs.Run.{Octets}
 use Rattle.claims.specs.AtRest.{Resting, AtRest, Sound}
 use Rattle.claims.proofs.Lists.{Each, each-map, each-sweep, each-set, each-alike, each-settled}
 use Rattle.claims.proofs.Parts.{Standing, standing, periodic-standing, reselected-resting, attached-resting, climbed-resting}

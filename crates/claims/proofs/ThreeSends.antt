@@ -10,6 +10,7 @@ use native.Mathlib.Nat.{zero-add}
 use lib.Seq.{getD-append-seam}
 use lib.Dec.{eqb, ltb, leb}
 use borrow.Author.Tests.{eqb-true, eqb-false, eq-eqb, leb-true, leb-false, le-ltb}
+use Rattle.octets.specs.Octets.{Octets}
 use Rattle.frame.specs.declared.block.Block.{Block}
 use Rattle.frame.specs.declared.block.SystemId.{SystemId}
 use Rattle.frame.specs.declared.wire.TensOfMicroseconds.{TensOfMicroseconds}
@@ -44,7 +45,7 @@ use Rattle.control.specs.declared.answer.Reason.the-variants as reason
 use Rattle.control.specs.Answer.{answerNumber, isNumber, withRoom, withDefault, dueAnswer}
 use Rattle.control.specs.Call.{Call, start, receive, tick, line, configure, fetch, report, aggregator}
 use Rattle.control.specs.After.{answer, afterFrame, changedBy, unless, after}
-use Rattle.claims.specs.Run.{Octets, Takes, AllTake, accepted, run, Made}
+use Rattle.claims.specs.Run.{Takes, AllTake, accepted, run, Made}
 use Rattle.claims.specs.AtRest.{Sound}
 use Rattle.claims.specs.ThreeSends.{sendsBy, sends, sendsOf, recent, ThreeSends, ticksIn, NoneStarts, FourSendsApart}
 use Rattle.claims.proofs.Lists.{each-alike}

@@ -19,7 +19,7 @@ use Rattle.trunk.specs.Selection.{individual, sameKeys, sameGroup, joins, share
 use Rattle.trunk.specs.Ready.{waitsFor, hasWaiting, holdsBack, heldBack, ready}
 use Rattle.trunk.specs.Settled.{mapFrom, mustMove, reselected, selectedAll, attachedAll, climbed, settled}
 use Rattle.trunk.specs.Displaced.{isDisplaced, displacedIf, displaced}
-use Rattle.octets.specs.Octets.{sameOctets}
+use Rattle.octets.specs.Octets.{Octets, sameOctets}
 use Rattle.frame.specs.Class.{foreign, unknown, wrongLength, wrongMarkerType, illegal, classOf}
 use Rattle.frame.specs.Wire.{zeros}
 use Rattle.report.specs.Sets.{stands, setOf, setsOf}
@@ -31,7 +31,7 @@ use Rattle.control.specs.Answer.{found}
 use Rattle.control.specs.After.{answer, changedBy, after, writtenBy, outgoing}
 use Rattle.control.specs.Report.{portReport, aggregatorReport}
 use Rattle.control.specs.Call.{Call}
-use Rattle.claims.specs.Run.{Octets, Takes, AllTake, run}
+use Rattle.claims.specs.Run.{Takes, AllTake, run}
 use Rattle.claims.specs.ThreeSends.{sends}
 use Rattle.claims.specs.Speakers.{system, noDelay, settings}
 use Rattle.claims.specs.Witness.{Witness, said, hears, memory, ticks, later, calls, tables, begun, trunk, parted, narrowed, fallen, halved, dropped, rekeyed, silent, every, fourth}

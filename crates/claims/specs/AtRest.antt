@@ -5,6 +5,7 @@ use mathlib.Core.Path.{_≡_}
 use mathlib.Core.Bool.{Bool, true, false, not, _&&_}
 use mathlib.Core.List.{List}
 use lib.ListN.{length, getD}
+use Rattle.octets.specs.Octets.{Octets}
 use Rattle.machine.specs.declared.states.Line.{Line}
 use Rattle.machine.specs.declared.states.Receive.{Receive}
 use Rattle.machine.specs.declared.states.Receive.the-variants.{Initialize, PortDisabled, Expired, LacpDisabled, Defaulted, Current}
@@ -18,7 +19,6 @@ use Rattle.table.specs.declared.layout.Header.{Header}
 use Rattle.table.specs.Layout.{headerOf}
 use Rattle.table.specs.Table.{tableInRange, ports}
 use Rattle.trunk.specs.Settled.{settled}
-use Rattle.claims.specs.Run.{Octets}
 
 -- PORT_DISABLED exactly if the link is down, LACP_DISABLED exactly if it is up at half duplex, and never INITIALIZE
 abbrev pub goesWith : Line → Receive → Bool

@@ -1,9 +1,14 @@
--- What the contracts of `octets` cite: octets written over others, equal octets, and two-octet numbers, high octet first. Assumes nothing.
-use Prim.Native.Nat.{ℕ, _+_, _*_, _/_, _%_}
+-- What the contracts of `octets` cite: lists of octets, octets written over others, equal octets, and two-octet numbers, high octet first.
+-- Assumes nothing.
+use Prim.Native.Nat.{ℕ, _+_, _*_, _/_, _%_, _<_}
 use mathlib.Core.Bool.{Bool, true, false, _&&_}
 use mathlib.Core.List.{List, [], _∷_, _++_}
 use lib.ListN.{length, take, drop, getD}
 use lib.Dec.{eqb}
+
+-- every element is an octet
+abbrev pub Octets : List ℕ → Type 0
+Octets l = (i : ℕ) → getD l i 0 < 256
 
 -- d with s written over it from index `at` on
 unfoldable pub putAt : ℕ → List ℕ → List ℕ → List ℕ

@@ -1,4 +1,3 @@
-pub mod OctetLaws
 pub mod CodeLaws
 pub mod RangeLaws
 pub mod RecordLaws

@@ -8,12 +8,13 @@ use native.Mathlib.Omega.{arith}
 use lib.ListN.{getD}
 use lib.Dec.{leb, ltb, eqb}
 use borrow.Author.Tests.{leb-true, le-leb, ltb-true, lt-ltb, eqb-true}
-use Rattle.octets.specs.Octets.{high, low, numberAt, numberOctets}
+use Rattle.octets.specs.Octets.{Octets, high, low, numberAt, numberOctets}
+use Rattle.octets.proofs.OctetLists.{octets-of, append-octets}
 use Rattle.frame.specs.declared.block.Address.{Address}
 use Rattle.frame.specs.declared.block.Block.{Block}
 use Rattle.frame.specs.State.{stateOctet}
 use Rattle.frame.specs.Block.{addressAt, addressOctets, blockOf, blockOctets}
-use Rattle.frame.proofs.BlockLaws.{Octets, octet-le}
+use Rattle.frame.proofs.BlockLaws.{octet-le}
 use Rattle.machine.specs.Ages.{forgottenAge, noSend}
 use Rattle.machine.specs.Time.{slowPeriodicTime, longTimeoutTime, aggregateWaitTime}
 use Rattle.machine.specs.declared.states.Timers.{Timers}
@@ -23,7 +24,6 @@ use Rattle.port.specs.declared.record.Port.{Port}
 use Rattle.table.specs.Layout.{within}
 use Rattle.table.specs.Range.{codesInRange, timersInRange, ageInRange, agesInRange, recordInRange, fits, addressFits, blockFits, ownFits, portInRange}
 use Rattle.table.specs.Record.{timersIn, timersOctets, agesIn, ownOctets}
-use Rattle.table.proofs.OctetLaws.{octets-of, append-octets}
 
 -- ---- conjunctions and ranges
 

@@ -6,15 +6,15 @@ use mathlib.Core.List.{List, _∷_, _++_}
 use native.Mathlib.Omega.{arith}
 use lib.ListN.{length, take, drop, getD, length-drop}
 use lib.Seq.{length-take-le}
-use Rattle.octets.specs.Octets.{high, low, numberAt}
-use Rattle.octets.proofs.Laws.{number-back, high-back, low-back, spread, spread-all, spread-part}
+use Rattle.octets.specs.Octets.{Octets}
+use Rattle.octets.proofs.Laws.{number-back, spread, spread-all, spread-part}
+use Rattle.octets.proofs.OctetLists.{octets-of, append-octets, take-octets, drop-octets, first-back, second-back}
 use Rattle.frame.specs.Block.{blockOf, blockOctets}
-use Rattle.frame.proofs.BlockLaws.{state-back, octet-back, octet-le, block-back, octets-back, Octets}
+use Rattle.frame.proofs.BlockLaws.{state-back, octet-back, octet-le, block-back, octets-back}
 use Rattle.port.specs.declared.record.Port.{Port}
 use Rattle.table.specs.Layout.{recordSize}
 use Rattle.table.specs.Record.{phaseOctets, statusOctets, timersOctets, timersIn, agesOctets, ownOctets, ownIn, encoded, decoded}
 use Rattle.table.specs.Codes.{flagOctet, receiveCode, periodicCode, muxCode, selectedCode}
-use Rattle.table.proofs.OctetLaws.{octets-of, append-octets, take-octets, drop-octets}
 use Rattle.table.proofs.CodeLaws.{flag-back, receive-back, periodic-back, mux-back, selected-back, flag-octet-back, receive-code-back, periodic-code-back, mux-code-back, selected-code-back, flag-within, receive-within, periodic-within, mux-within, selected-within}
 use Rattle.table.specs.Range.{codesInRange, timersInRange, recordInRange, portInRange}
 use Rattle.table.proofs.RangeLaws.{joined, small, wait-fits, ages-fit, block-fits, own-fits, block-octets, own-octets, timers-octets, ranged-octets, ranged, ranged-is}
@@ -63,14 +63,6 @@ record-back p h =
     }
 
 -- ---- octets to record to octets
-
--- the two octets at i, from the number there
-module _ (l : List ℕ) (o : Octets l) (i : ℕ) where
-  first-back : high (numberAt l i) ≡ getD l i 0
-  first-back = high-back (getD l i 0) (getD l (i + 1) 0) (o (i + 1))
-
-  second-back : low (numberAt l i) ≡ getD l (i + 1) 0
-  second-back = low-back (getD l i 0) (getD l (i + 1) 0) (o (i + 1))
 
 -- the 15 octets from a on, from the block there
 blocks-back : (a : ℕ) (l : List ℕ) → Octets l → a + 15 ≤ length l → blockOctets (blockOf (take 15 (drop a l))) ≡ spread a 15 l

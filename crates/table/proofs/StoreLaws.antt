@@ -11,13 +11,12 @@ use lib.Seq.{getD-set-same, getD-set-other, ext-getD}
 use lib.Dec.{ltb, eqb}
 use borrow.Author.Tests.{ltb-true, ltb-false, eqb-true, eqb-false}
 use Rattle.octets.specs.Octets.{putAt}
-use Rattle.octets.proofs.Laws.{length-put, spread, spread-part}
+use Rattle.octets.proofs.Laws.{length-put, put-here, put-after, put-before, spread, spread-part}
 use Rattle.port.specs.declared.record.Port.{Port}
 use Rattle.table.specs.declared.layout.Header.{Header}
 use Rattle.table.specs.Layout.{headerSize, recordSize, place, headerOf}
 use Rattle.table.specs.Record.{encoded, decoded}
 use Rattle.table.specs.Table.{countIn, recordAt, portAt, portsFrom, ports}
-use Rattle.table.proofs.OctetLaws.{put-here, put-after, put-before}
 use Rattle.table.proofs.RecordLaws.{encoded-length}
 
 -- ---- the octets of a store

@@ -9,15 +9,14 @@ use lib.ListN.{length, take, drop, getD, length-drop, take-append-drop, drop-of-
 use lib.Seq.{length-take-le, drop-drop}
 use lib.Dec.{leb, eqb}
 use borrow.Author.Tests.{leb-true, le-leb, eqb-true, eqb-false, eq-eqb}
-use Rattle.octets.specs.Octets.{putAt, high, low, numberAt}
-use Rattle.octets.proofs.Laws.{high-back, low-back, spread-part}
-use Rattle.frame.proofs.BlockLaws.{Octets}
+use Rattle.octets.specs.Octets.{Octets, putAt}
+use Rattle.octets.proofs.Laws.{spread-part}
+use Rattle.octets.proofs.OctetLists.{take-octets, drop-octets, put-octets, first-back, second-back}
 use Rattle.port.specs.declared.record.Port.{Port}
 use Rattle.table.specs.Layout.{headerSize, recordSize, mostPorts, place, tableSize, within, headerOf, headerOctets}
 use Rattle.table.specs.Record.{encoded}
 use Rattle.table.specs.Range.{recordInRange, portInRange}
 use Rattle.table.specs.Table.{countIn, recordAt, portAt, portsFrom, ports, recordsOctets, tableOctets, firstInRange, tableInRange}
-use Rattle.table.proofs.OctetLaws.{take-octets, drop-octets, put-octets}
 use Rattle.table.proofs.RangeLaws.{both, joined, within-true, within-is}
 use Rattle.table.proofs.RecordLaws.{encoded-length, encoded-in-range, encoded-octets, decoded-in-range, record-octets-back}
 use Rattle.table.proofs.StoreLaws.{put-same, put-other, stored-length, stored-count}
@@ -128,8 +127,8 @@ stored-octets i p t r e o =
 
 header-octets-back : (t : List ℕ) → headerSize ≤ length t → Octets t → headerOctets (headerOf t) ≡ take headerSize t
 header-octets-back t h o =
-    let first : (i : ℕ) → high (numberAt t i) ≡ getD t i 0 = λ i. high-back (getD t i 0) (getD t (i + 1) 0) (o (i + 1)) in
-    let second : (i : ℕ) → low (numberAt t i) ≡ getD t (i + 1) 0 = λ i. low-back (getD t i 0) (getD t (i + 1) 0) (o (i + 1)) in
+    let first = first-back t o in
+    let second = second-back t o in
     (λ i. getD t 0 0 ∷ first 1 i ∷ second 1 i ∷ first 3 i ∷ second 3 i ∷ first 5 i ∷ second 5 i ∷ first 7 i ∷ second 7 i ∷ first 9 i ∷ second 9 i ∷ [])
     ∙ spread-part 0 headerSize t h
 

@@ -6,8 +6,7 @@ use mathlib.Core.List.{List, [], _∷_, map}
 use native.Mathlib.Omega.{arith}
 use lib.ListN.{length, getD, set}
 use lib.Seq.{set-getD}
-use Rattle.octets.specs.Octets.{putAt}
-use Rattle.frame.proofs.BlockLaws.{Octets}
+use Rattle.octets.specs.Octets.{Octets, putAt}
 use Rattle.port.specs.declared.record.Port.{Port}
 use Rattle.table.specs.declared.layout.Header.{Header}
 use Rattle.table.specs.Layout.{place, recordSize, headerOf}

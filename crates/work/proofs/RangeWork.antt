@@ -7,11 +7,12 @@ use mathlib.Core.List.{List}
 use native.Mathlib.Omega.{arith}
 use lib.Dec.{leb, eqb}
 use lib.ListN.{drop}
+use Rattle.octets.specs.Octets.{Octets}
+use Rattle.octets.proofs.OctetLists.{take-octets, drop-octets}
 use Rattle.frame.specs.declared.block.Block.{Block}
 use Rattle.frame.specs.declared.block.SystemId.{SystemId}
 use Rattle.frame.specs.Block.{blockOf}
 use Rattle.frame.specs.Wire.{part}
-use Rattle.frame.proofs.BlockLaws.{Octets}
 use Rattle.machine.specs.declared.states.Line.{Line}
 use Rattle.machine.specs.declared.states.Ages.{Ages}
 use Rattle.machine.specs.Ages.{noSend, ages, sentAges}
@@ -26,7 +27,6 @@ use Rattle.port.specs.Transmit.{sent}
 use Rattle.settings.specs.declared.Settings.{Settings}
 use Rattle.settings.specs.Settings.{ownOf, sameGrouping, sameSettings, regrouped, changed, configured, blank, started}
 use Rattle.table.specs.Range.{timersInRange, ageInRange, agesInRange, blockFits, ownFits, portInRange}
-use Rattle.table.proofs.OctetLaws.{take-octets, drop-octets}
 use Rattle.table.proofs.RangeLaws.{both, joined, ranged, ranged-is, within-is, block-fits}
 use Rattle.trunk.proofs.RangeKept.{default-fits, moved-ranged}
 use Rattle.trunk.proofs.AdvanceRange.{receive-ranged, currently-ranged}

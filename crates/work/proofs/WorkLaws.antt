@@ -10,7 +10,7 @@ use denote.Struct.Declared.{shape}
 use denote.RattleType.{Valss}
 use mir.Val.{Val}
 use borrow.Author.Tests.{lt-ltb}
-use Rattle.frame.proofs.BlockLaws.{Octets}
+use Rattle.octets.specs.Octets.{Octets}
 use Rattle.port.specs.declared.record.Port.{Port}
 use Rattle.port.specs.declared.record.Own.{Own}
 use Rattle.port.proofs.record.Own.{the-type}
