@@ -8,6 +8,8 @@ use native.Mathlib.Omega.{arith}
 use lib.ListN.{length, set, replicate}
 use lib.Dec.{eqb}
 use borrow.Author.Tests.{eqb-true}
+use Rattle.octets.specs.Octets.{within}
+use Rattle.octets.proofs.RangeLaws.{both}
 use Rattle.frame.specs.declared.block.SystemId.{SystemId}
 use Rattle.frame.specs.declared.wire.TensOfMicroseconds.{TensOfMicroseconds}
 use Rattle.frame.specs.Block.{blockOf}
@@ -20,9 +22,8 @@ use Rattle.port.specs.Transmit.{sent}
 use Rattle.settings.specs.declared.Settings.{Settings}
 use Rattle.settings.specs.Settings.{configured, sameSettings, started}
 use Rattle.table.specs.declared.layout.Header.{Header}
-use Rattle.table.specs.Layout.{headerOf, within, mostPorts, tableSize}
+use Rattle.table.specs.Layout.{headerOf, mostPorts, tableSize}
 use Rattle.table.specs.Table.{countIn, portAt, ports}
-use Rattle.table.proofs.RangeLaws.{both}
 use Rattle.table.proofs.TableLaws.{in-range}
 use Rattle.table.proofs.MadeLaws.{made-count}
 use Rattle.trunk.specs.Advanced.{advanced}

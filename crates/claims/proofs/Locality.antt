@@ -20,11 +20,11 @@ use Rattle.port.specs.Compared.{compared}
 use Rattle.port.specs.Receive.{lined}
 use Rattle.port.specs.Periodic.{periodicRun}
 use Rattle.port.specs.Transmit.{sent, due}
+use Rattle.port.specs.Range.{ownFits}
 use Rattle.port.proofs.PeriodicLaws.{periodic-idle}
 use Rattle.settings.specs.declared.Settings.{Settings}
 use Rattle.settings.specs.Settings.{configured, sameSettings, ownOf}
 use Rattle.table.specs.Record.{decoded}
-use Rattle.table.specs.Range.{ownFits}
 use Rattle.table.specs.Table.{countIn, portAt, ports}
 use Rattle.table.proofs.StoreLaws.{ports-length, ports-at}
 use Rattle.trunk.specs.Selection.{sharesGroup}

@@ -8,23 +8,25 @@ use native.Mathlib.Omega.{arith}
 use lib.ListN.{length, getD, set, replicate, length-map, length-set, length-replicate}
 use lib.Dec.{eqb}
 use Rattle.octets.specs.Octets.{Octets}
+use Rattle.octets.proofs.RangeLaws.{both, within-is}
 use Rattle.frame.specs.declared.block.Block.{Block}
 use Rattle.frame.specs.Block.{blockOf}
 use Rattle.frame.specs.Wire.{actorPart, partnerPart}
+use Rattle.frame.proofs.RangeLaws.{part-fits}
 use Rattle.machine.specs.declared.states.Line.{Line}
 use Rattle.machine.specs.States.{sameLine}
 use Rattle.port.specs.declared.record.Port.{Port}
 use Rattle.port.specs.Receive.{lined, moved}
 use Rattle.port.specs.Periodic.{periodicRun}
 use Rattle.port.specs.Transmit.{sent, ticked}
+use Rattle.port.specs.Range.{portInRange, portsInRange, ownFits}
 use Rattle.settings.specs.declared.Settings.{Settings}
 use Rattle.settings.specs.Settings.{configured, sameSettings, started, ownOf}
 use Rattle.table.specs.declared.layout.Header.{Header}
 use Rattle.table.specs.Layout.{headerOf, mostPorts}
 use Rattle.table.specs.Record.{decoded}
-use Rattle.table.specs.Range.{portInRange, portsInRange, headerFits, ownFits}
+use Rattle.table.specs.Range.{headerFits}
 use Rattle.table.specs.Table.{countIn, portAt, ports, tableOctets}
-use Rattle.table.proofs.RangeLaws.{both, within-is}
 use Rattle.table.proofs.TableLaws.{in-range, in-range-is}
 use Rattle.table.proofs.StoreLaws.{ports-length, ports-at}
 use Rattle.table.proofs.MadeLaws.{ports-ranged-at, ports-ranged, table-ports-ranged, header-fits, made-ports, made-header, made-in-range, made-octets}
@@ -37,7 +39,7 @@ use Rattle.trunk.proofs.RestLaws.{settled-twice}
 use Rattle.trunk.proofs.RangeKept.{reselected-ranged, attached-ranged, climbed-ranged, displaced-ranged}
 use Rattle.trunk.proofs.AdvanceRange.{ticked-ranged, periodic-ranged, receive-ranged}
 use Rattle.work.specs.Work.{ours, again, worked, afterOne, afterStart, heardAt, afterHeard, afterTick, afterLine, afterSettings, afterSend}
-use Rattle.work.proofs.RangeWork.{part-fits, received-ranged, lined-ranged, configured-ranged, sent-ranged, started-ranged}
+use Rattle.work.proofs.RangeWork.{received-ranged, lined-ranged, configured-ranged, sent-ranged, started-ranged}
 use Rattle.claims.specs.AtRest.{Resting, AtRest, Sound}
 use Rattle.claims.proofs.Lists.{Each, each-map, each-sweep, each-set, each-alike, each-settled}
 use Rattle.claims.proofs.Parts.{Standing, standing, periodic-standing, reselected-resting, attached-resting, climbed-resting}

@@ -11,6 +11,7 @@ use lib.Seq.{getD-append-seam}
 use lib.Dec.{eqb, ltb, leb}
 use borrow.Author.Tests.{eqb-true, eqb-false, eq-eqb, leb-true, leb-false, le-ltb}
 use Rattle.octets.specs.Octets.{Octets}
+use Rattle.octets.proofs.RangeLaws.{within-true, within-is}
 use Rattle.frame.specs.declared.block.Block.{Block}
 use Rattle.frame.specs.declared.block.SystemId.{SystemId}
 use Rattle.frame.specs.declared.wire.TensOfMicroseconds.{TensOfMicroseconds}
@@ -25,14 +26,13 @@ use Rattle.port.specs.declared.record.Port.{Port}
 use Rattle.port.specs.declared.transmit.Due.the-variants as due
 use Rattle.port.specs.Receive.{moved, lined}
 use Rattle.port.specs.Transmit.{due as dueOf, sent}
+use Rattle.port.specs.Range.{ownFits}
 use Rattle.settings.specs.declared.Settings.{Settings}
 use Rattle.settings.specs.Settings.{configured, sameSettings, ownOf, blank, started}
 use Rattle.table.specs.declared.layout.Header.{Header}
 use Rattle.table.specs.Layout.{mostPorts}
 use Rattle.table.specs.Record.{decoded}
-use Rattle.table.specs.Range.{ownFits}
 use Rattle.table.specs.Table.{tableInRange, countIn, portAt, ports}
-use Rattle.table.proofs.RangeLaws.{within-true, within-is}
 use Rattle.table.proofs.StoreLaws.{ports-length, ports-at}
 use Rattle.trunk.specs.Advanced.{advanced}
 use Rattle.trunk.specs.Displaced.{isDisplaced, displacedIf, displaced}

@@ -6,6 +6,7 @@ use mathlib.Core.Bool.{Bool, true, false, cond}
 use mathlib.Core.List.{List}
 use native.Mathlib.Omega.{arith}
 use lib.ListN.{length}
+use Rattle.octets.proofs.RangeLaws.{within-true}
 use Rattle.frame.specs.declared.class.Class.{Class}
 use Rattle.frame.specs.declared.class.Class.the-variants as class
 use Rattle.frame.specs.Class.{classOf}
@@ -13,7 +14,6 @@ use Rattle.frame.proofs.ClassLaws.{heard, heard-whole}
 use Rattle.machine.specs.declared.states.Line.{Line}
 use Rattle.machine.specs.declared.states.Mux.{Mux}
 use Rattle.table.specs.Table.{tableInRange, countIn}
-use Rattle.table.proofs.RangeLaws.{within-true}
 use Rattle.control.specs.declared.answer.Answer.{Answer}
 use Rattle.control.specs.declared.answer.Answer.the-variants.{Done, Lacpdu, Marker, Refused}
 use Rattle.control.specs.declared.answer.Reason.{Reason}

@@ -4,6 +4,7 @@ use mathlib.Core.Bool.{Bool, cond, _&&_, _||_}
 use mathlib.Core.List.{List}
 use lib.ListN.{length}
 use lib.Dec.{ltb, eqb}
+use Rattle.octets.specs.Octets.{within}
 use Rattle.frame.specs.declared.class.Class.{Class}
 use Rattle.frame.specs.declared.class.Class.the-variants as class
 use Rattle.frame.specs.Class.{refusalNumber}
@@ -14,7 +15,7 @@ use Rattle.port.specs.declared.transmit.Due.{Due}
 use Rattle.port.specs.declared.transmit.Due.the-variants as due
 use Rattle.settings.specs.declared.Settings.{Settings}
 use Rattle.settings.specs.Settings.{lawful}
-use Rattle.table.specs.Layout.{within, tableSize, mostPorts}
+use Rattle.table.specs.Layout.{tableSize, mostPorts}
 use Rattle.table.specs.Table.{tableInRange, countIn}
 use Rattle.control.specs.declared.answer.Answer.{Answer}
 use Rattle.control.specs.declared.answer.Answer.the-variants.{Done, Lacpdu, Marker, Refused}

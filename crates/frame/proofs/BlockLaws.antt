@@ -7,7 +7,7 @@ use mathlib.Core.List.{List, [], _∷_, _++_}
 use native.Mathlib.Omega.{arith}
 use lib.ListN.{length, getD}
 use lib.Dec.{eqb}
-use Rattle.octets.specs.Octets.{Octets, high, low, joined, numberAt, numberOctets}
+use Rattle.octets.specs.Octets.{Octets, high, low, joined, numberOctets}
 use Rattle.octets.proofs.Laws.{number-back, spread-all}
 use Rattle.octets.proofs.OctetLists.{first-back, second-back}
 use Rattle.frame.specs.declared.state.PortState.{PortState}

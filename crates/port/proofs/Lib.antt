@@ -3,3 +3,4 @@ pub mod MuxLaws
 pub mod ReceiveLaws
 pub mod TransmitLaws
 pub mod TimerLaws
+pub mod RangeLaws

@@ -1,4 +1,5 @@
 pub mod Record
+pub mod Range
 pub mod Compared
 pub mod Timing
 pub mod Periodic

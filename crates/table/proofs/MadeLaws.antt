@@ -7,19 +7,21 @@ use mathlib.Core.List.{List, [], _∷_, _++_, append-assoc, append-nil}
 use native.Mathlib.Omega.{arith}
 use lib.ListN.{length, take, drop, getD, set, length-append, drop-of-length-le}
 use lib.Seq.{take-at, drop-at, drop-nil, drop-drop, drop-append-add, drop-cons, ext-getD}
-use Rattle.octets.specs.Octets.{Octets, putAt, high, low, numberOctets}
+use Rattle.octets.specs.Octets.{Octets, putAt, high, low, numberOctets, fits}
 use Rattle.octets.proofs.Laws.{number-back, over-put, put-append}
 use Rattle.octets.proofs.OctetLists.{octets-of, append-octets}
+use Rattle.octets.proofs.RangeLaws.{both, joined, number-fits, number-octets}
+use Rattle.frame.proofs.RangeLaws.{address-fits, address-octets}
 use Rattle.port.specs.declared.record.Port.{Port}
+use Rattle.port.specs.Range.{portInRange, portsInRange}
 use Rattle.table.specs.declared.layout.Header.{Header}
 use Rattle.table.specs.Layout.{headerSize, recordSize, mostPorts, place, tableSize, headerOf, headerOctets}
 use Rattle.table.specs.Record.{encoded, decoded}
-use Rattle.table.specs.Range.{recordInRange, portInRange, portsInRange, fits, addressFits, headerFits}
+use Rattle.table.specs.Range.{recordInRange, headerFits}
 use Rattle.table.specs.Table.{countIn, recordAt, portAt, ports, recordsOctets, tableOctets}
-use Rattle.table.proofs.RangeLaws.{both, joined, number-fits, address-fits, number-octets, address-octets}
 use Rattle.table.proofs.RecordLaws.{encoded-length, port-back, encoded-in-range, encoded-octets}
 use Rattle.table.proofs.StoreLaws.{ports-length, ports-at}
-use Rattle.frame.specs.Block.{addressOctets}
+use Rattle.frame.specs.Block.{addressOctets, addressFits}
 use Rattle.table.proofs.TableLaws.{InRange, port-in-range, table-back}
 
 -- ---- lists of records in range

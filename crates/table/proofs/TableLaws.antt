@@ -9,15 +9,16 @@ use lib.ListN.{length, take, drop, getD, length-drop, take-append-drop, drop-of-
 use lib.Seq.{length-take-le, drop-drop}
 use lib.Dec.{leb, eqb}
 use borrow.Author.Tests.{leb-true, le-leb, eqb-true, eqb-false, eq-eqb}
-use Rattle.octets.specs.Octets.{Octets, putAt}
+use Rattle.octets.specs.Octets.{Octets, putAt, within}
 use Rattle.octets.proofs.Laws.{spread-part}
 use Rattle.octets.proofs.OctetLists.{take-octets, drop-octets, put-octets, first-back, second-back}
+use Rattle.octets.proofs.RangeLaws.{both, joined, within-true, within-is}
 use Rattle.port.specs.declared.record.Port.{Port}
-use Rattle.table.specs.Layout.{headerSize, recordSize, mostPorts, place, tableSize, within, headerOf, headerOctets}
+use Rattle.port.specs.Range.{portInRange}
+use Rattle.table.specs.Layout.{headerSize, recordSize, mostPorts, place, tableSize, headerOf, headerOctets}
 use Rattle.table.specs.Record.{encoded}
-use Rattle.table.specs.Range.{recordInRange, portInRange}
+use Rattle.table.specs.Range.{recordInRange}
 use Rattle.table.specs.Table.{countIn, recordAt, portAt, portsFrom, ports, recordsOctets, tableOctets, firstInRange, tableInRange}
-use Rattle.table.proofs.RangeLaws.{both, joined, within-true, within-is}
 use Rattle.table.proofs.RecordLaws.{encoded-length, encoded-in-range, encoded-octets, decoded-in-range, record-octets-back}
 use Rattle.table.proofs.StoreLaws.{put-same, put-other, stored-length, stored-count}
 

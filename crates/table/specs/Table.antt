@@ -5,9 +5,10 @@ use mathlib.Core.Bool.{Bool, true, _&&_}
 use mathlib.Core.List.{List, [], _∷_, _++_}
 use lib.ListN.{length, take, drop, getD}
 use lib.Dec.{leb, eqb}
+use Rattle.octets.specs.Octets.{within}
 use Rattle.port.specs.declared.record.Port.{Port}
 use Rattle.table.specs.declared.layout.Header.{Header}
-use Rattle.table.specs.Layout.{headerSize, recordSize, mostPorts, place, tableSize, within, headerOctets}
+use Rattle.table.specs.Layout.{headerSize, recordSize, mostPorts, place, tableSize, headerOctets}
 use Rattle.table.specs.Record.{encoded, decoded}
 use Rattle.table.specs.Range.{recordInRange}
 

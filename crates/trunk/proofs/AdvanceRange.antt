@@ -6,6 +6,8 @@ use mathlib.Core.Bool.{Bool, true, false, cond, _&&_, _||_}
 use native.Mathlib.Omega.{arith}
 use lib.Dec.{leb, ltb, eqb}
 use borrow.Author.Tests.{leb-true, leb-false, le-leb, lt-ltb}
+use Rattle.octets.proofs.RangeLaws.{both, joined}
+use Rattle.frame.specs.Block.{blockFits}
 use Rattle.machine.specs.declared.states.Periodic.{Periodic}
 use Rattle.machine.specs.declared.states.Periodic.the-variants.{NoPeriodic, FastPeriodic, SlowPeriodic, PeriodicTx}
 use Rattle.machine.specs.declared.states.Receive.{Receive}
@@ -26,8 +28,8 @@ use Rattle.port.specs.Periodic.{periodicEntered, periodicTaken, periodicChoice,
 use Rattle.port.specs.Receive.{recordDefault, updateSelected, updateDefaultSelected, unselected, initialized, portDisabled, expired, lacpDisabled, defaulted}
 use Rattle.port.specs.Receive.{receiveTaken, receiveChoice, receiveStep, receiveRun}
 use Rattle.port.specs.Transmit.{ticked}
-use Rattle.table.specs.Range.{timersInRange, ageInRange, agesInRange, blockFits, portInRange}
-use Rattle.table.proofs.RangeLaws.{both, joined, Ranged, ranged, ranged-is}
+use Rattle.port.specs.Range.{timersInRange, ageInRange, agesInRange, valuesInRange, portInRange}
+use Rattle.port.proofs.RangeLaws.{Ranged, ranged, ranged-is}
 use Rattle.trunk.specs.Advanced.{advanced}
 use Rattle.trunk.proofs.RangeKept.{default-fits}
 
@@ -167,7 +169,7 @@ module _ (count : ℕ) where
       })
 
   if-unselected : (b : Bool) (p : Port) → portInRange count p ≡ true → portInRange count (cond b p (unselected p)) ≡ true
-  unfolding portInRange
+  unfolding portInRange valuesInRange
   if-unselected true p e = e
   if-unselected false p e = e
 

@@ -4,7 +4,10 @@ use mathlib.Core.Path.{_≡_, refl, sym, ap, _∙_}
 use mathlib.Core.Bool.{Bool, true, false, cond, not, _&&_}
 use native.Mathlib.Omega.{arith}
 use lib.Dec.{leb, eqb}
+use Rattle.octets.specs.Octets.{within, fits}
+use Rattle.octets.proofs.RangeLaws.{both, joined}
 use Rattle.frame.specs.declared.block.Block.{Block}
+use Rattle.frame.specs.Block.{addressFits, blockFits}
 use Rattle.machine.specs.declared.states.Mux.{Mux}
 use Rattle.machine.specs.declared.states.Mux.the-variants.{Detached, Waiting, Attached, Collecting, Distributing}
 use Rattle.machine.specs.declared.states.Selection.{Selection}
@@ -21,9 +24,8 @@ use Rattle.port.specs.Record.{withSelected, withAggregator, withNtt}
 use Rattle.port.specs.Mux.{muxEntered, muxTaken, muxChoice, muxStep, muxRun, detached, placed, attachedIf}
 use Rattle.port.specs.Receive.{recordDefault, initialized, portDisabled, moved}
 use Rattle.port.specs.Transmit.{silent, quieted}
-use Rattle.table.specs.Layout.{within}
-use Rattle.table.specs.Range.{timersInRange, agesInRange, addressFits, fits, blockFits, ownFits, portInRange}
-use Rattle.table.proofs.RangeLaws.{both, joined, Ranged, ranged, ranged-is}
+use Rattle.port.specs.Range.{timersInRange, agesInRange, valuesInRange, ownFits, portInRange}
+use Rattle.port.proofs.RangeLaws.{Ranged, ranged, ranged-is}
 use Rattle.trunk.specs.Settled.{mustMove, reselected, climbed}
 use Rattle.trunk.specs.Displaced.{displacedIf, isDisplaced}
 
@@ -66,7 +68,7 @@ module _ (count : ℕ) where
   step-ranged ready p e = taken-ranged (muxChoice ready p) p e
 
   selected-ranged : (s : Selection) (p : Port) → portInRange count p ≡ true → portInRange count (withSelected p s) ≡ true
-  unfolding portInRange
+  unfolding portInRange valuesInRange
   selected-ranged s p e = e
 
   aggregator-ranged : (k : ℕ) (p : Port) → within 1 k count ≡ true → portInRange count p ≡ true → portInRange count (withAggregator p k) ≡ true
@@ -75,7 +77,7 @@ module _ (count : ℕ) where
       ranged-is count (withAggregator p k) (record { aggregator = h; timers = r .timers; ages = r .ages; own = r .own; partner = r .partner })
 
   ntt-ranged : (b : Bool) (p : Port) → portInRange count p ≡ true → portInRange count (withNtt p b) ≡ true
-  unfolding portInRange
+  unfolding portInRange valuesInRange
   ntt-ranged b p e = e
 
   pub detached-ranged : (p : Port) → portInRange count p ≡ true → portInRange count (detached p) ≡ true

@@ -8,10 +8,10 @@ use lib.ListN.{length, getD, set}
 use lib.Seq.{set-getD}
 use Rattle.octets.specs.Octets.{Octets, putAt}
 use Rattle.port.specs.declared.record.Port.{Port}
+use Rattle.port.specs.Range.{portInRange}
 use Rattle.table.specs.declared.layout.Header.{Header}
 use Rattle.table.specs.Layout.{place, recordSize, headerOf}
 use Rattle.table.specs.Record.{encoded}
-use Rattle.table.specs.Range.{portInRange}
 use Rattle.table.specs.Table.{tableInRange, InTable, countIn, ports, portAt}
 use Rattle.table.proofs.RecordLaws.{port-back}
 use Rattle.table.proofs.StoreLaws.{ports-length, ports-at, stored-length, stored-header, stored-ports}

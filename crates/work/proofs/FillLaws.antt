@@ -8,10 +8,10 @@ use native.Mathlib.Omega.{arith}
 use lib.ListN.{length, replicate, length-replicate, getD-replicate, replicate-append-replicate}
 use Rattle.octets.specs.Octets.{putAt}
 use Rattle.port.specs.declared.record.Port.{Port}
+use Rattle.port.specs.Range.{portInRange, portsInRange}
 use Rattle.table.specs.declared.layout.Header.{Header}
 use Rattle.table.specs.Layout.{headerOf, headerOctets, place, tableSize, mostPorts}
 use Rattle.table.specs.Record.{encoded}
-use Rattle.table.specs.Range.{portInRange, portsInRange}
 use Rattle.table.specs.Table.{tableInRange, ports, tableOctets}
 use Rattle.table.proofs.TableLaws.{in-range-is}
 use Rattle.table.proofs.MadeLaws.{begun, begun-header, begun-record, begun-all, ports-ranged, made-header, made-ports, made-in-range}

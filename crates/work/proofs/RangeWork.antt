@@ -1,18 +1,14 @@
 -- What an accepted call does to one record keeps it in range: recording a frame's block, a link or duplex change, new settings, a send;
 -- and the record with which a port begins is in range. Assumes nothing.
-use Prim.Native.Nat.{ℕ, _-_, _≤_}
+use Prim.Native.Nat.{ℕ, _≤_}
 use mathlib.Core.Path.{_≡_, refl}
 use mathlib.Core.Bool.{Bool, true, false, cond}
-use mathlib.Core.List.{List}
 use native.Mathlib.Omega.{arith}
 use lib.Dec.{leb, eqb}
-use lib.ListN.{drop}
-use Rattle.octets.specs.Octets.{Octets}
-use Rattle.octets.proofs.OctetLists.{take-octets, drop-octets}
+use Rattle.octets.proofs.RangeLaws.{both, joined, within-is}
 use Rattle.frame.specs.declared.block.Block.{Block}
 use Rattle.frame.specs.declared.block.SystemId.{SystemId}
-use Rattle.frame.specs.Block.{blockOf}
-use Rattle.frame.specs.Wire.{part}
+use Rattle.frame.specs.Block.{blockFits}
 use Rattle.machine.specs.declared.states.Line.{Line}
 use Rattle.machine.specs.declared.states.Ages.{Ages}
 use Rattle.machine.specs.Ages.{noSend, ages, sentAges}
@@ -24,16 +20,12 @@ use Rattle.port.specs.Record.{withLine, withNtt, actorBlock}
 use Rattle.port.specs.Receive.{down, recordPdu, updateSelected, updateNtt, unselected, heard, current, received, receiveRun, lined, moved}
 use Rattle.port.specs.Receive.{recordDefault, initialized, portDisabled}
 use Rattle.port.specs.Transmit.{sent}
+use Rattle.port.specs.Range.{timersInRange, ageInRange, agesInRange, valuesInRange, ownFits, portInRange}
+use Rattle.port.proofs.RangeLaws.{ranged, ranged-is}
 use Rattle.settings.specs.declared.Settings.{Settings}
 use Rattle.settings.specs.Settings.{ownOf, sameGrouping, sameSettings, regrouped, changed, configured, blank, started}
-use Rattle.table.specs.Range.{timersInRange, ageInRange, agesInRange, blockFits, ownFits, portInRange}
-use Rattle.table.proofs.RangeLaws.{both, joined, ranged, ranged-is, within-is, block-fits}
 use Rattle.trunk.proofs.RangeKept.{default-fits, moved-ranged}
 use Rattle.trunk.proofs.AdvanceRange.{receive-ranged, currently-ranged}
-
--- a block that was read from a part of octets fits its own
-pub part-fits : (a e : ℕ) (l : List ℕ) → Octets l → blockFits (blockOf (part a e l)) ≡ true
-part-fits a e l o = block-fits (part a e l) (take-octets (e - a) (drop a l) (drop-octets a l o))
 
 -- a send: what is remembered moves, and the new one has age 0
 sent-ages : (g : Ages) → agesInRange g ≡ true → agesInRange (sentAges g) ≡ true
@@ -52,12 +44,12 @@ time-le false = refl
 
 module _ (count : ℕ) where
   if-unselected : (b : Bool) (p : Port) → portInRange count p ≡ true → portInRange count (cond b p (unselected p)) ≡ true
-  unfolding portInRange
+  unfolding portInRange valuesInRange
   if-unselected true p e = e
   if-unselected false p e = e
 
   if-ntt : (b : Bool) (p : Port) → portInRange count p ≡ true → portInRange count (cond b p (withNtt p true)) ≡ true
-  unfolding portInRange
+  unfolding portInRange valuesInRange
   if-ntt true p e = e
   if-ntt false p e = e
 
@@ -87,7 +79,7 @@ module _ (count : ℕ) where
   -- ---- a link or duplex change
 
   line-ranged : (l : Line) (p : Port) → portInRange count p ≡ true → portInRange count (withLine p l) ≡ true
-  unfolding portInRange
+  unfolding portInRange valuesInRange
   line-ranged l p e = e
 
   pub lined-ranged : (l : Line) (p : Port) → portInRange count p ≡ true → portInRange count (lined l p) ≡ true

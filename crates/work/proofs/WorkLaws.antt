@@ -10,12 +10,13 @@ use denote.Struct.Declared.{shape}
 use denote.RattleType.{Valss}
 use mir.Val.{Val}
 use borrow.Author.Tests.{lt-ltb}
-use Rattle.octets.specs.Octets.{Octets}
+use Rattle.octets.specs.Octets.{Octets, fits}
+use Rattle.octets.proofs.RangeLaws.{joined}
+use Rattle.frame.specs.Block.{blockFits}
 use Rattle.port.specs.declared.record.Port.{Port}
 use Rattle.port.specs.declared.record.Own.{Own}
+use Rattle.port.specs.Range.{ownFits}
 use Rattle.port.proofs.record.Own.{the-type}
-use Rattle.table.specs.Range.{fits, ownFits, blockFits}
-use Rattle.table.proofs.RangeLaws.{joined}
 use Rattle.table.specs.Layout.{headerOf, mostPorts}
 use Rattle.table.specs.Table.{tableInRange, countIn, tableOctets}
 use Rattle.table.proofs.TableLaws.{in-range, table-back}

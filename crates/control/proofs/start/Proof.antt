@@ -5,8 +5,9 @@ use denote.Ref.{now}
 use lib.Dec.{eqb}
 use lib.ListN.{length}
 use borrow.Author.Tests.{eqb-true, not-true, not-false}
-use Rattle.table.specs.Layout.{within, tableSize, mostPorts}
-use Rattle.table.proofs.RangeLaws.{both, within-true}
+use Rattle.octets.specs.Octets.{within}
+use Rattle.octets.proofs.RangeLaws.{both, within-true}
+use Rattle.table.specs.Layout.{tableSize, mostPorts}
 use Rattle.control.specs.declared.answer.Answer.the-variants.{Done, Refused}
 use Rattle.control.specs.declared.answer.Reason.the-variants as reason
 use Rattle.control.specs.Call as call

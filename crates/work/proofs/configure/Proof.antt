@@ -3,8 +3,8 @@ use mathlib.Core.Path.{_≡_, sym, ap, _∙_}
 use mathlib.Core.Bool.{true, false}
 use denote.Ref.{now}
 use Rattle.port.specs.declared.record.Port.{Port}
+use Rattle.port.specs.Range.{ownFits}
 use Rattle.settings.specs.Settings.{sameSettings, configured}
-use Rattle.table.specs.Range.{ownFits}
 use Rattle.table.specs.Table.{countIn, portAt}
 use Rattle.trunk.proofs.TableWork.{lies, ranged-at}
 use Rattle.work.specs.Work.{afterSettings}

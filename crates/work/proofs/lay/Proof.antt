@@ -7,9 +7,9 @@ use denote.Ref.{now}
 use lib.ListN.{length}
 use Rattle.octets.proofs.Laws.{length-put}
 use Rattle.port.specs.declared.record.Port.{Port}
+use Rattle.port.specs.Range.{ownFits}
 use Rattle.settings.specs.Settings.{started}
 use Rattle.table.specs.Layout.{headerOctets, place, mostPorts}
-use Rattle.table.specs.Range.{ownFits}
 use Rattle.table.proofs.StoreLaws.{stored-length}
 use Rattle.work.proofs.FillLaws.{filled, filled-none, filled-more, filled-header, filled-ranged, filled-ports}
 use Rattle.work.proofs.RangeWork.{started-typed}

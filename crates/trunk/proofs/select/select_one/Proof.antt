@@ -6,11 +6,11 @@ use mathlib.Core.Bool.{true, false}
 use mathlib.Core.List.{map}
 use native.Mathlib.Omega.{arith}
 use denote.Ref.{now}
+use Rattle.octets.specs.Octets.{within}
+use Rattle.octets.proofs.RangeLaws.{within-is}
 use Rattle.port.specs.Compared.{compared}
 use Rattle.port.specs.Mux.{detached, placed}
-use Rattle.table.specs.Layout.{within}
 use Rattle.table.specs.Table.{countIn, ports, portAt}
-use Rattle.table.proofs.RangeLaws.{within-is}
 use Rattle.table.proofs.TableLaws.{in-range}
 use Rattle.trunk.specs.Selection.{lowest, ruleOf}
 use Rattle.trunk.specs.Settled.{mustMove, reselected}
