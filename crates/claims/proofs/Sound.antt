@@ -20,6 +20,7 @@ use Rattle.port.specs.Receive.{lined, moved}
 use Rattle.port.specs.Periodic.{periodicRun}
 use Rattle.port.specs.Transmit.{sent, ticked}
 use Rattle.port.specs.Range.{portInRange, portsInRange, ownFits}
+use Rattle.port.proofs.RangeLaws.{attached-ranged, ticked-ranged, periodic-ranged, receive-ranged, received-ranged, lined-ranged, sent-ranged}
 use Rattle.settings.specs.declared.Settings.{Settings}
 use Rattle.settings.specs.Settings.{configured, sameSettings, started, ownOf}
 use Rattle.table.specs.declared.layout.Header.{Header}
@@ -36,10 +37,9 @@ use Rattle.trunk.specs.Displaced.{isDisabled, isDisplaced, displacedIf, displac
 use Rattle.trunk.proofs.SweepLaws.{sweep-length}
 use Rattle.trunk.proofs.SettledLaws.{settled-length}
 use Rattle.trunk.proofs.RestLaws.{settled-twice}
-use Rattle.trunk.proofs.RangeKept.{reselected-ranged, attached-ranged, climbed-ranged, displaced-ranged}
-use Rattle.trunk.proofs.AdvanceRange.{ticked-ranged, periodic-ranged, receive-ranged}
+use Rattle.trunk.proofs.RangeKept.{reselected-ranged, climbed-ranged, displaced-ranged}
+use Rattle.settings.proofs.RangeLaws.{configured-ranged, started-ranged}
 use Rattle.work.specs.Work.{ours, again, worked, afterOne, afterStart, heardAt, afterHeard, afterTick, afterLine, afterSettings, afterSend}
-use Rattle.work.proofs.RangeWork.{received-ranged, lined-ranged, configured-ranged, sent-ranged, started-ranged}
 use Rattle.claims.specs.AtRest.{Resting, AtRest, Sound}
 use Rattle.claims.proofs.Lists.{Each, each-map, each-sweep, each-set, each-alike, each-settled}
 use Rattle.claims.proofs.Parts.{Standing, standing, periodic-standing, reselected-resting, attached-resting, climbed-resting}

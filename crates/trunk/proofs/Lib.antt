@@ -1,6 +1,5 @@
 pub mod SweepLaws
 pub mod RangeKept
-pub mod AdvanceRange
 pub mod TableWork
 pub mod SelectLaws
 pub mod KeepLaws

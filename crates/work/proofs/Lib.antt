@@ -1,3 +1,2 @@
-pub mod RangeWork
 pub mod WorkLaws
 pub mod FillLaws

@@ -7,8 +7,8 @@ use Rattle.port.specs.Range.{ownFits}
 use Rattle.settings.specs.Settings.{sameSettings, configured}
 use Rattle.table.specs.Table.{countIn, portAt}
 use Rattle.trunk.proofs.TableWork.{lies, ranged-at}
+use Rattle.settings.proofs.RangeLaws.{configured-typed}
 use Rattle.work.specs.Work.{afterSettings}
-use Rattle.work.proofs.RangeWork.{configured-typed}
 use Rattle.work.proofs.WorkLaws.{own-typed}
 use borrow.Author.Needs.{needs}
 use Rattle.work.proofs.configure.Statement.{statement}

@@ -5,11 +5,11 @@ use denote.Ref.{now}
 use Rattle.frame.specs.Block.{blockOf}
 use Rattle.frame.specs.Wire.{actorPart, partnerPart}
 use Rattle.frame.proofs.RangeLaws.{part-fits}
+use Rattle.port.proofs.RangeLaws.{received-ranged}
 use Rattle.table.specs.Table.{countIn, portAt}
 use Rattle.table.proofs.TableLaws.{in-range}
 use Rattle.trunk.proofs.TableWork.{lies, ranged-at, stored}
 use Rattle.work.specs.Work.{ours, heardAt}
-use Rattle.work.proofs.RangeWork.{received-ranged}
 use Rattle.work.proofs.WorkLaws.{below-most}
 use borrow.Author.Needs.{needs}
 use Rattle.work.proofs.hear_at.Statement.{statement}

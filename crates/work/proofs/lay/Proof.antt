@@ -11,8 +11,8 @@ use Rattle.port.specs.Range.{ownFits}
 use Rattle.settings.specs.Settings.{started}
 use Rattle.table.specs.Layout.{headerOctets, place, mostPorts}
 use Rattle.table.proofs.StoreLaws.{stored-length}
+use Rattle.settings.proofs.RangeLaws.{started-typed}
 use Rattle.work.proofs.FillLaws.{filled, filled-none, filled-more, filled-header, filled-ranged, filled-ports}
-use Rattle.work.proofs.RangeWork.{started-typed}
 use Rattle.work.proofs.WorkLaws.{own-typed}
 use borrow.Author.Needs.{needs}
 use Rattle.work.proofs.lay.Statement.{statement}

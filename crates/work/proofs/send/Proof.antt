@@ -3,11 +3,11 @@
 use denote.Ref.{now}
 use lib.ListN.{set}
 use Rattle.port.specs.Transmit.{sent}
+use Rattle.port.proofs.RangeLaws.{sent-ranged}
 use Rattle.table.specs.Table.{countIn, portAt, ports}
 use Rattle.trunk.specs.Worked.{Worked}
 use Rattle.trunk.proofs.TableWork.{lies, ranged-at, stored}
 use Rattle.work.specs.Work.{afterSend}
-use Rattle.work.proofs.RangeWork.{sent-ranged}
 use Rattle.work.proofs.WorkLaws.{made-of}
 use borrow.Author.Needs.{needs}
 use Rattle.work.proofs.send.Statement.{statement}

@@ -4,10 +4,10 @@ use mathlib.Core.Bool.{true, false}
 use denote.Ref.{now}
 use Rattle.machine.specs.States.{sameLine}
 use Rattle.port.specs.declared.record.Port.{Port}
+use Rattle.port.proofs.RangeLaws.{lined-ranged}
 use Rattle.table.specs.Table.{countIn, portAt}
 use Rattle.trunk.proofs.TableWork.{lies, ranged-at}
 use Rattle.work.specs.Work.{afterLine}
-use Rattle.work.proofs.RangeWork.{lined-ranged}
 use borrow.Author.Needs.{needs}
 use Rattle.work.proofs.set_line.Statement.{statement}
 use Rattle.work.proofs.set_line.Tie as tie

@@ -5,10 +5,10 @@ use mathlib.Core.Bool.{true, false, not, _&&_}
 use denote.Ref.{now}
 use Rattle.machine.specs.Mux.{waits}
 use Rattle.port.specs.Mux.{attachedIf}
+use Rattle.port.proofs.RangeLaws.{attached-ranged}
 use Rattle.table.specs.Table.{countIn, ports, portAt}
 use Rattle.table.proofs.StoreLaws.{ports-length, ports-at}
 use Rattle.trunk.specs.Ready.{heldBack, ready}
-use Rattle.trunk.proofs.RangeKept.{attached-ranged}
 use Rattle.trunk.proofs.StepLaws.{attach-free, attach-held}
 use Rattle.trunk.proofs.TableWork.{lies, ranged-at, stored, left-alone}
 use borrow.Author.Needs.{needs}
