@@ -18,7 +18,7 @@ use Rattle.machine.specs.declared.states.Line.{Line}
 use Rattle.machine.specs.States.{sameLine}
 use Rattle.port.specs.declared.record.Port.{Port}
 use Rattle.port.specs.Receive.{lined}
-use Rattle.port.specs.Transmit.{sent}
+use Rattle.port.specs.Transmit.{sent, advanced}
 use Rattle.settings.specs.declared.Settings.{Settings}
 use Rattle.settings.specs.Settings.{configured, sameSettings, started}
 use Rattle.table.specs.declared.layout.Header.{Header}
@@ -26,7 +26,6 @@ use Rattle.table.specs.Layout.{headerOf, mostPorts, tableSize}
 use Rattle.table.specs.Table.{countIn, portAt, ports}
 use Rattle.table.proofs.TableLaws.{in-range}
 use Rattle.table.proofs.MadeLaws.{made-count}
-use Rattle.trunk.specs.Advanced.{advanced}
 use Rattle.trunk.specs.Displaced.{displaced}
 use Rattle.trunk.specs.Settled.{settled}
 use Rattle.work.specs.Work.{ours, again, worked, afterOne, afterStart, heardAt, afterHeard, afterTick, afterLine, afterSettings, afterSend}

@@ -21,14 +21,13 @@ use Rattle.port.specs.declared.transmit.Due.{Due}
 use Rattle.port.specs.declared.transmit.Due.the-variants.{Nothing}
 use Rattle.port.specs.Record.{withLine, withNtt, withActor, withOwn, actorBlock}
 use Rattle.port.specs.Receive.{recordDefault, unselected, initialized, portDisabled, current, receiveRun, moved, received, down, lined}
-use Rattle.port.specs.Transmit.{due, sent, silent, quieted, ticked}
+use Rattle.port.specs.Transmit.{due, sent, silent, quieted, ticked, advanced}
 use Rattle.port.specs.Range.{ownFits}
 use Rattle.settings.specs.declared.Settings.{Settings}
 use Rattle.settings.specs.Settings.{ownOf, ownBits, sameGrouping, sameSettings, regrouped, changed, configured}
 use Rattle.table.specs.Record.{decoded}
 use Rattle.table.specs.Table.{countIn, portAt, ports}
 use Rattle.table.proofs.StoreLaws.{ports-length, ports-at}
-use Rattle.trunk.specs.Advanced.{advanced}
 use Rattle.trunk.specs.Displaced.{isDisplaced, displacedIf, displaced}
 use Rattle.trunk.proofs.SweepLaws.{sweep-at}
 use Rattle.trunk.proofs.TableWork.{map-at}

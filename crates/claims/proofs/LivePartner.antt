@@ -26,14 +26,13 @@ use Rattle.port.specs.declared.record.Port.{Port}
 use Rattle.port.specs.Record.{withLine, withNtt, withActor, withOwn}
 use Rattle.port.specs.Receive.{recordPdu, unselected, portDisabled, expired, heard, current}
 use Rattle.port.specs.Receive.{receiveChoice, receiveStep, receiveRun, received, down, lined}
-use Rattle.port.specs.Transmit.{sent, due, ticked}
+use Rattle.port.specs.Transmit.{sent, due, ticked, advanced}
 use Rattle.port.specs.Range.{ownFits}
 use Rattle.settings.specs.declared.Settings.{Settings}
 use Rattle.settings.specs.Settings.{ownOf, ownBits, sameGrouping, sameSettings, regrouped, changed, configured}
 use Rattle.table.specs.Record.{decoded}
 use Rattle.table.specs.Table.{countIn, portAt, ports}
 use Rattle.table.proofs.StoreLaws.{ports-length, ports-at}
-use Rattle.trunk.specs.Advanced.{advanced}
 use Rattle.trunk.specs.Displaced.{isDisplaced, displacedIf, displaced}
 use Rattle.trunk.proofs.SweepLaws.{sweep-at}
 use Rattle.trunk.proofs.TableWork.{map-at}

@@ -15,12 +15,13 @@ use Rattle.frame.specs.Wire.{actorPart, partnerPart}
 use Rattle.frame.proofs.RangeLaws.{part-fits}
 use Rattle.machine.specs.declared.states.Line.{Line}
 use Rattle.machine.specs.States.{sameLine}
+use Rattle.machine.specs.Receive.{isDisabled}
 use Rattle.port.specs.declared.record.Port.{Port}
 use Rattle.port.specs.Receive.{lined, moved}
 use Rattle.port.specs.Periodic.{periodicRun}
-use Rattle.port.specs.Transmit.{sent, ticked}
+use Rattle.port.specs.Transmit.{sent, advanced}
 use Rattle.port.specs.Range.{portInRange, portsInRange, ownFits}
-use Rattle.port.proofs.RangeLaws.{attached-ranged, ticked-ranged, periodic-ranged, receive-ranged, received-ranged, lined-ranged, sent-ranged}
+use Rattle.port.proofs.RangeLaws.{attached-ranged, periodic-ranged, advanced-ranged, received-ranged, lined-ranged, sent-ranged}
 use Rattle.settings.specs.declared.Settings.{Settings}
 use Rattle.settings.specs.Settings.{configured, sameSettings, started, ownOf}
 use Rattle.table.specs.declared.layout.Header.{Header}
@@ -32,8 +33,7 @@ use Rattle.table.proofs.TableLaws.{in-range, in-range-is}
 use Rattle.table.proofs.StoreLaws.{ports-length, ports-at}
 use Rattle.table.proofs.MadeLaws.{ports-ranged-at, ports-ranged, table-ports-ranged, header-fits, made-ports, made-header, made-in-range, made-octets}
 use Rattle.trunk.specs.Settled.{settled}
-use Rattle.trunk.specs.Advanced.{advanced}
-use Rattle.trunk.specs.Displaced.{isDisabled, isDisplaced, displacedIf, displaced}
+use Rattle.trunk.specs.Displaced.{isDisplaced, displacedIf, displaced}
 use Rattle.trunk.proofs.SweepLaws.{sweep-length}
 use Rattle.trunk.proofs.SettledLaws.{settled-length}
 use Rattle.trunk.proofs.RestLaws.{settled-twice}
@@ -167,12 +167,9 @@ module _ (t : List ℕ) (s : Sound t) where
   pub tick-before : Before t (map advanced (ports t))
   tick-before = record {
     size = length-map (ports t) advanced ∙ ports-length t;
-    fits = each-map (Fits (countIn t)) (Fits (countIn t)) advanced (ports t) (λ p h. advanced-fits p h) (table-fits t s);
+    fits = each-map (Fits (countIn t)) (Fits (countIn t)) advanced (ports t) (λ p h. advanced-ranged (countIn t) p h) (table-fits t s);
     stands = each-map Standing Standing advanced (ports t) (λ p h. advanced-standing p h) (table-standing t s);
   }
-    where
-      advanced-fits : (p : Port) → Fits (countIn t) p → Fits (countIn t) (advanced p)
-      advanced-fits p h = unfold advanced in receive-ranged (countIn t) (ticked p) (ticked-ranged (countIn t) p h)
 
   -- one port becomes q
   pub one-before : (i : ℕ) (q : Port) → Fits (countIn t) q → Standing q → Before t (set (ports t) i q)

@@ -18,7 +18,7 @@ use Rattle.machine.specs.declared.receive.ReceiveStep.{ReceiveStep}
 use Rattle.machine.specs.declared.receive.ReceiveStep.the-variants.{Stay, Enter}
 use Rattle.machine.specs.Ages.{agesTicked}
 use Rattle.machine.specs.Compare.{sameParty, sameView}
-use Rattle.machine.specs.Receive.{receiveNext}
+use Rattle.machine.specs.Receive.{receiveNext, isDisabled}
 use Rattle.machine.specs.States.{sameLine}
 use Rattle.machine.specs.Time.{slowPeriodicTime, ranOut, timeoutTime}
 use Rattle.port.specs.declared.record.Port.{Port}
@@ -26,12 +26,10 @@ use Rattle.port.specs.Record.{withLine, withNtt, withActor, withOwn, actorBlock
 use Rattle.port.specs.Receive.{recordDefault, recordPdu, updateSelected, updateDefaultSelected, updateNtt, unselected, initialized, portDisabled, expired, lacpDisabled, defaulted, heard, current}
 use Rattle.port.specs.Receive.{receiveEntered, receiveTaken, receiveChoice, receiveStep, receiveRun, moved, received, down, lined}
 use Rattle.port.specs.Timing.{Timed, usesPace, CurrentTimed}
-use Rattle.port.specs.Transmit.{sent, ticked}
+use Rattle.port.specs.Transmit.{sent, ticked, advanced}
 use Rattle.port.proofs.TimerLaws.{disabled-timed, expired-timed, off-timed, defaulted-timed, current-timed, ticked-timed}
 use Rattle.settings.specs.declared.Settings.{Settings}
 use Rattle.settings.specs.Settings.{ownOf, ownBits, sameGrouping, sameSettings, regrouped, changed, configured, blank, started}
-use Rattle.trunk.specs.Advanced.{advanced}
-use Rattle.trunk.specs.Displaced.{isDisabled}
 use Rattle.claims.specs.AtRest.{goesWith, Resting}
 use Rattle.claims.proofs.Parts.{receivePart, periodicPart, MuxPart, muxPart, ReceiveRests, MuxAgrees, calmPart, Standing, resting-is, standing, calm-rests, rests-calm}
 

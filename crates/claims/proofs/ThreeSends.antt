@@ -25,7 +25,7 @@ use Rattle.machine.specs.Time.{fastPeriodicTime}
 use Rattle.port.specs.declared.record.Port.{Port}
 use Rattle.port.specs.declared.transmit.Due.the-variants as due
 use Rattle.port.specs.Receive.{moved, lined}
-use Rattle.port.specs.Transmit.{due as dueOf, sent}
+use Rattle.port.specs.Transmit.{due as dueOf, sent, advanced}
 use Rattle.port.specs.Range.{ownFits}
 use Rattle.settings.specs.declared.Settings.{Settings}
 use Rattle.settings.specs.Settings.{configured, sameSettings, ownOf, blank, started}
@@ -34,7 +34,6 @@ use Rattle.table.specs.Layout.{mostPorts}
 use Rattle.table.specs.Record.{decoded}
 use Rattle.table.specs.Table.{tableInRange, countIn, portAt, ports}
 use Rattle.table.proofs.StoreLaws.{ports-length, ports-at}
-use Rattle.trunk.specs.Advanced.{advanced}
 use Rattle.trunk.specs.Displaced.{isDisplaced, displacedIf, displaced}
 use Rattle.trunk.proofs.SweepLaws.{sweep-at}
 use Rattle.trunk.proofs.TableWork.{map-at}

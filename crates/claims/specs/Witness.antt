@@ -15,7 +15,7 @@ use Rattle.frame.specs.Class.{classOf}
 use Rattle.frame.specs.Wire.{zeros, actorPart, partnerPart}
 use Rattle.machine.specs.Ages.{ages}
 use Rattle.machine.specs.Bits.{alike}
-use Rattle.machine.specs.Mux.{isAttached, collects, distributes}
+use Rattle.machine.specs.Mux.{isAttached, collects, distributes, isUnselected}
 use Rattle.port.specs.declared.record.Port.{Port}
 use Rattle.port.specs.Compared.{compared}
 use Rattle.port.specs.Receive.{receiveRun}
@@ -25,7 +25,6 @@ use Rattle.table.specs.Layout.{tableSize}
 use Rattle.table.specs.Record.{encoded}
 use Rattle.table.specs.Table.{ports, portAt, tableInRange}
 use Rattle.trunk.specs.Selection.{sharesGroup, ruleOf}
-use Rattle.trunk.specs.Settled.{isUnselected}
 use Rattle.work.specs.Work.{ours, worked, again}
 use Rattle.control.specs.Answer.{answerNumber}
 use Rattle.control.specs.Call.{Call, start, receive, tick, line, configure, fetch}

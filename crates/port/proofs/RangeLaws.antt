@@ -42,7 +42,7 @@ use Rattle.port.specs.Periodic.{periodicEntered, periodicTaken, periodic
 use Rattle.port.specs.Receive.{recordDefault, recordPdu, updateSelected, updateDefaultSelected, updateNtt, unselected}
 use Rattle.port.specs.Receive.{initialized, portDisabled, expired, lacpDisabled, defaulted, heard, current, moved, received, down, lined}
 use Rattle.port.specs.Receive.{receiveTaken, receiveChoice, receiveStep, receiveRun}
-use Rattle.port.specs.Transmit.{sent, silent, quieted, ticked}
+use Rattle.port.specs.Transmit.{sent, silent, quieted, ticked, advanced}
 
 -- ---- timers and ages
 
@@ -365,6 +365,10 @@ module _ (count : ℕ) where
   receive-ranged p e =
       let q = receiveTaken (receiveChoice p) p in
       receive-taken (receiveChoice q) q (receive-taken (receiveChoice p) p e)
+
+  pub advanced-ranged : (p : Port) → portInRange count p ≡ true → portInRange count (advanced p) ≡ true
+  unfolding advanced
+  advanced-ranged p e = receive-ranged (ticked p) (ticked-ranged p e)
 
   pub moved-ranged : (p : Port) → portInRange count p ≡ true → portInRange count (moved p) ≡ true
   unfolding moved portDisabled initialized recordDefault blockFits

@@ -12,6 +12,7 @@ use Rattle.machine.specs.States.{silentOn}
 use Rattle.machine.specs.Time.{timersFallen}
 use Rattle.machine.specs.Ages.{sentAges, barred, agesTicked}
 use Rattle.port.specs.Periodic.{bothPassive}
+use Rattle.port.specs.Receive.{receiveRun}
 
 -- R2.10, then R2.11, then an LACPDU is due
 unfoldable pub due : Port → Due
@@ -31,3 +32,7 @@ quieted p = cond (silent p) (withNtt p false) p
 -- step 1 of a tick (R4.1): timers and ages of sends
 unfoldable pub ticked : Port → Port
 ticked p = withAges (withTimers p (timersFallen (p .timers))) (agesTicked (p .ages))
+
+-- what a tick does to one port in steps 1 and 2, but for its periodic machine
+unfoldable pub advanced : Port → Port
+advanced p = receiveRun (ticked p)

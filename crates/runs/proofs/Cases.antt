@@ -4,11 +4,10 @@ use Rattle.machine.specs.Compare.{sameAddress, sameSystem, sameNumbers, samePar
 use Rattle.port.specs.Receive.{recordDefault, recordPdu, updateSelected, updateDefaultSelected, updateNtt, initialized, portDisabled, expired}
 use Rattle.port.specs.Receive.{lacpDisabled, defaulted, heard, current, moved, received, receiveChoice, receiveStep, receiveRun, lined}
 use Rattle.port.specs.Periodic.{periodicChoice, periodicStep, periodicRun}
-use Rattle.port.specs.Transmit.{silent, quieted, ticked}
+use Rattle.port.specs.Transmit.{silent, quieted, ticked, advanced}
 use Rattle.port.specs.Mux.{muxChoice, muxStep, detached, placed, attachedIf, muxRun}
 use Rattle.port.specs.Range.{timersInRange, agesInRange, valuesInRange}
 use Rattle.settings.specs.Settings.{lawful, blank, started as Settings·started}
-use Rattle.trunk.specs.Advanced.{advanced}
 use Rattle.trunk.specs.Selection.{individual, sameKeys, sameGroup, joins, firstFrom, lowest, ruleOf}
 use Rattle.trunk.specs.Ready.{waitsFor, hasWaiting, holdsBack, heldBack, ready}
 use Rattle.trunk.specs.Settled.{mapFrom, mustMove, reselected, selectedAll, attachedAll, climbed, settled}

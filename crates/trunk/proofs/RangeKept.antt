@@ -1,4 +1,4 @@
--- Steps 3 to 6, displacement and a tick keep a record in range: their parts do, by port's laws. Assumes nothing.
+-- Steps 3 to 6 and displacement keep a record in range: their parts do, by port's laws. Assumes nothing.
 use Prim.Native.Nat.{ℕ}
 use mathlib.Core.Path.{_≡_}
 use mathlib.Core.Bool.{true, not, _&&_}
@@ -8,12 +8,10 @@ use Rattle.frame.specs.declared.block.Block.{Block}
 use Rattle.port.specs.declared.record.Port.{Port}
 use Rattle.port.specs.Mux.{detached, placed, muxRun}
 use Rattle.port.specs.Receive.{moved}
-use Rattle.port.specs.Transmit.{ticked}
 use Rattle.port.specs.Range.{portInRange}
-use Rattle.port.proofs.RangeLaws.{if-ranged, detached-ranged, placed-ranged, mux-ranged, quieted-ranged, ticked-ranged, receive-ranged, moved-ranged}
+use Rattle.port.proofs.RangeLaws.{if-ranged, detached-ranged, placed-ranged, mux-ranged, quieted-ranged, moved-ranged}
 use Rattle.trunk.specs.Settled.{mustMove, reselected, climbed}
 use Rattle.trunk.specs.Displaced.{displacedIf, isDisplaced}
-use Rattle.trunk.specs.Advanced.{advanced}
 
 module _ (count : ℕ) where
   pub reselected-ranged : (k : ℕ) (p : Port) → within 1 k count ≡ true → portInRange count p ≡ true → portInRange count (reselected k p) ≡ true
@@ -27,7 +25,3 @@ module _ (count : ℕ) where
   pub displaced-ranged : (r : ℕ) (a : Block) (i : ℕ) (p : Port) → portInRange count p ≡ true → portInRange count (displacedIf r a i p) ≡ true
   unfolding displacedIf
   displaced-ranged r a i p e = if-ranged count (not (eqb i r) && isDisplaced a p) (moved p) p (moved-ranged count p e) e
-
-  pub advanced-ranged : (p : Port) → portInRange count p ≡ true → portInRange count (advanced p) ≡ true
-  unfolding advanced
-  advanced-ranged p e = receive-ranged count (ticked p) (ticked-ranged count p e)

@@ -10,7 +10,7 @@ use lib.Dec.{eqb}
 use borrow.Author.Tests.{eqb-true, eq-eqb, not-false}
 use Rattle.machine.specs.declared.states.Selection.{Selection}
 use Rattle.machine.specs.declared.states.Selection.the-variants.{Unselected, Selected}
-use Rattle.machine.specs.Mux.{waits}
+use Rattle.machine.specs.Mux.{waits, isUnselected}
 use Rattle.port.specs.declared.record.Port.{Port}
 use Rattle.port.specs.Compared.{compared}
 use Rattle.port.specs.Mux.{detached, placed, attachedIf, muxRun}
@@ -19,7 +19,7 @@ use Rattle.port.proofs.TransmitLaws.{quieted-keeps}
 use Rattle.table.specs.declared.layout.Header.{Header}
 use Rattle.trunk.specs.Selection.{sharesGroup, ruleOf}
 use Rattle.trunk.specs.Ready.{ready}
-use Rattle.trunk.specs.Settled.{mapFrom, isUnselected, mustMove, reselected, selecting, selectedAll, attaching, attachedAll, climbed, settled, Chosen}
+use Rattle.trunk.specs.Settled.{mapFrom, mustMove, reselected, selecting, selectedAll, attaching, attachedAll, climbed, settled, Chosen}
 use Rattle.trunk.proofs.SweepLaws.{doneTo, each, sweep-length, sweep-at, sweep-keeps, sweep-map}
 use Rattle.trunk.proofs.TableWork.{map-at}
 use Rattle.trunk.proofs.KeepLaws.{reselected-compared, attached-compared, climbed-compared}

@@ -3,5 +3,4 @@ pub mod Ready
 pub mod Settled
 pub mod Displaced
 pub mod Worked
-pub mod Advanced
 pub mod Sweep

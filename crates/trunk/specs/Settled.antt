@@ -2,11 +2,11 @@
 use Prim.Native.Nat.{ℕ, _+_, _<_}
 use mathlib.Core.Path.{_≡_}
 use lib.ListN.{length, getD}
-use mathlib.Core.Bool.{Bool, true, false, cond, not, _||_}
+use mathlib.Core.Bool.{Bool, cond, not, _||_}
 use mathlib.Core.List.{List, [], _∷_, map}
 use lib.Dec.{eqb}
-use Rattle.machine.specs.declared.states.Selection.{Selection}
-use Rattle.machine.specs.declared.states.Selection.the-variants.{Unselected, Selected}
+use Rattle.machine.specs.declared.states.Selection.the-variants.{Selected}
+use Rattle.machine.specs.Mux.{isUnselected}
 use Rattle.port.specs.declared.record.Port.{Port}
 use Rattle.port.specs.Compared.{compared}
 use Rattle.port.specs.Mux.{detached, placed, attachedIf, muxRun}
@@ -19,10 +19,6 @@ use Rattle.trunk.specs.Ready.{ready}
 unfoldable pub mapFrom : (ℕ → Port → Port) → ℕ → List Port → List Port
 mapFrom f i [] = []
 mapFrom f i (p ∷ ps) = f i p ∷ mapFrom f (i + 1) ps
-
-abbrev pub isUnselected : Selection → Bool
-isUnselected Unselected = true
-isUnselected Selected = false
 
 -- UNSELECTED, or the aggregator k that the rule gives is not what it holds
 unfoldable pub mustMove : ℕ → Port → Bool

@@ -3,9 +3,9 @@ use Prim.Native.Nat.{ℕ}
 use mathlib.Core.List.{List}
 use Rattle.port.specs.declared.record.Port.{Port}
 use Rattle.port.specs.Periodic.{periodicRun}
+use Rattle.port.specs.Transmit.{advanced}
 use Rattle.trunk.specs.declared.sweep.Step.{Step}
 use Rattle.trunk.specs.declared.sweep.Step.the-variants.{Tick, Periodic, Mux, Displaced}
-use Rattle.trunk.specs.Advanced.{advanced}
 use Rattle.trunk.specs.Displaced.{displacedIf}
 use Rattle.trunk.specs.Settled.{mapFrom, climbed}
 

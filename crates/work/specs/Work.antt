@@ -12,13 +12,12 @@ use Rattle.port.specs.declared.record.Port.{Port}
 use Rattle.port.specs.Record.{actorBlock}
 use Rattle.port.specs.Receive.{received, lined}
 use Rattle.port.specs.Periodic.{periodicRun}
-use Rattle.port.specs.Transmit.{sent}
+use Rattle.port.specs.Transmit.{sent, advanced}
 use Rattle.settings.specs.declared.Settings.{Settings}
 use Rattle.settings.specs.Settings.{configured, sameSettings, started}
 use Rattle.table.specs.declared.layout.Header.{Header}
 use Rattle.table.specs.Layout.{headerOf}
 use Rattle.table.specs.Table.{portAt, ports, tableOctets}
-use Rattle.trunk.specs.Advanced.{advanced}
 use Rattle.trunk.specs.Settled.{settled}
 use Rattle.trunk.specs.Displaced.{displaced}
 

@@ -1,5 +1,5 @@
 -- `work::advance` meets its contract: a tick of all ports, then the rest of the work. Assumes nothing.
-use Rattle.trunk.specs.Advanced.{advanced}
+use Rattle.port.specs.Transmit.{advanced}
 use Rattle.trunk.proofs.SweepLaws.{sweep-map}
 use Rattle.trunk.proofs.TableWork.{then, said}
 use Rattle.work.specs.Work.{worked, afterTick}

@@ -6,11 +6,12 @@ use mathlib.Core.Bool.{true, false, not, _&&_, and-false}
 use lib.Dec.{eqb}
 use denote.Ref.{now}
 use Rattle.frame.specs.declared.block.Block.{Block}
+use Rattle.machine.specs.Receive.{isDisabled}
 use Rattle.port.specs.declared.record.Port.{Port}
 use Rattle.port.specs.Receive.{moved}
 use Rattle.table.specs.Table.{countIn, portAt}
 use Rattle.trunk.proofs.TableWork.{lies, ranged-at, stored, left-alone}
-use Rattle.trunk.specs.Displaced.{isDisabled, isDisplaced, displacedIf}
+use Rattle.trunk.specs.Displaced.{isDisplaced, displacedIf}
 use Rattle.trunk.proofs.RangeKept.{displaced-ranged}
 use borrow.Author.Needs.{needs}
 use Rattle.trunk.proofs.displace.displace_one.Statement.{statement}

@@ -3,11 +3,10 @@
 use mathlib.Core.Path.{ap, _∙_}
 use Rattle.port.specs.Receive.{receiveRun}
 use Rattle.port.specs.Periodic.{periodicRun}
-use Rattle.port.specs.Transmit.{quieted}
-use Rattle.port.proofs.RangeLaws.{periodic-ranged}
-use Rattle.trunk.specs.Advanced.{advanced}
+use Rattle.port.specs.Transmit.{quieted, advanced}
+use Rattle.port.proofs.RangeLaws.{periodic-ranged, advanced-ranged}
 use Rattle.trunk.specs.Settled.{climbed}
-use Rattle.trunk.proofs.RangeKept.{climbed-ranged, advanced-ranged}
+use Rattle.trunk.proofs.RangeKept.{climbed-ranged}
 use Rattle.trunk.proofs.TableWork.{lies, changed-at}
 use borrow.Author.Needs.{needs}
 use Rattle.trunk.proofs.sweep.step_one.Statement.{statement}
