@@ -9,6 +9,7 @@ use lib.ListN.{length, getD, set, length-map, length-set}
 use lib.Seq.{getD-set-other}
 use lib.Dec.{eqb}
 use borrow.Author.Tests.{eqb-false}
+use Rattle.octets.proofs.ListLaws.{map-at, sweep-at}
 use Rattle.frame.specs.declared.block.Block.{Block}
 use Rattle.frame.specs.Block.{blockOf}
 use Rattle.frame.specs.Wire.{actorPart}
@@ -28,8 +29,6 @@ use Rattle.table.specs.Table.{countIn, portAt, ports}
 use Rattle.table.proofs.StoreLaws.{ports-length, ports-at}
 use Rattle.trunk.specs.Selection.{sharesGroup}
 use Rattle.trunk.specs.Displaced.{isDisplaced, displacedIf, displaced}
-use Rattle.trunk.proofs.SweepLaws.{sweep-at}
-use Rattle.trunk.proofs.TableWork.{map-at}
 use Rattle.trunk.proofs.GroupLaws.{shares-refl}
 use Rattle.trunk.proofs.SettledLaws.{settled-compares}
 use Rattle.trunk.proofs.DependLaws.{settled-reach}

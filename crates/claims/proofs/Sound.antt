@@ -7,6 +7,8 @@ use mathlib.Core.List.{List, [], map}
 use native.Mathlib.Omega.{arith}
 use lib.ListN.{length, getD, set, replicate, length-map, length-set, length-replicate}
 use lib.Dec.{eqb}
+use Rattle.octets.specs.Lists.{Each}
+use Rattle.octets.proofs.ListLaws.{sweep-length, each-map, each-sweep, each-set, each-alike}
 use Rattle.frame.specs.declared.block.Block.{Block}
 use Rattle.frame.specs.Block.{blockOf}
 use Rattle.frame.specs.Wire.{actorPart, partnerPart}
@@ -30,7 +32,7 @@ use Rattle.table.proofs.MadeLaws.{ports-ranged-at, ports-ranged, table-ports-ra
 use Rattle.trunk.specs.Settled.{settled}
 use Rattle.trunk.specs.Advanced.{advanced}
 use Rattle.trunk.specs.Displaced.{isDisabled, isDisplaced, displacedIf, displaced}
-use Rattle.trunk.proofs.SweepLaws.{sweep-length}
+use Rattle.trunk.proofs.EachLaws.{each-settled}
 use Rattle.trunk.proofs.SettledLaws.{settled-length}
 use Rattle.trunk.proofs.RestLaws.{settled-twice}
 use Rattle.trunk.proofs.RangeKept.{reselected-ranged, attached-ranged, climbed-ranged, displaced-ranged}
@@ -39,7 +41,6 @@ use Rattle.work.specs.Work.{ours, again, worked, afterOne, afterStart, heardAt,
 use Rattle.work.proofs.RangeWork.{part-fits, received-ranged, lined-ranged, configured-ranged, sent-ranged, started-ranged}
 use Rattle.claims.specs.Run.{Octets}
 use Rattle.claims.specs.AtRest.{Resting, AtRest, Sound}
-use Rattle.claims.proofs.Lists.{Each, each-map, each-sweep, each-set, each-alike, each-settled}
 use Rattle.claims.proofs.Parts.{Standing, standing, periodic-standing, reselected-resting, attached-resting, climbed-resting}
 use Rattle.claims.proofs.Steps.{advanced-standing, received-standing, moved-standing, disabled-down, lined-standing, configured-standing, sent-resting, started-resting}
 use Rattle.claims.proofs.Settles.{Settles, settles, settles-is, sent-settles}

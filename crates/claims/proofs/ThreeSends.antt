@@ -10,6 +10,7 @@ use native.Mathlib.Nat.{zero-add}
 use lib.Seq.{getD-append-seam}
 use lib.Dec.{eqb, ltb, leb}
 use borrow.Author.Tests.{eqb-true, eqb-false, eq-eqb, leb-true, leb-false, le-ltb}
+use Rattle.octets.proofs.ListLaws.{map-at, sweep-at, each-alike}
 use Rattle.frame.specs.declared.block.Block.{Block}
 use Rattle.frame.specs.declared.block.SystemId.{SystemId}
 use Rattle.frame.specs.declared.wire.TensOfMicroseconds.{TensOfMicroseconds}
@@ -35,8 +36,6 @@ use Rattle.table.proofs.RangeLaws.{within-true, within-is}
 use Rattle.table.proofs.StoreLaws.{ports-length, ports-at}
 use Rattle.trunk.specs.Advanced.{advanced}
 use Rattle.trunk.specs.Displaced.{isDisplaced, displacedIf, displaced}
-use Rattle.trunk.proofs.SweepLaws.{sweep-at}
-use Rattle.trunk.proofs.TableWork.{map-at}
 use Rattle.work.specs.Work.{ours, again, worked, afterOne, afterStart, heardAt, afterHeard, afterTick, afterLine, afterSettings, afterSend}
 use Rattle.control.specs.declared.answer.Answer.{Answer}
 use Rattle.control.specs.declared.answer.Answer.the-variants.{Done, Lacpdu, Marker, Refused}
@@ -47,7 +46,6 @@ use Rattle.control.specs.After.{answer, afterFrame, changedBy, unless, after}
 use Rattle.claims.specs.Run.{Octets, Takes, AllTake, accepted, run, Made}
 use Rattle.claims.specs.AtRest.{Sound}
 use Rattle.claims.specs.ThreeSends.{sendsBy, sends, sendsOf, recent, ThreeSends, ticksIn, NoneStarts, FourSendsApart}
-use Rattle.claims.proofs.Lists.{each-alike}
 use Rattle.claims.proofs.Steps.{advanced-ages, received-ages, moved-ages, lined-ages, configured-ages}
 use Rattle.claims.proofs.Sound.{Before, in-ports, tick-before, line-before, settings-before, heard-before, send-ports, start-ports}
 use Rattle.claims.proofs.Calls.{OnPort, on-port, named, heard-on, after-accepted, started-sound, call-sound, never-stuck}

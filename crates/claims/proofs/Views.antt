@@ -8,6 +8,7 @@ use lib.ListN.{length, getD, set, length-map}
 use lib.Seq.{getD-set-same}
 use lib.Dec.{eqb}
 use borrow.Author.Tests.{eqb-true}
+use Rattle.octets.proofs.ListLaws.{map-at}
 use Rattle.port.specs.declared.record.Port.{Port}
 use Rattle.port.specs.Compared.{compared}
 use Rattle.port.specs.Mux.{attachedIf}
@@ -19,7 +20,6 @@ use Rattle.table.specs.Table.{countIn, portAt, ports}
 use Rattle.trunk.specs.Selection.{ruleOf}
 use Rattle.trunk.specs.Ready.{ready}
 use Rattle.trunk.specs.Settled.{selectedAll, settled}
-use Rattle.trunk.proofs.TableWork.{map-at}
 use Rattle.trunk.proofs.SettledLaws.{settled-at, selected-at}
 use Rattle.work.specs.Work.{ours, again, worked}
 use Rattle.claims.specs.AtRest.{Sound}

@@ -7,6 +7,7 @@ use native.Mathlib.Omega.{arith}
 use lib.Dec.{ltb}
 use lib.Count.{ones, onesIn, trailingZeros}
 use borrow.Author.Tests.{ltb-true}
+use Rattle.octets.specs.Lists.{mapFrom}
 use Rattle.machine.specs.Compare.{sameAddress, sameSystem, sameNumbers, sameParty, sameView, maintained, inSync, sameState, sameBlock}
 use Rattle.port.specs.Receive.{recordDefault, recordPdu, updateSelected, updateDefaultSelected, updateNtt, initialized, portDisabled, expired}
 use Rattle.port.specs.Receive.{lacpDisabled, defaulted, heard, current, moved, received, receiveChoice, receiveStep, receiveRun, lined}
@@ -17,7 +18,7 @@ use Rattle.settings.specs.Settings.{sameGrouping, sameSettings, regrouped, chan
 use Rattle.trunk.specs.Advanced.{advanced}
 use Rattle.trunk.specs.Selection.{individual, sameKeys, sameGroup, joins, sharesGroup, firstFrom, lowest, ruleOf}
 use Rattle.trunk.specs.Ready.{waitsFor, hasWaiting, holdsBack, heldBack, ready}
-use Rattle.trunk.specs.Settled.{mapFrom, mustMove, reselected, selectedAll, attachedAll, climbed, settled}
+use Rattle.trunk.specs.Settled.{mustMove, reselected, selectedAll, attachedAll, climbed, settled}
 use Rattle.trunk.specs.Displaced.{isDisplaced, displacedIf, displaced}
 use Rattle.octets.specs.Octets.{sameOctets}
 use Rattle.frame.specs.Class.{foreign, unknown, wrongLength, wrongMarkerType, illegal, classOf}

@@ -1,10 +1,10 @@
 -- What every call leaves: each port's machines are at rest in the states that go with its link and duplex, and steps 3 to 6 (R4) change
 -- nothing.
-use Prim.Native.Nat.{ℕ, _<_}
+use Prim.Native.Nat.{ℕ}
 use mathlib.Core.Path.{_≡_}
 use mathlib.Core.Bool.{Bool, true, false, not, _&&_}
 use mathlib.Core.List.{List}
-use lib.ListN.{length, getD}
+use Rattle.octets.specs.Lists.{Each}
 use Rattle.machine.specs.declared.states.Line.{Line}
 use Rattle.machine.specs.declared.states.Receive.{Receive}
 use Rattle.machine.specs.declared.states.Receive.the-variants.{Initialize, PortDisabled, Expired, LacpDisabled, Defaulted, Current}
@@ -49,7 +49,7 @@ pub record Resting (p : Port) : Type 0 where
   pub wait : WaitTimed p
 
 pub record AtRest (ours : Header) (ps : List Port) : Type 0 where
-  pub each : (i : ℕ) (d : Port) → i < length ps → Resting (getD ps i d)
+  pub each : Each Resting ps
   pub together : settled ours ps ≡ ps
 
 -- a table that no call refuses with answer 1, of octets, at rest

@@ -1,5 +1,6 @@
 -- Two systems joined by two links, by computation. Assumes nothing.
 use mathlib.Core.Path.{refl}
+use Rattle.octets.specs.Lists.{mapFrom}
 use Rattle.machine.specs.Compare.{sameAddress, sameSystem, sameNumbers, sameParty, sameView, maintained, inSync}
 use Rattle.port.specs.Receive.{recordDefault, recordPdu, updateSelected, updateDefaultSelected, updateNtt, initialized, portDisabled, expired}
 use Rattle.port.specs.Receive.{lacpDisabled, defaulted, heard, current, moved, received, receiveChoice, receiveStep, receiveRun, lined}
@@ -10,7 +11,7 @@ use Rattle.settings.specs.Settings.{lawful, blank, started as Settings·started
 use Rattle.trunk.specs.Advanced.{advanced}
 use Rattle.trunk.specs.Selection.{individual, sameKeys, sameGroup, joins, firstFrom, lowest, ruleOf}
 use Rattle.trunk.specs.Ready.{waitsFor, hasWaiting, holdsBack, heldBack, ready}
-use Rattle.trunk.specs.Settled.{mapFrom, mustMove, reselected, selectedAll, attachedAll, climbed, settled}
+use Rattle.trunk.specs.Settled.{mustMove, reselected, selectedAll, attachedAll, climbed, settled}
 use Rattle.trunk.specs.Displaced.{isDisplaced, displacedIf, displaced}
 use Rattle.octets.specs.Octets.{sameOctets}
 use Rattle.frame.specs.Class.{foreign, unknown, wrongLength, wrongMarkerType, illegal, classOf}

@@ -1,4 +1,3 @@
-pub mod SweepLaws
 pub mod RangeKept
 pub mod AdvanceRange
 pub mod TableWork
@@ -8,5 +7,6 @@ pub mod ReadyLaws
 pub mod GroupLaws
 pub mod SettledLaws
 pub mod StepLaws
+pub mod EachLaws
 pub mod RestLaws
 pub mod DependLaws

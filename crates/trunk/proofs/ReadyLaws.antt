@@ -8,6 +8,8 @@ use native.Mathlib.Omega.{arith}
 use lib.ListN.{length, getD}
 use lib.Dec.{ltb, eqb}
 use borrow.Author.Tests.{eqb-true, eq-eqb, not-true, ltb-true}
+use Rattle.octets.specs.Lists.{mapFrom}
+use Rattle.octets.proofs.ListLaws.{below, doneTo, each, done-length, done-next}
 use Rattle.machine.specs.declared.states.Mux.{Mux}
 use Rattle.machine.specs.declared.states.Mux.the-variants.{Detached, Waiting, Attached, Collecting, Distributing}
 use Rattle.machine.specs.declared.states.Selection.{Selection}
@@ -18,8 +20,7 @@ use Rattle.port.specs.declared.record.Port.{Port}
 use Rattle.port.specs.Record.{withAggregator, withWait, withMux, withSelected}
 use Rattle.port.specs.Mux.{muxEntered, muxTaken, muxChoice, muxStep, attachedIf}
 use Rattle.trunk.specs.Ready.{waitsFor, hasWaiting, holdsBack, heldBack, ready}
-use Rattle.trunk.specs.Settled.{mapFrom, attaching, Chosen}
-use Rattle.trunk.proofs.SweepLaws.{below, doneTo, each, done-length, done-next}
+use Rattle.trunk.specs.Settled.{attaching, Chosen}
 
 -- ---- one port
 

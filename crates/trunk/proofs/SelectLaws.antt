@@ -5,6 +5,7 @@ use mathlib.Core.Bool.{Bool, true, false, cond}
 use mathlib.Core.List.{List, map}
 use native.Mathlib.Omega.{arith}
 use native.Mathlib.Nat.{sub-zero}
+use Rattle.octets.proofs.ListLaws.{doneTo, done-keeps}
 use Rattle.port.specs.Compared.{Compared, compared}
 use Rattle.table.specs.declared.layout.Header.{Header}
 use Rattle.table.specs.Table.{countIn, ports, portAt}
@@ -14,7 +15,6 @@ use Rattle.port.specs.Mux.{detached, placed}
 use Rattle.trunk.specs.Selection.{ruleOf}
 use Rattle.trunk.specs.Settled.{mustMove, reselected, selecting}
 use Rattle.trunk.specs.Worked.{Worked}
-use Rattle.trunk.proofs.SweepLaws.{doneTo, done-keeps}
 use Rattle.trunk.proofs.TableWork.{map-port-at, next-is}
 use Rattle.trunk.proofs.KeepLaws.{reselected-compared}
 

@@ -6,6 +6,7 @@ use mathlib.Core.List.{List}
 use native.Mathlib.Omega.{arith}
 use lib.ListN.{length, getD, drop}
 use lib.Seq.{drop-cons, drop-length}
+use Rattle.octets.proofs.ListLaws.{doneTo, each}
 use Rattle.machine.specs.Mux.{waits}
 use Rattle.port.specs.declared.record.Port.{Port}
 use Rattle.port.specs.Mux.{attachedIf}
@@ -15,7 +16,6 @@ use Rattle.table.proofs.StoreLaws.{ports-length, ports-at}
 use Rattle.trunk.specs.Ready.{hasWaiting, holdsBack, heldBack, ready}
 use Rattle.trunk.specs.Settled.{selectedAll, attaching, Chosen, AllChosen}
 use Rattle.trunk.specs.Worked.{Worked}
-use Rattle.trunk.proofs.SweepLaws.{doneTo, each}
 use Rattle.trunk.proofs.TableWork.{next-is}
 use Rattle.trunk.proofs.SettledLaws.{selected-chosen, selected-length}
 use Rattle.trunk.proofs.ReadyLaws.{attached-other, attached-stays, some-waits, waits-own, ready-meanwhile}

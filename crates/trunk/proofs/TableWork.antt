@@ -1,12 +1,13 @@
 -- Work on the lent memory, record by record: what a store leaves, and pieces of work one after the other. Assumes nothing.
-use Prim.Native.Nat.{ℕ, suc, zero, _<_, _≤_, _+_}
+use Prim.Native.Nat.{ℕ, _<_, _≤_, _+_}
 use mathlib.Core.Path.{_≡_, refl, sym, ap, _∙_}
 use mathlib.Core.Bool.{Bool, true}
-use mathlib.Core.List.{List, [], _∷_, map}
-use native.Mathlib.Omega.{arith}
+use mathlib.Core.List.{List, map}
 use lib.ListN.{length, getD, set}
 use lib.Seq.{set-getD}
+use Rattle.octets.specs.Lists.{mapFrom}
 use Rattle.octets.specs.Octets.{putAt}
+use Rattle.octets.proofs.ListLaws.{map-at, doneTo, done-next, done-none, done-more, done-all}
 use Rattle.frame.proofs.BlockLaws.{Octets}
 use Rattle.port.specs.declared.record.Port.{Port}
 use Rattle.table.specs.declared.layout.Header.{Header}
@@ -17,9 +18,7 @@ use Rattle.table.specs.Table.{tableInRange, InTable, countIn, ports, portAt}
 use Rattle.table.proofs.RecordLaws.{port-back}
 use Rattle.table.proofs.StoreLaws.{ports-length, ports-at, stored-length, stored-header, stored-ports}
 use Rattle.table.proofs.TableLaws.{InRange, in-range, in-range-is, inside, port-in-range, stored-in-range}
-use Rattle.trunk.specs.Settled.{mapFrom}
 use Rattle.trunk.specs.Worked.{Worked, Became}
-use Rattle.trunk.proofs.SweepLaws.{doneTo, done-next, done-none, done-more, done-all}
 
 -- record i lies within a table in range
 pub room : (t : List ℕ) → tableInRange t ≡ true → (i : ℕ) → i < countIn t → place i + recordSize ≤ length t
@@ -73,12 +72,7 @@ then a b = record { header = b .header ∙ a .header; size = b .size ∙ a .size
 pub count-kept : {t u : List ℕ} {ps : List Port} → Worked t u ps → countIn u ≡ countIn t
 count-kept a = ap (λ (h : Header). h .count) (a .header)
 
--- what a list's projection holds at an index
-pub map-at : {A : Type 0} (g : Port → A) (ps : List Port) (i : ℕ) (a : A) (d : Port) → i < length ps → getD (map g ps) i a ≡ g (getD ps i d)
-map-at g [] i a d h = absurd (omega arith)
-map-at g (p ∷ ps) zero a d h = refl
-map-at g (p ∷ ps) (suc i) a d h = map-at g ps i a d (omega arith)
-
+-- what a projection of the records holds at an index
 pub map-port-at : {A : Type 0} (g : Port → A) (t : List ℕ) (i : ℕ) (a : A) → i < countIn t → getD (map g (ports t)) i a ≡ g (portAt t i)
 map-port-at g t i a h =
     map-at g (ports t) i a (portAt t i) (rw ports-length h) ∙ ap g (ports-at t i (portAt t i) h)

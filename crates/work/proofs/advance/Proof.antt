@@ -1,6 +1,6 @@
 -- `work::advance` meets its contract: a tick of all ports, then the rest of the work. Assumes nothing.
+use Rattle.octets.proofs.ListLaws.{sweep-map}
 use Rattle.trunk.specs.Advanced.{advanced}
-use Rattle.trunk.proofs.SweepLaws.{sweep-map}
 use Rattle.trunk.proofs.TableWork.{then, said}
 use Rattle.work.specs.Work.{worked, afterTick}
 use Rattle.work.proofs.WorkLaws.{made-of}

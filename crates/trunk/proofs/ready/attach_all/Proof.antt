@@ -7,7 +7,7 @@ use Rattle.table.specs.Table.{countIn, ports}
 use Rattle.table.proofs.TableLaws.{in-range}
 use Rattle.trunk.specs.Settled.{attaching, attachedAll}
 use Rattle.trunk.specs.Worked.{Worked}
-use Rattle.trunk.proofs.SweepLaws.{doneTo, each, sweep-map}
+use Rattle.octets.proofs.ListLaws.{doneTo, each, sweep-map}
 use Rattle.trunk.proofs.StepLaws.{still-chosen, attach-same}
 use Rattle.trunk.proofs.TableWork.{loop-begins, loop-ends, in-table, turn, said}
 use Rattle.trunk.proofs.ready.attach_all.Statement.{statement}

@@ -7,7 +7,7 @@ use Rattle.table.specs.declared.layout.Header.{Header}
 use Rattle.table.specs.Table.{ports}
 use Rattle.table.proofs.TableLaws.{in-range}
 use Rattle.trunk.specs.Settled.{selectedAll, attachedAll, climbed, settled}
-use Rattle.trunk.proofs.SweepLaws.{sweep-map}
+use Rattle.octets.proofs.ListLaws.{sweep-map}
 use Rattle.trunk.proofs.StepLaws.{all-chosen}
 use Rattle.trunk.proofs.TableWork.{then, said}
 use borrow.Author.Needs.{needs}

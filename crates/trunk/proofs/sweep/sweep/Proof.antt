@@ -7,7 +7,7 @@ use Rattle.table.specs.Table.{countIn, ports}
 use Rattle.table.proofs.TableLaws.{in-range}
 use Rattle.trunk.specs.Sweep.{stepped}
 use Rattle.trunk.specs.Worked.{Worked}
-use Rattle.trunk.proofs.SweepLaws.{doneTo}
+use Rattle.octets.proofs.ListLaws.{doneTo}
 use Rattle.trunk.proofs.TableWork.{loop-begins, loop-ends, in-table, next-is, turn}
 use Rattle.trunk.proofs.sweep.sweep.Statement.{statement}
 use Rattle.trunk.proofs.sweep.sweep.Tie as tie
