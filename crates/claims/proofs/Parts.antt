@@ -14,17 +14,17 @@ use Rattle.machine.specs.declared.states.Selection.the-variants.{Unselected, Se
 use Rattle.machine.specs.declared.receive.ReceiveStep.the-variants as receive
 use Rattle.machine.specs.Receive.{receiveNext}
 use Rattle.machine.specs.Periodic.{periodicNext}
-use Rattle.machine.specs.Mux.{isAttached, collects, distributes, waits}
+use Rattle.machine.specs.Mux.{waits}
 use Rattle.machine.specs.States.{quietOn, ticks}
 use Rattle.machine.specs.Time.{ranOut, longTimeoutTime, slowPeriodicTime, aggregateWaitTime}
 use Rattle.port.specs.declared.record.Port.{Port}
 use Rattle.port.specs.Record.{withAggregator, withSelected}
 use Rattle.port.specs.Receive.{receiveChoice}
 use Rattle.port.specs.Periodic.{quiet, periodicTaken, periodicEntered, periodicChoice, periodicStep, periodicRun}
-use Rattle.port.specs.Mux.{muxStep, muxRun, detached, placed, attachedIf}
-use Rattle.port.specs.Timing.{Timed, WaitTimed, usesCurrent, usesPace}
+use Rattle.port.specs.Mux.{muxStep, muxRun, detached, placed, attachedIf, BitsAgree}
+use Rattle.port.specs.Timing.{Timed, usesCurrent, usesPace}
 use Rattle.port.proofs.PeriodicLaws.{periodic-rests, periodic-keeps}
-use Rattle.port.proofs.MuxLaws.{besideMux, mux-keeps, detached-keeps, placed-keeps, attached-keeps, BitsAgree, bits-kept}
+use Rattle.port.proofs.MuxLaws.{besideMux, mux-keeps, detached-keeps, placed-keeps, attached-keeps, bits-kept}
 use Rattle.port.proofs.TransmitLaws.{quieted-keeps}
 use Rattle.port.proofs.TimerLaws.{pace-run, wait-step}
 use Rattle.trunk.specs.Settled.{mustMove, reselected, climbed}
@@ -87,9 +87,7 @@ abbrev pub PeriodicTimed : PeriodicPart → Type 0
 PeriodicTimed v = Timed (usesPace (v .state)) slowPeriodicTime (v .timer)
 
 pub record MuxAgrees (v : MuxPart) : Type 0 where
-  pub synchronization : v .synchronization ≡ isAttached (v .state)
-  pub collecting : v .collecting ≡ collects (v .state)
-  pub distributing : v .distributing ≡ distributes (v .state)
+  pub says : BitsAgree (v .state) (v .synchronization) (v .collecting) (v .distributing)
   pub timed : Timed (waits (v .state)) aggregateWaitTime (v .timer)
 
 -- where the periodic machine is at rest: by its state, whether it is to be quiet, whether its timer has run out, the partner's Timeout
@@ -174,7 +172,7 @@ resting-is p s e = record {
   unheard = s .receive .unheard;
   receive = s .receive .stays;
   periodic = e;
-  says = record { synchronization = s .mux .synchronization; collecting = s .mux .collecting; distributing = s .mux .distributing };
+  says = s .mux .says;
   current = s .receive .timed;
   pace = s .timed;
   wait = s .mux .timed;
@@ -185,12 +183,7 @@ unfolding receiveChoice
 standing p r = record {
   receive = record { state = r .state; unheard = r .unheard; stays = r .receive; timed = r .current };
   timed = r .pace;
-  mux = record {
-    synchronization = r .says .synchronization;
-    collecting = r .says .collecting;
-    distributing = r .says .distributing;
-    timed = r .wait;
-  };
+  mux = record { says = r .says; timed = r .wait };
 }
 
 -- ---- the periodic machine leaves the other parts
@@ -230,14 +223,8 @@ climbed-beside p = ap (λ (x : Port). besideSettled x) (quieted-keeps (muxRun p)
 
 -- ---- and keep the mux part's bits and timer
 
-agrees : (p : Port) → MuxAgrees (muxPart p) → BitsAgree p
-agrees p h = record { synchronization = h .synchronization; collecting = h .collecting; distributing = h .distributing }
-
-mux-agrees : (p : Port) → BitsAgree p → WaitTimed p → MuxAgrees (muxPart p)
-mux-agrees p b t = record { synchronization = b .synchronization; collecting = b .collecting; distributing = b .distributing; timed = t }
-
 pub step-agrees : (r : Bool) (p : Port) → MuxAgrees (muxPart p) → MuxAgrees (muxPart (muxStep r p))
-step-agrees r p h = mux-agrees (muxStep r p) (bits-kept r p (agrees p h)) (wait-step r p (h .timed))
+step-agrees r p h = record { says = bits-kept r p (h .says); timed = wait-step r p (h .timed) }
 
 reselected-agrees : (k : ℕ) (p : Port) → MuxAgrees (muxPart p) → MuxAgrees (muxPart (reselected k p))
 unfolding reselected placed detached

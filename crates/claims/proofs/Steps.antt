@@ -213,15 +213,8 @@ ticked-leads p r = leads-rest p r
 ticked-steady : (p : Port) → CurrentTimed p → Standing p → Steady (aside (ticked p))
 unfolding Steady ticked
 ticked-steady p c s =
-    let t = ticked-timed p (c, s .timed, s .mux .timed) in (
-      record {
-        synchronization = s .mux .synchronization;
-        collecting = s .mux .collecting;
-        distributing = s .mux .distributing;
-        timed = t .2;
-      },
-      t .1,
-    )
+    let t = ticked-timed p (c, s .timed, s .mux .timed) in
+    (record { says = s .mux .says; timed = t .2 }, t .1)
 
 pub advanced-standing : (p : Port) → Standing p → Standing (advanced p)
 unfolding advanced
@@ -420,7 +413,10 @@ sent-resting p r =
 blank-steady : (s : Settings) → Steady (aside (blank s))
 unfolding Steady blank
 blank-steady s = (
-  record { synchronization = refl; collecting = refl; distributing = refl; timed = record { within = omega arith; stopped = λ e. refl } },
+  record {
+    says = record { synchronization = refl; collecting = refl; distributing = refl };
+    timed = record { within = omega arith; stopped = λ e. refl };
+  },
   record { within = omega arith; stopped = λ e. refl },
 )
 

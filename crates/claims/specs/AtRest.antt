@@ -9,10 +9,10 @@ use Rattle.machine.specs.declared.states.Line.{Line}
 use Rattle.machine.specs.declared.states.Receive.{Receive}
 use Rattle.machine.specs.declared.states.Receive.the-variants.{Initialize, PortDisabled, Expired, LacpDisabled, Defaulted, Current}
 use Rattle.machine.specs.declared.receive.ReceiveStep.the-variants.{Stay}
-use Rattle.machine.specs.Mux.{isAttached, collects, distributes}
 use Rattle.port.specs.declared.record.Port.{Port}
 use Rattle.port.specs.Receive.{receiveChoice}
 use Rattle.port.specs.Periodic.{periodicStep}
+use Rattle.port.specs.Mux.{SaysMux}
 use Rattle.port.specs.Timing.{CurrentTimed, PaceTimed, WaitTimed}
 use Rattle.table.specs.declared.layout.Header.{Header}
 use Rattle.table.specs.Layout.{headerOf}
@@ -28,12 +28,6 @@ goesWith l Expired = l .up && l .full
 goesWith l LacpDisabled = l .up && not (l .full)
 goesWith l Defaulted = l .up && l .full
 goesWith l Current = l .up && l .full
-
--- the actor's Synchronization, Collecting and Distributing say what the mux state is
-pub record SaysMux (p : Port) : Type 0 where
-  pub synchronization : p .actor .synchronization ≡ isAttached (p .phase .mux)
-  pub collecting : p .actor .collecting ≡ collects (p .phase .mux)
-  pub distributing : p .actor .distributing ≡ distributes (p .phase .mux)
 
 pub record Resting (p : Port) : Type 0 where
   pub state : goesWith (p .line) (p .phase .receive) ≡ true
