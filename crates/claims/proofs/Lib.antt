@@ -1,5 +1,3 @@
-pub mod Parts
-pub mod Steps
 pub mod Settles
 pub mod Sound
 pub mod Calls

@@ -21,6 +21,7 @@ use Rattle.port.specs.declared.transmit.Due.the-variants.{Nothing}
 use Rattle.port.specs.Record.{withLine, withNtt, withActor, withOwn, actorBlock}
 use Rattle.port.specs.Receive.{recordDefault, unselected, initialized, portDisabled, current, receiveRun, moved, received, down, lined}
 use Rattle.port.specs.Transmit.{due, sent, silent, quieted, ticked}
+use Rattle.port.proofs.RestKept.{heard-line, run-line}
 use Rattle.settings.specs.declared.Settings.{Settings}
 use Rattle.settings.specs.Settings.{ownOf, ownBits, sameGrouping, sameSettings, regrouped, changed, configured}
 use Rattle.table.specs.Layout.{within}
@@ -41,7 +42,6 @@ use Rattle.control.specs.After.{answer, afterFrame, changedBy, unless, after}
 use Rattle.claims.specs.Run.{Octets, Takes, AllTake, accepted, run}
 use Rattle.claims.specs.AtRest.{Sound}
 use Rattle.claims.specs.LineCall.{LineTaken, LineRepeated, Silent, HalfSilent, relines, NoneRelines, StaysSilent}
-use Rattle.claims.proofs.Steps.{heard-line, run-line}
 use Rattle.claims.proofs.Sound.{Before, in-ports, tick-before, line-before, settings-before, heard-before, send-ports}
 use Rattle.claims.proofs.Calls.{named, numbered, heard-on, after-accepted, call-sound, run-sound, never-stuck}
 use Rattle.claims.proofs.Rule.{port-firm}

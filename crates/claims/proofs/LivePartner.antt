@@ -27,6 +27,9 @@ use Rattle.port.specs.Record.{withLine, withNtt, withActor, withOwn}
 use Rattle.port.specs.Receive.{recordPdu, unselected, portDisabled, expired, heard, current}
 use Rattle.port.specs.Receive.{receiveChoice, receiveStep, receiveRun, received, down, lined}
 use Rattle.port.specs.Transmit.{sent, due, ticked}
+use Rattle.port.specs.Rest.{goesWith}
+use Rattle.port.proofs.RestParts.{Standing, receivePart, ReceiveRests}
+use Rattle.port.proofs.RestKept.{lined-falls}
 use Rattle.settings.specs.declared.Settings.{Settings}
 use Rattle.settings.specs.Settings.{ownOf, ownBits, sameGrouping, sameSettings, regrouped, changed, configured}
 use Rattle.table.specs.Record.{decoded}
@@ -42,10 +45,8 @@ use Rattle.control.specs.Answer.{withRoom, withDefault, dueAnswer}
 use Rattle.control.specs.Call.{Call, start, receive, tick, line, configure, fetch, report, aggregator}
 use Rattle.control.specs.After.{answer, afterFrame, changedBy, unless, after}
 use Rattle.claims.specs.Run.{isLacpdu, Octets, Takes, AllTake, accepted, run}
-use Rattle.claims.specs.AtRest.{Sound, goesWith}
+use Rattle.claims.specs.AtRest.{Sound}
 use Rattle.claims.specs.LivePartner.{lasting, Live, isExpired, toHalf, ends, NoneEnds, LivePartner}
-use Rattle.claims.proofs.Parts.{Standing, receivePart, ReceiveRests}
-use Rattle.claims.proofs.Steps.{lined-falls}
 use Rattle.claims.proofs.Sound.{Before, in-ports, port-standing, tick-before, line-before, settings-before, heard-before, send-ports}
 use Rattle.claims.proofs.Calls.{named, heard-on, after-accepted, call-sound, never-stuck}
 use Rattle.claims.proofs.Counts.{again-count}

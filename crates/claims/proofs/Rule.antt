@@ -20,6 +20,8 @@ use Rattle.port.specs.Receive.{receiveRun}
 use Rattle.port.specs.Periodic.{periodicRun}
 use Rattle.port.proofs.ReceiveLaws.{receive-idle}
 use Rattle.port.proofs.PeriodicLaws.{periodic-idle}
+use Rattle.port.proofs.RestParts.{standing}
+use Rattle.port.proofs.RestKept.{stays-idle}
 use Rattle.table.specs.Record.{decoded}
 use Rattle.table.specs.Table.{countIn, portAt, ports}
 use Rattle.table.proofs.StoreLaws.{ports-at}
@@ -30,8 +32,6 @@ use Rattle.trunk.proofs.GroupLaws.{together, rule-apart}
 use Rattle.work.specs.Work.{ours, worked}
 use Rattle.claims.specs.AtRest.{Sound}
 use Rattle.claims.specs.Claims.{Ruled, RuleAfresh, DistributingEarned, BitsTrue, StaysAtRest}
-use Rattle.claims.proofs.Parts.{standing}
-use Rattle.claims.proofs.Steps.{stays-idle}
 use Rattle.claims.proofs.Settles.{Firm, settles}
 use Rattle.claims.proofs.Sound.{in-ports, port-resting}
 use Rattle.claims.proofs.Calls.{never-stuck}

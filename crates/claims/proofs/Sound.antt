@@ -2,47 +2,48 @@
 -- machines rest; the periodic machines and steps 3 to 6 bring the others to rest and keep the range. Assumes nothing.
 use Prim.Native.Nat.{ℕ, _+_, _<_, _≤_}
 use mathlib.Core.Path.{_≡_, refl, sym, ap, _∙_, subst}
-use mathlib.Core.Bool.{Bool, true, false, cond, not, _&&_}
+use mathlib.Core.Bool.{Bool, true, false, cond}
 use mathlib.Core.List.{List, [], map}
 use native.Mathlib.Omega.{arith}
 use lib.ListN.{length, getD, set, replicate, length-map, length-set, length-replicate}
-use lib.Dec.{eqb}
 use Rattle.octets.specs.Lists.{Each}
 use Rattle.octets.proofs.ListLaws.{sweep-length, each-map, each-sweep, each-set, each-alike}
-use Rattle.frame.specs.declared.block.Block.{Block}
 use Rattle.frame.specs.Block.{blockOf}
 use Rattle.frame.specs.Wire.{actorPart, partnerPart}
 use Rattle.machine.specs.declared.states.Line.{Line}
 use Rattle.machine.specs.States.{sameLine}
 use Rattle.port.specs.declared.record.Port.{Port}
-use Rattle.port.specs.Receive.{lined, moved}
+use Rattle.port.specs.Receive.{lined}
 use Rattle.port.specs.Periodic.{periodicRun}
 use Rattle.port.specs.Transmit.{sent, ticked}
+use Rattle.port.specs.Rest.{Resting}
+use Rattle.port.proofs.RestParts.{Standing, standing, periodic-standing}
+use Rattle.port.proofs.RestKept.{received-standing, lined-standing, sent-resting}
 use Rattle.settings.specs.declared.Settings.{Settings}
 use Rattle.settings.specs.Settings.{configured, sameSettings, started, ownOf}
+use Rattle.settings.proofs.StandingLaws.{configured-standing, started-resting}
 use Rattle.table.specs.declared.layout.Header.{Header}
 use Rattle.table.specs.Layout.{headerOf, mostPorts}
 use Rattle.table.specs.Record.{decoded}
 use Rattle.table.specs.Range.{portInRange, portsInRange, headerFits, ownFits}
 use Rattle.table.specs.Table.{countIn, portAt, ports, tableOctets}
-use Rattle.table.proofs.RangeLaws.{both, within-is}
+use Rattle.table.proofs.RangeLaws.{within-is}
 use Rattle.table.proofs.TableLaws.{in-range, in-range-is}
 use Rattle.table.proofs.StoreLaws.{ports-length, ports-at}
 use Rattle.table.proofs.MadeLaws.{ports-ranged-at, ports-ranged, table-ports-ranged, header-fits, made-ports, made-header, made-in-range, made-octets}
 use Rattle.trunk.specs.Settled.{settled}
 use Rattle.trunk.specs.Advanced.{advanced}
-use Rattle.trunk.specs.Displaced.{isDisabled, isDisplaced, displacedIf, displaced}
+use Rattle.trunk.specs.Displaced.{displacedIf, displaced}
 use Rattle.trunk.proofs.EachLaws.{each-settled}
 use Rattle.trunk.proofs.SettledLaws.{settled-length}
 use Rattle.trunk.proofs.RestLaws.{settled-twice}
+use Rattle.trunk.proofs.RestingLaws.{advanced-standing, displaced-standing, reselected-resting, attached-resting, climbed-resting}
 use Rattle.trunk.proofs.RangeKept.{reselected-ranged, attached-ranged, climbed-ranged, displaced-ranged}
 use Rattle.trunk.proofs.AdvanceRange.{ticked-ranged, periodic-ranged, receive-ranged}
 use Rattle.work.specs.Work.{ours, again, worked, afterOne, afterStart, heardAt, afterHeard, afterTick, afterLine, afterSettings, afterSend}
 use Rattle.work.proofs.RangeWork.{part-fits, received-ranged, lined-ranged, configured-ranged, sent-ranged, started-ranged}
 use Rattle.claims.specs.Run.{Octets}
-use Rattle.claims.specs.AtRest.{Resting, AtRest, Sound}
-use Rattle.claims.proofs.Parts.{Standing, standing, periodic-standing, reselected-resting, attached-resting, climbed-resting}
-use Rattle.claims.proofs.Steps.{advanced-standing, received-standing, moved-standing, disabled-down, lined-standing, configured-standing, sent-resting, started-resting}
+use Rattle.claims.specs.AtRest.{AtRest, Sound}
 use Rattle.claims.proofs.Settles.{Settles, settles, settles-is, sent-settles}
 
 -- ---- lists of records
@@ -149,18 +150,6 @@ module _ (t : List ℕ) (s : Sound t) (ps : List Port) (b : Before t ps) where
       (worked-at-rest (ours t) ps (b .stands))
 
 -- ---- each piece of work
-
--- a port that is displaced has its link down
-displaced-standing : (r : ℕ) (a : Block) (i : ℕ) (p : Port) → Standing p → Standing (displacedIf r a i p)
-unfolding displacedIf isDisplaced
-displaced-standing r a i p s = by (not (eqb i r) && isDisplaced a p) refl
-  where
-    by : (b : Bool) → not (eqb i r) && isDisplaced a p ≡ b → Standing (cond b (moved p) p)
-    by true e =
-        let x = both (not (eqb i r)) (isDisplaced a p) e .1 in
-        let y = both (isDisabled (p .phase .receive)) _ x .0 in
-        moved-standing p (disabled-down (p .line) (p .phase .receive) (s .receive .state) y) s
-    by false e = s
 
 module _ (t : List ℕ) (s : Sound t) where
   pub tick-before : Before t (map advanced (ports t))

@@ -25,8 +25,10 @@ use Rattle.port.specs.declared.record.Port.{Port}
 use Rattle.port.specs.declared.transmit.Due.the-variants as due
 use Rattle.port.specs.Receive.{moved, lined}
 use Rattle.port.specs.Transmit.{due as dueOf, sent}
+use Rattle.port.proofs.RestKept.{received-ages, moved-ages, lined-ages}
 use Rattle.settings.specs.declared.Settings.{Settings}
 use Rattle.settings.specs.Settings.{configured, sameSettings, ownOf, blank, started}
+use Rattle.settings.proofs.StandingLaws.{configured-ages}
 use Rattle.table.specs.declared.layout.Header.{Header}
 use Rattle.table.specs.Layout.{mostPorts}
 use Rattle.table.specs.Record.{decoded}
@@ -36,6 +38,7 @@ use Rattle.table.proofs.RangeLaws.{within-true, within-is}
 use Rattle.table.proofs.StoreLaws.{ports-length, ports-at}
 use Rattle.trunk.specs.Advanced.{advanced}
 use Rattle.trunk.specs.Displaced.{isDisplaced, displacedIf, displaced}
+use Rattle.trunk.proofs.RestingLaws.{advanced-ages}
 use Rattle.work.specs.Work.{ours, again, worked, afterOne, afterStart, heardAt, afterHeard, afterTick, afterLine, afterSettings, afterSend}
 use Rattle.control.specs.declared.answer.Answer.{Answer}
 use Rattle.control.specs.declared.answer.Answer.the-variants.{Done, Lacpdu, Marker, Refused}
@@ -46,7 +49,6 @@ use Rattle.control.specs.After.{answer, afterFrame, changedBy, unless, after}
 use Rattle.claims.specs.Run.{Octets, Takes, AllTake, accepted, run, Made}
 use Rattle.claims.specs.AtRest.{Sound}
 use Rattle.claims.specs.ThreeSends.{sendsBy, sends, sendsOf, recent, ThreeSends, ticksIn, NoneStarts, FourSendsApart}
-use Rattle.claims.proofs.Steps.{advanced-ages, received-ages, moved-ages, lined-ages, configured-ages}
 use Rattle.claims.proofs.Sound.{Before, in-ports, tick-before, line-before, settings-before, heard-before, send-ports, start-ports}
 use Rattle.claims.proofs.Calls.{OnPort, on-port, named, heard-on, after-accepted, started-sound, call-sound, never-stuck}
 use Rattle.claims.proofs.Counts.{start-room, started-count, call-count, run-count}

@@ -21,9 +21,9 @@ use Rattle.trunk.specs.Selection.{ruleOf}
 use Rattle.trunk.specs.Ready.{ready}
 use Rattle.trunk.specs.Settled.{selectedAll, settled}
 use Rattle.trunk.proofs.SettledLaws.{settled-at, selected-at}
+use Rattle.trunk.proofs.BesideLaws.{besideSettled, reselected-beside, attached-beside, climbed-beside}
 use Rattle.work.specs.Work.{ours, again, worked}
 use Rattle.claims.specs.AtRest.{Sound}
-use Rattle.claims.proofs.Parts.{besideSettled, reselected-beside, attached-beside, climbed-beside}
 use Rattle.claims.proofs.Sound.{Before, in-ports, work-ports}
 use Rattle.claims.proofs.Locality.{again-at, set-kept}
 

@@ -4,4 +4,5 @@ pub mod Timing
 pub mod Periodic
 pub mod Mux
 pub mod Receive
+pub mod Rest
 pub mod Transmit

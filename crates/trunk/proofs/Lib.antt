@@ -9,4 +9,6 @@ pub mod SettledLaws
 pub mod StepLaws
 pub mod EachLaws
 pub mod RestLaws
+pub mod BesideLaws
+pub mod RestingLaws
 pub mod DependLaws
