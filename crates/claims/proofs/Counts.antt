@@ -35,7 +35,8 @@ use Rattle.control.specs.declared.answer.Reason.the-variants as reason
 use Rattle.control.specs.Answer.{isRoom, withDefault}
 use Rattle.control.specs.Call.{Call, start, receive, tick, line, configure, fetch, report, aggregator}
 use Rattle.control.specs.After.{answer, afterFrame, changedBy, unless, after}
-use Rattle.claims.specs.Run.{accepted, run, AllTake}
+use Rattle.control.specs.Accepted.{accepted}
+use Rattle.claims.specs.Run.{run, AllTake}
 use Rattle.claims.specs.AtRest.{Sound}
 use Rattle.claims.proofs.Calls.{call-sound}
 

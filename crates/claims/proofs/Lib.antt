@@ -1,4 +1,3 @@
-pub mod Settles
 pub mod Sound
 pub mod Calls
 pub mod Rule

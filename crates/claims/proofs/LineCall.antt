@@ -39,11 +39,13 @@ use Rattle.control.specs.declared.answer.Reason.the-variants as reason
 use Rattle.control.specs.Answer.{isNumber, withRoom, withDefault, dueAnswer}
 use Rattle.control.specs.Call.{Call, start, receive, tick, line, configure, fetch, report, aggregator}
 use Rattle.control.specs.After.{answer, afterFrame, changedBy, unless, after}
-use Rattle.claims.specs.Run.{Octets, Takes, AllTake, accepted, run}
+use Rattle.control.specs.Accepted.{accepted}
+use Rattle.control.proofs.CallLaws.{named, numbered, heard-on, after-accepted}
+use Rattle.claims.specs.Run.{Octets, Takes, AllTake, run}
 use Rattle.claims.specs.AtRest.{Sound}
 use Rattle.claims.specs.LineCall.{LineTaken, LineRepeated, Silent, HalfSilent, relines, NoneRelines, StaysSilent}
 use Rattle.claims.proofs.Sound.{Before, in-ports, tick-before, line-before, settings-before, heard-before, send-ports}
-use Rattle.claims.proofs.Calls.{named, numbered, heard-on, after-accepted, call-sound, run-sound, never-stuck}
+use Rattle.claims.proofs.Calls.{call-sound, run-sound, never-stuck}
 use Rattle.claims.proofs.Rule.{port-firm}
 use Rattle.claims.proofs.Counts.{call-count, run-count}
 use Rattle.claims.proofs.Locality.{again-at}

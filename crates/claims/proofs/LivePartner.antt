@@ -44,11 +44,13 @@ use Rattle.control.specs.declared.answer.Answer.the-variants.{Done, Lacpdu, Mar
 use Rattle.control.specs.Answer.{withRoom, withDefault, dueAnswer}
 use Rattle.control.specs.Call.{Call, start, receive, tick, line, configure, fetch, report, aggregator}
 use Rattle.control.specs.After.{answer, afterFrame, changedBy, unless, after}
-use Rattle.claims.specs.Run.{isLacpdu, Octets, Takes, AllTake, accepted, run}
+use Rattle.control.specs.Accepted.{isLacpdu, accepted}
+use Rattle.control.proofs.CallLaws.{named, heard-on, after-accepted}
+use Rattle.claims.specs.Run.{Octets, Takes, AllTake, run}
 use Rattle.claims.specs.AtRest.{Sound}
 use Rattle.claims.specs.LivePartner.{lasting, Live, isExpired, toHalf, ends, NoneEnds, LivePartner}
 use Rattle.claims.proofs.Sound.{Before, in-ports, port-standing, tick-before, line-before, settings-before, heard-before, send-ports}
-use Rattle.claims.proofs.Calls.{named, heard-on, after-accepted, call-sound, never-stuck}
+use Rattle.claims.proofs.Calls.{call-sound, never-stuck}
 use Rattle.claims.proofs.Counts.{again-count}
 use Rattle.claims.proofs.Locality.{again-at, displaced-kept}
 use Rattle.claims.proofs.Views.{work-view, set-view}

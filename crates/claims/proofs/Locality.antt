@@ -38,11 +38,13 @@ use Rattle.control.specs.declared.answer.Answer.the-variants.{Done, Lacpdu, Mar
 use Rattle.control.specs.Answer.{withRoom, withDefault, dueAnswer}
 use Rattle.control.specs.Call.{Call, start, receive, tick, line, configure, fetch, report, aggregator}
 use Rattle.control.specs.After.{answer, afterFrame, changedBy, unless, after}
-use Rattle.claims.specs.Run.{Octets, Takes, accepted, isLacpdu}
+use Rattle.control.specs.Accepted.{accepted, isLacpdu}
+use Rattle.control.proofs.CallLaws.{named, heard-on, after-accepted}
+use Rattle.claims.specs.Run.{Octets, Takes}
 use Rattle.claims.specs.AtRest.{Sound}
 use Rattle.claims.specs.Locality.{touches, Apart, Locality}
 use Rattle.claims.proofs.Sound.{Before, in-ports, port-resting, work-ports, line-before, settings-before, heard-before, send-ports}
-use Rattle.claims.proofs.Calls.{named, heard-on, after-accepted, never-stuck}
+use Rattle.claims.proofs.Calls.{never-stuck}
 use Rattle.claims.proofs.Counts.{again-count}
 
 -- ---- work on a sound table, of which some records are as they were

@@ -16,9 +16,9 @@ use Rattle.control.specs.declared.answer.Answer.the-variants.{Done}
 use Rattle.control.specs.Answer.{withRoom, dueAnswer}
 use Rattle.control.specs.Call.{fetch}
 use Rattle.control.specs.After.{answer, unless, writtenBy, outgoing}
-use Rattle.claims.specs.Run.{accepted}
+use Rattle.control.specs.Accepted.{accepted}
+use Rattle.control.proofs.CallLaws.{on-port}
 use Rattle.claims.specs.ReadBack.{Reads, ReadBack}
-use Rattle.claims.proofs.Calls.{on-port}
 
 module _ (t : List ℕ) (n : ℕ) (out : List ℕ) (e : answer (fetch n out) t ≡ Done) where
   number : (n - 1) + 1 ≡ n

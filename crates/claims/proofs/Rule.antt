@@ -29,10 +29,10 @@ use Rattle.trunk.specs.Selection.{ruleOf}
 use Rattle.trunk.specs.Ready.{ready}
 use Rattle.trunk.specs.Settled.{settled, Chosen}
 use Rattle.trunk.proofs.GroupLaws.{together, rule-apart}
+use Rattle.trunk.proofs.Settles.{Firm, settles}
 use Rattle.work.specs.Work.{ours, worked}
 use Rattle.claims.specs.AtRest.{Sound}
 use Rattle.claims.specs.Claims.{Ruled, RuleAfresh, DistributingEarned, BitsTrue, StaysAtRest}
-use Rattle.claims.proofs.Settles.{Firm, settles}
 use Rattle.claims.proofs.Sound.{in-ports, port-resting}
 use Rattle.claims.proofs.Calls.{never-stuck}
 

@@ -1,10 +1,9 @@
 -- Each piece of work leaves a sound table of a sound one, and start makes one. Before settling, it leaves records in range whose receive
 -- machines rest; the periodic machines and steps 3 to 6 bring the others to rest and keep the range. Assumes nothing.
 use Prim.Native.Nat.{ℕ, _+_, _<_, _≤_}
-use mathlib.Core.Path.{_≡_, refl, sym, ap, _∙_, subst}
+use mathlib.Core.Path.{_≡_, sym, ap, _∙_, subst}
 use mathlib.Core.Bool.{Bool, true, false, cond}
 use mathlib.Core.List.{List, [], map}
-use native.Mathlib.Omega.{arith}
 use lib.ListN.{length, getD, set, replicate, length-map, length-set, length-replicate}
 use Rattle.octets.specs.Lists.{Each}
 use Rattle.octets.proofs.ListLaws.{sweep-length, each-map, each-sweep, each-set, each-alike}
@@ -25,55 +24,31 @@ use Rattle.settings.proofs.StandingLaws.{configured-standing, started-resting}
 use Rattle.table.specs.declared.layout.Header.{Header}
 use Rattle.table.specs.Layout.{headerOf, mostPorts}
 use Rattle.table.specs.Record.{decoded}
-use Rattle.table.specs.Range.{portInRange, portsInRange, headerFits, ownFits}
+use Rattle.table.specs.Range.{portsInRange, headerFits, ownFits}
 use Rattle.table.specs.Table.{countIn, portAt, ports, tableOctets}
-use Rattle.table.proofs.RangeLaws.{within-is}
 use Rattle.table.proofs.TableLaws.{in-range, in-range-is}
 use Rattle.table.proofs.StoreLaws.{ports-length, ports-at}
 use Rattle.table.proofs.MadeLaws.{ports-ranged-at, ports-ranged, table-ports-ranged, header-fits, made-ports, made-header, made-in-range, made-octets}
 use Rattle.trunk.specs.Settled.{settled}
 use Rattle.trunk.specs.Advanced.{advanced}
 use Rattle.trunk.specs.Displaced.{displacedIf, displaced}
-use Rattle.trunk.proofs.EachLaws.{each-settled}
+use Rattle.trunk.proofs.EachLaws.{Fits, settled-fits}
 use Rattle.trunk.proofs.SettledLaws.{settled-length}
 use Rattle.trunk.proofs.RestLaws.{settled-twice}
-use Rattle.trunk.proofs.RestingLaws.{advanced-standing, displaced-standing, reselected-resting, attached-resting, climbed-resting}
-use Rattle.trunk.proofs.RangeKept.{reselected-ranged, attached-ranged, climbed-ranged, displaced-ranged}
-use Rattle.trunk.proofs.AdvanceRange.{ticked-ranged, periodic-ranged, receive-ranged}
+use Rattle.trunk.proofs.RestingLaws.{advanced-standing, displaced-standing, settled-resting}
+use Rattle.trunk.proofs.RangeKept.{displaced-ranged}
+use Rattle.trunk.proofs.AdvanceRange.{ticked-ranged, receive-ranged}
+use Rattle.trunk.proofs.Settles.{Settles, settles, settles-is, sent-settles}
 use Rattle.work.specs.Work.{ours, again, worked, afterOne, afterStart, heardAt, afterHeard, afterTick, afterLine, afterSettings, afterSend}
 use Rattle.work.proofs.RangeWork.{part-fits, received-ranged, lined-ranged, configured-ranged, sent-ranged, started-ranged}
+use Rattle.work.proofs.WorkLaws.{worked-length, worked-fits}
 use Rattle.claims.specs.Run.{Octets}
 use Rattle.claims.specs.AtRest.{AtRest, Sound}
-use Rattle.claims.proofs.Settles.{Settles, settles, settles-is, sent-settles}
 
 -- ---- lists of records
 
-abbrev pub Fits : ℕ → Port → Type 0
-Fits count p = portInRange count p ≡ true
-
-pub settled-fits : (count : ℕ) (s : Header) (ps : List Port) → length ps ≡ count → Each (Fits count) ps → Each (Fits count) (settled s ps)
-settled-fits count s ps n e =
-    each-settled (Fits count) s ps
-    (λ k p a b h. reselected-ranged count k p (within-is 1 k count a (omega arith)) h)
-    (λ r p h. attached-ranged count r p h)
-    (λ p h. climbed-ranged count p h) e
-
-pub settled-resting : (s : Header) (ps : List Port) → Each Resting ps → Each Resting (settled s ps)
-settled-resting s ps e =
-    each-settled Resting s ps (λ k p a b h. reselected-resting k p h) (λ r p h. attached-resting r p h) (λ p h. climbed-resting p h) e
-
 pub settled-at-rest : (s : Header) (ps : List Port) → Each Resting ps → AtRest s (settled s ps)
 settled-at-rest s ps e = record { each = settled-resting s ps e; together = settled-twice s ps }
-
-pub worked-length : (s : Header) (ps : List Port) → length (worked s ps) ≡ length ps
-unfolding worked
-worked-length s ps = settled-length s (map periodicRun ps) ∙ length-map ps periodicRun
-
-pub worked-fits : (count : ℕ) (s : Header) (ps : List Port) → length ps ≡ count → Each (Fits count) ps → Each (Fits count) (worked s ps)
-unfolding worked
-worked-fits count s ps n e =
-    settled-fits count s (map periodicRun ps) (length-map ps periodicRun ∙ n)
-    (each-map (Fits count) (Fits count) periodicRun ps (λ p h. periodic-ranged count p h) e)
 
 pub worked-at-rest : (s : Header) (ps : List Port) → Each Standing ps → AtRest s (worked s ps)
 unfolding worked

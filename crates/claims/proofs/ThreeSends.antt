@@ -46,11 +46,13 @@ use Rattle.control.specs.declared.answer.Reason.the-variants as reason
 use Rattle.control.specs.Answer.{answerNumber, isNumber, withRoom, withDefault, dueAnswer}
 use Rattle.control.specs.Call.{Call, start, receive, tick, line, configure, fetch, report, aggregator}
 use Rattle.control.specs.After.{answer, afterFrame, changedBy, unless, after}
-use Rattle.claims.specs.Run.{Octets, Takes, AllTake, accepted, run, Made}
+use Rattle.control.specs.Accepted.{accepted}
+use Rattle.control.proofs.CallLaws.{OnPort, on-port, named, heard-on, after-accepted}
+use Rattle.claims.specs.Run.{Octets, Takes, AllTake, run, Made}
 use Rattle.claims.specs.AtRest.{Sound}
 use Rattle.claims.specs.ThreeSends.{sendsBy, sends, sendsOf, recent, ThreeSends, ticksIn, NoneStarts, FourSendsApart}
 use Rattle.claims.proofs.Sound.{Before, in-ports, tick-before, line-before, settings-before, heard-before, send-ports, start-ports}
-use Rattle.claims.proofs.Calls.{OnPort, on-port, named, heard-on, after-accepted, started-sound, call-sound, never-stuck}
+use Rattle.claims.proofs.Calls.{started-sound, call-sound, never-stuck}
 use Rattle.claims.proofs.Counts.{start-room, started-count, call-count, run-count}
 use Rattle.claims.proofs.Locality.{again-at}
 use Rattle.claims.proofs.Views.{settled-view, work-view, set-view}

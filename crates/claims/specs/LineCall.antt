@@ -11,7 +11,8 @@ use Rattle.control.specs.declared.answer.Reason.the-variants.{NothingToSend}
 use Rattle.control.specs.Answer.{isNumber, withRoom}
 use Rattle.control.specs.Call.{Call, start, receive, tick, line, configure, fetch, report, aggregator}
 use Rattle.control.specs.After.{answer, after}
-use Rattle.claims.specs.Run.{AllTake, accepted, run, Made}
+use Rattle.control.specs.Accepted.{accepted}
+use Rattle.claims.specs.Run.{AllTake, run, Made}
 
 -- 9: an accepted line call leaves its port with both values
 abbrev pub LineTaken : Type 0

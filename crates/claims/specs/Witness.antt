@@ -31,7 +31,8 @@ use Rattle.control.specs.Answer.{answerNumber}
 use Rattle.control.specs.Call.{Call, start, receive, tick, line, configure, fetch}
 use Rattle.control.specs.After.{answer, after, bufferOf, outgoing}
 use Rattle.control.specs.Report.{portReport, aggregatorReport}
-use Rattle.claims.specs.Run.{accepted, run, Made}
+use Rattle.control.specs.Accepted.{accepted}
+use Rattle.claims.specs.Run.{run, Made}
 use Rattle.claims.specs.LivePartner.{lasting}
 use Rattle.claims.specs.ThreeSends.{sends}
 use Rattle.claims.specs.Speakers.{system, noDelay, keyedBlock, keyedSettings, settings, upFull, upHalf, downFull, downHalf, frameOf}

@@ -1,6 +1,7 @@
 -- What each of steps 3 to 6 keeps of a port, they keep together of every port. By the record at each index. Assumes nothing.
 use Prim.Native.Nat.{ℕ, _<_, _≤_}
-use mathlib.Core.Bool.{Bool}
+use mathlib.Core.Path.{_≡_}
+use mathlib.Core.Bool.{Bool, true}
 use mathlib.Core.List.{List, map}
 use native.Mathlib.Omega.{arith}
 use lib.ListN.{length, getD}
@@ -9,9 +10,12 @@ use Rattle.port.specs.declared.record.Port.{Port}
 use Rattle.port.specs.Compared.{compared}
 use Rattle.port.specs.Mux.{attachedIf}
 use Rattle.table.specs.declared.layout.Header.{Header}
+use Rattle.table.specs.Range.{portInRange}
+use Rattle.table.proofs.RangeLaws.{within-is}
 use Rattle.trunk.specs.Selection.{ruleOf, lowest}
 use Rattle.trunk.specs.Ready.{ready}
 use Rattle.trunk.specs.Settled.{reselected, selectedAll, climbed, settled}
+use Rattle.trunk.proofs.RangeKept.{reselected-ranged, attached-ranged, climbed-ranged}
 use Rattle.trunk.proofs.GroupLaws.{lowest-le}
 use Rattle.trunk.proofs.SettledLaws.{selected-at, settled-at, settled-length}
 
@@ -37,3 +41,14 @@ each-settled P ours ps one two three e i d k =
     (three (attachedIf (ready (getD ss i d .aggregator) ss) (getD ss i d))
     (two (ready (getD ss i d .aggregator) ss) (getD ss i d)
     (rw (selected-at ours ps i d h) (one (ruleOf ours (map compared ps) i) (getD ps i d) (rule .0) (rule .1) (e i d h)))))
+
+-- so they keep every record in range
+abbrev pub Fits : ℕ → Port → Type 0
+Fits count p = portInRange count p ≡ true
+
+pub settled-fits : (count : ℕ) (s : Header) (ps : List Port) → length ps ≡ count → Each (Fits count) ps → Each (Fits count) (settled s ps)
+settled-fits count s ps n e =
+    each-settled (Fits count) s ps
+    (λ k p a b h. reselected-ranged count k p (within-is 1 k count a (omega arith)) h)
+    (λ r p h. attached-ranged count r p h)
+    (λ p h. climbed-ranged count p h) e

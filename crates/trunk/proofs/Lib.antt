@@ -9,6 +9,7 @@ pub mod SettledLaws
 pub mod StepLaws
 pub mod EachLaws
 pub mod RestLaws
+pub mod Settles
 pub mod BesideLaws
 pub mod RestingLaws
 pub mod DependLaws

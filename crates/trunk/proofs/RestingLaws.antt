@@ -2,8 +2,10 @@
 use Prim.Native.Nat.{ℕ}
 use mathlib.Core.Path.{_≡_, refl, sym, ap, _∙_, subst}
 use mathlib.Core.Bool.{Bool, true, false, cond, not, _&&_, false≢true}
+use mathlib.Core.List.{List}
 use lib.Dec.{eqb}
 use borrow.Author.Tests.{not-true}
+use Rattle.octets.specs.Lists.{Each}
 use Rattle.frame.specs.declared.block.Block.{Block}
 use Rattle.machine.specs.declared.states.Line.{Line}
 use Rattle.machine.specs.declared.states.Receive.{Receive}
@@ -19,10 +21,12 @@ use Rattle.port.specs.Rest.{goesWith, Resting}
 use Rattle.port.proofs.TransmitLaws.{quieted-keeps}
 use Rattle.port.proofs.RestParts.{receivePart, periodicPart, muxPart, ReceiveRests, PeriodicTimed, MuxAgrees, calmPart, Standing, resting-is, standing, calm-rests, rests-calm, step-agrees}
 use Rattle.port.proofs.RestKept.{tick-standing, moved-standing, tick-ages}
+use Rattle.table.specs.declared.layout.Header.{Header}
 use Rattle.table.proofs.RangeLaws.{both}
 use Rattle.trunk.specs.Advanced.{advanced}
 use Rattle.trunk.specs.Displaced.{isDisabled, isDisplaced, displacedIf}
-use Rattle.trunk.specs.Settled.{mustMove, reselected, climbed}
+use Rattle.trunk.specs.Settled.{mustMove, reselected, climbed, settled}
+use Rattle.trunk.proofs.EachLaws.{each-settled}
 use Rattle.trunk.proofs.BesideLaws.{besideSettled, reselected-beside, attached-beside, climbed-beside}
 
 -- ---- a tick
@@ -109,3 +113,8 @@ attached-resting b p r = beside-resting p (attachedIf b p) (attached-beside b p)
 
 pub climbed-resting : (p : Port) → Resting p → Resting (climbed p)
 climbed-resting p r = beside-resting p (climbed p) (climbed-beside p) (climbed-agrees p (standing p r .mux)) r
+
+-- and of every port
+pub settled-resting : (s : Header) (ps : List Port) → Each Resting ps → Each Resting (settled s ps)
+settled-resting s ps e =
+    each-settled Resting s ps (λ k p a b h. reselected-resting k p h) (λ r p h. attached-resting r p h) (λ p h. climbed-resting p h) e

@@ -1,25 +1,35 @@
--- What a piece of work leaves is the octets of the header as it was and of the records that it names. Assumes nothing.
+-- What a piece of work leaves is the octets of the header as it was and of the records that it names; the end of a call keeps their number
+-- and range. Assumes nothing.
 use Prim.Native.Nat.{ℕ, _<_, _≤_}
 use mathlib.Core.Path.{_≡_, sym, _∙_}
 use mathlib.Core.Bool.{true}
-use mathlib.Core.List.{List}
+use mathlib.Core.List.{List, map}
 use native.Mathlib.Omega.{arith}
+use lib.ListN.{length, length-map}
 use denote.Shadow.{shadow}
 use denote.Struct.Struct.{within}
 use denote.Struct.Declared.{shape}
 use denote.RattleType.{Valss}
 use mir.Val.{Val}
 use borrow.Author.Tests.{lt-ltb}
+use Rattle.octets.specs.Lists.{Each}
+use Rattle.octets.proofs.ListLaws.{each-map}
 use Rattle.frame.proofs.BlockLaws.{Octets}
 use Rattle.port.specs.declared.record.Port.{Port}
 use Rattle.port.specs.declared.record.Own.{Own}
+use Rattle.port.specs.Periodic.{periodicRun}
 use Rattle.port.proofs.record.Own.{the-type}
 use Rattle.table.specs.Range.{fits, ownFits, blockFits}
 use Rattle.table.proofs.RangeLaws.{joined}
 use Rattle.table.specs.Layout.{headerOf, mostPorts}
 use Rattle.table.specs.Table.{tableInRange, countIn, tableOctets}
+use Rattle.table.specs.declared.layout.Header.{Header}
 use Rattle.table.proofs.TableLaws.{in-range, table-back}
 use Rattle.trunk.specs.Worked.{Worked}
+use Rattle.trunk.proofs.EachLaws.{Fits, settled-fits}
+use Rattle.trunk.proofs.SettledLaws.{settled-length}
+use Rattle.trunk.proofs.AdvanceRange.{periodic-ranged}
+use Rattle.work.specs.Work.{worked}
 
 -- the octets that a piece of work leaves
 pub made-of : {t u : List ℕ} {qs : List Port} → Worked t u qs → Octets u → u ≡ tableOctets (headerOf t) qs
@@ -46,3 +56,15 @@ own-typed o vs vss k =
     (joined (fit _ (s .1 .1 .0 .1))
     (joined (joined (fit _ (x .1 .1 .0 .1)) (joined (fit _ (x .1 .1 .1 .0 .1)) (fit _ (x .1 .1 .1 .1 .0 .1))))
     (joined (fit _ (b .1 .1 .1 .0 .1)) (joined (fit _ (n .1 .1 .0 .1)) (fit _ (n .1 .1 .1 .0 .1))))))))
+
+-- ---- the end of a call: periodic machines, then steps 3 to 6
+
+pub worked-length : (s : Header) (ps : List Port) → length (worked s ps) ≡ length ps
+unfolding worked
+worked-length s ps = settled-length s (map periodicRun ps) ∙ length-map ps periodicRun
+
+pub worked-fits : (count : ℕ) (s : Header) (ps : List Port) → length ps ≡ count → Each (Fits count) ps → Each (Fits count) (worked s ps)
+unfolding worked
+worked-fits count s ps n e =
+    settled-fits count s (map periodicRun ps) (length-map ps periodicRun ∙ n)
+    (each-map (Fits count) (Fits count) periodicRun ps (λ p h. periodic-ranged count p h) e)
