@@ -1,12 +1,13 @@
 -- Every table that calls can make is in range, of octets and at rest: an accepted start makes such a table of any memory, and each call
 -- keeps it, since a call that is not refused has passed its tests. A refusal changes nothing. Assumes nothing.
-use Prim.Native.Nat.{ℕ, _-_, _<_, _≤_}
+use Prim.Native.Nat.{ℕ, _-_}
 use mathlib.Core.Path.{_≡_, refl, sym, ap, _∙_, subst}
-use mathlib.Core.Bool.{Bool, true, false, cond, _&&_, _||_, true≢false, false≢true}
+use mathlib.Core.Bool.{Bool, true, false, cond, _&&_, _||_, true≢false}
 use mathlib.Core.List.{List, [], _∷_, _++_}
-use native.Mathlib.Omega.{arith}
 use lib.ListN.{length}
 use lib.Dec.{eqb, ltb}
+use Rattle.octets.specs.Octets.{Octets, within}
+use Rattle.octets.proofs.RangeLaws.{both, within-true}
 use Rattle.frame.specs.declared.class.Class.{Class}
 use Rattle.frame.specs.declared.class.Class.the-variants as class
 use Rattle.frame.specs.Class.{classOf}
@@ -20,122 +21,52 @@ use Rattle.frame.specs.declared.block.SystemId.{SystemId}
 use Rattle.frame.specs.declared.wire.TensOfMicroseconds.{TensOfMicroseconds}
 use Rattle.settings.specs.declared.Settings.{Settings}
 use Rattle.settings.specs.Settings.{lawful}
-use Rattle.table.specs.Layout.{within, mostPorts, tableSize}
-use Rattle.table.specs.Table.{tableInRange, countIn, portAt}
-use Rattle.table.proofs.RangeLaws.{both, within-true}
+use Rattle.table.specs.Layout.{mostPorts, tableSize}
+use Rattle.table.proofs.FillLaws.{room-is}
+use Rattle.table.specs.Table.{isRoom, tableInRange, portAt, on}
 use Rattle.control.specs.declared.answer.Answer.{Answer}
 use Rattle.control.specs.declared.answer.Answer.the-variants.{Done, Lacpdu, Marker, Refused}
 use Rattle.control.specs.declared.answer.Reason.{Reason}
 use Rattle.control.specs.declared.answer.Reason.the-variants as reason
 use Rattle.control.specs.Answer.{isNumber, onPort, withRoom, withDefault, frameAnswer, dueAnswer}
 use Rattle.control.specs.Call.{Call, start, receive, tick, line, configure, fetch, report, aggregator}
-use Rattle.control.specs.After.{answer, afterFrame, changedBy, unless, after, outgoing, bufferOf, writtenBy}
-use Rattle.claims.specs.Run.{isLacpdu, Octets, Takes, AllTake, accepted, run, Made}
+use Rattle.control.specs.After.{answer, afterFrame, changedBy, unless, after, effect}
+use Rattle.control.specs.Accepted.{accepted}
+use Rattle.claims.specs.Run.{Takes, AllTake, run, Made}
+use Rattle.control.proofs.CallLaws.{if-accepted, named, heard-on, after-accepted, refused-table, refused-buffer}
 use Rattle.claims.specs.AtRest.{Sound}
 use Rattle.claims.specs.Claims.{isStart, NeverStuck, NoAnswerOne, RefusalsSilent}
-use Rattle.claims.proofs.Sound.{send-sound, line-sound, settings-sound, heard-sound, tick-sound, start-sound}
-
--- ---- what an accepted call has passed
-
-if-accepted : (b : Bool) (a : Answer) (r : Reason) → accepted (cond b a (Refused r)) ≡ true → (b ≡ true) × (accepted a ≡ true)
-if-accepted true a r e = (refl, e)
-if-accepted false a r e = absurd (false≢true e)
-
--- a port number that is none too high, counted from 0
-pub record OnPort (t : List ℕ) (n : ℕ) : Type 0 where
-  pub some : 1 ≤ n
-  pub below : n - 1 < countIn t
-
-pub on-port : (t : List ℕ) (n : ℕ) (rest : Answer) → accepted (onPort t n rest) ≡ true → OnPort t n × (accepted rest ≡ true)
-on-port t n rest e =
-    let a = if-accepted (tableInRange t) (cond (isNumber t n) rest (Refused reason.Number)) reason.Table e in
-    let b = if-accepted (isNumber t n) rest reason.Number (a .1) in
-    let w = within-true 1 n (countIn t) (b .0) in
-    (record { some = w .0; below = less n (countIn t) (w .0) (w .1) }, b .1)
-  where
-    less : (n c : ℕ) → 1 ≤ n → n ≤ c → n - 1 < c
-    less n c a b = omega arith
-
--- the memory of an accepted call on a port is a table
-pub in-table : (t : List ℕ) (n : ℕ) (rest : Answer) → accepted (onPort t n rest) ≡ true → tableInRange t ≡ true
-in-table t n rest e = if-accepted (tableInRange t) (cond (isNumber t n) rest (Refused reason.Number)) reason.Table e .0
-
--- it names a port by its number
-pub numbered : (t : List ℕ) (n : ℕ) (rest : Answer) → accepted (onPort t n rest) ≡ true → isNumber t n ≡ true
-numbered t n rest e =
-    let a = if-accepted (tableInRange t) (cond (isNumber t n) rest (Refused reason.Number)) reason.Table e in
-    if-accepted (isNumber t n) rest reason.Number (a .1) .0
-
--- which port an accepted call on a port names
-pub named : (t : List ℕ) (n : ℕ) (rest : Answer) → accepted (onPort t n rest) ≡ true → n - 1 < countIn t
-named t n rest e = on-port t n rest e .0 .below
-
-if-lacpdu : (b : Bool) (a : Answer) (r : Reason) → isLacpdu (cond b a (Refused r)) ≡ true → (b ≡ true) × (isLacpdu a ≡ true)
-if-lacpdu true a r e = (refl, e)
-if-lacpdu false a r e = absurd (false≢true e)
-
-unless-lacpdu : (b : Bool) (a : Answer) (r : Reason) → isLacpdu (cond b (Refused r) a) ≡ true → isLacpdu a ≡ true
-unless-lacpdu true a r e = absurd (false≢true e)
-unless-lacpdu false a r e = e
-
-no-marker : (b : Bool) (r : Reason) → isLacpdu (cond b Marker (Refused r)) ≡ true → ⊥
-no-marker true r e = false≢true e
-no-marker false r e = false≢true e
-
-frame-up : (k : Class) (l : Line) (m : Mux) → isLacpdu (frameAnswer k l m) ≡ true → (l .up ≡ true) × (l .full ≡ true)
-frame-up class.Lacpdu l m e = both (l .up) (l .full) (if-lacpdu (l .up && l .full) Lacpdu reason.Disabled e .0)
-frame-up class.Marker l m e = absurd (no-marker (collects m || distributes m) reason.NotCollecting e)
-frame-up class.Response l m e = absurd (false≢true e)
-frame-up (class.Refused r) l m e = absurd (false≢true e)
-
--- an accepted LACPDU: the port is up at full duplex
-pub record Heard (t : List ℕ) (n : ℕ) : Type 0 where
-  pub below : n - 1 < countIn t
-  pub up : portAt t (n - 1) .line .up ≡ true
-  pub full : portAt t (n - 1) .line .full ≡ true
-
-pub heard-on : (t : List ℕ) (n : ℕ) (frame out : List ℕ) → answer (receive n frame out) t ≡ Lacpdu → Heard t n
-unfolding answer
-heard-on t n frame out e =
-    let p = portAt t (n - 1) in
-    let rest = withRoom out (frameAnswer (classOf frame) (p .line) (p .phase .mux)) in
-    let a = if-lacpdu (tableInRange t) (cond (isNumber t n) rest (Refused reason.Number)) reason.Table (ap isLacpdu e) in
-    let b = if-lacpdu (isNumber t n) rest reason.Number (a .1) in
-    let c = unless-lacpdu (ltb (length out) 124) (frameAnswer (classOf frame) (p .line) (p .phase .mux)) reason.Buffer (b .1) in
-    let w = frame-up (classOf frame) (p .line) (p .phase .mux) c in
-    record { below = named t n rest (ap accepted e); up = w .0; full = w .1 }
+use Rattle.claims.proofs.Sound.{unmoved, send-sound, line-sound, settings-sound, heard-sound, tick-sound, start-sound}
 
 -- ---- each call keeps a table sound
 
 frame-sound : (t : List ℕ) (s : Sound t) (n : ℕ) (frame out : List ℕ) → Octets frame → (a : Answer) → answer (receive n frame out) t ≡ a
-    → Sound (afterFrame a t (n - 1) frame)
-frame-sound t s n frame out o Done e = s
+    → Sound (on (afterFrame a (n - 1) frame) t)
+frame-sound t s n frame out o Done e = unmoved Sound t s s
 frame-sound t s n frame out o Lacpdu e =
     let h = heard-on t n frame out e in
     heard-sound t s (n - 1) (h .below) frame o (h .up) (h .full)
-frame-sound t s n frame out o Marker e = s
-frame-sound t s n frame out o (Refused r) e = s
+frame-sound t s n frame out o Marker e = unmoved Sound t s s
+frame-sound t s n frame out o (Refused r) e = unmoved Sound t s s
 
 -- an accepted start makes a sound table of any memory
 pub started-sound : (t : List ℕ) (count : ℕ) (system : SystemId) (delay : TensOfMicroseconds) (x : Settings) → Takes (start count system delay x)
     → accepted (answer (start count system delay x) t) ≡ true → Sound (changedBy (start count system delay x) t)
-unfolding answer changedBy
+unfolding answer effect
 started-sound t count system delay x k e =
-    let a = if-accepted (within 1 count mostPorts && eqb (length t) (tableSize count)) (withDefault x Done) reason.Table e in
-    let b = both (within 1 count mostPorts) (eqb (length t) (tableSize count)) (a .0) in
-    let w = within-true 1 count mostPorts (b .0) in
-    start-sound (record { count = count; system = system; delay = delay }) x (k .0) (k .1) (w .0) (w .1)
+    let room = room-is t count (if-accepted (isRoom t count) (withDefault x Done) reason.Table e .0) in
+    start-sound (record { count = count; system = system; delay = delay }) x (k .0) (k .1) (room .some) (room .few)
 
 pub changed-sound : (t : List ℕ) → Sound t → (c : Call) → Takes c → accepted (answer c t) ≡ true → Sound (changedBy c t)
-unfolding answer changedBy
+unfolding answer effect
 changed-sound t s (start count system delay x) k e = started-sound t count system delay x k e
 changed-sound t s (receive n frame out) k e = frame-sound t s n frame out (k .0) (answer (receive n frame out) t) refl
 changed-sound t s tick k e = tick-sound t s
 changed-sound t s (line n l) k e = line-sound t s (n - 1) (named t n Done e) l
 changed-sound t s (configure n x) k e = settings-sound t s (n - 1) (named t n (withDefault x Done) e) x k
 changed-sound t s (fetch n out) k e = send-sound t s (n - 1) (named t n (withRoom out (dueAnswer (dueOf (portAt t (n - 1))))) e)
-changed-sound t s (report n) k e = s
-changed-sound t s (aggregator n) k e = s
+changed-sound t s (report n) k e = unmoved Sound t s s
+changed-sound t s (aggregator n) k e = unmoved Sound t s s
 
 unless-sound : (a : Answer) (t u : List ℕ) → Sound t → (accepted a ≡ true → Sound u) → Sound (unless a t u)
 unless-sound Done t u s f = f refl
@@ -146,17 +77,6 @@ unless-sound (Refused r) t u s f = s
 pub call-sound : (t : List ℕ) → Sound t → (c : Call) → Takes c → Sound (after c t)
 unfolding after
 call-sound t s c k = unless-sound (answer c t) t (changedBy c t) s (λ e. changed-sound t s c k e)
-
-unless-accepted : (a : Answer) (t u : List ℕ) → accepted a ≡ true → unless a t u ≡ u
-unless-accepted Done t u e = refl
-unless-accepted Lacpdu t u e = refl
-unless-accepted Marker t u e = refl
-unless-accepted (Refused r) t u e = absurd (false≢true e)
-
--- what an accepted call leaves
-pub after-accepted : (t : List ℕ) (c : Call) → accepted (answer c t) ≡ true → after c t ≡ changedBy c t
-unfolding after
-after-accepted t c e = unless-accepted (answer c t) t (changedBy c t) e
 
 -- ---- runs
 
@@ -279,8 +199,4 @@ no-answer-one t m c s e = true≢false (ap answersOne (sym e) ∙ not-one t (nev
 -- ---- refusals
 
 pub refusals-silent : RefusalsSilent
-unfolding after outgoing
-refusals-silent t c r e = record {
-  table = ap (λ (a : Answer). unless a t (changedBy c t)) e;
-  buffer = ap (λ (a : Answer). unless a (bufferOf c) (writtenBy c t)) e;
-}
+refusals-silent t c r e = record { table = refused-table c t e; buffer = refused-buffer c t e }

@@ -8,6 +8,8 @@ use native.Mathlib.Omega.{arith}
 use lib.ListN.{length, set, replicate}
 use lib.Dec.{eqb}
 use borrow.Author.Tests.{eqb-true}
+use Rattle.octets.specs.Octets.{within}
+use Rattle.octets.proofs.RangeLaws.{both}
 use Rattle.frame.specs.declared.block.SystemId.{SystemId}
 use Rattle.frame.specs.declared.wire.TensOfMicroseconds.{TensOfMicroseconds}
 use Rattle.frame.specs.Block.{blockOf}
@@ -16,34 +18,34 @@ use Rattle.machine.specs.declared.states.Line.{Line}
 use Rattle.machine.specs.States.{sameLine}
 use Rattle.port.specs.declared.record.Port.{Port}
 use Rattle.port.specs.Receive.{lined}
-use Rattle.port.specs.Transmit.{sent}
+use Rattle.port.specs.Transmit.{sent, advanced}
 use Rattle.settings.specs.declared.Settings.{Settings}
 use Rattle.settings.specs.Settings.{configured, sameSettings, started}
 use Rattle.table.specs.declared.layout.Header.{Header}
-use Rattle.table.specs.Layout.{headerOf, within, mostPorts, tableSize}
-use Rattle.table.specs.Table.{countIn, portAt, ports}
-use Rattle.table.proofs.RangeLaws.{both}
+use Rattle.table.specs.Layout.{headerOf, mostPorts, tableSize}
+use Rattle.table.specs.Table.{countIn, portAt, ports, isRoom, ours, again, on, stateOf}
 use Rattle.table.proofs.TableLaws.{in-range}
 use Rattle.table.proofs.MadeLaws.{made-count}
-use Rattle.trunk.specs.Advanced.{advanced}
 use Rattle.trunk.specs.Displaced.{displaced}
 use Rattle.trunk.specs.Settled.{settled}
-use Rattle.work.specs.Work.{ours, again, worked, afterOne, afterStart, heardAt, afterHeard, afterTick, afterLine, afterSettings, afterSend}
+use Rattle.work.specs.Work.{worked, afterOne, afterStart, heardAt, afterHeard, afterTick, afterLine, afterSettings, afterSend}
 use Rattle.control.specs.declared.answer.Answer.{Answer}
 use Rattle.control.specs.declared.answer.Answer.the-variants.{Done, Lacpdu, Marker, Refused}
 use Rattle.control.specs.declared.answer.Reason.the-variants as reason
-use Rattle.control.specs.Answer.{isRoom, withDefault}
+use Rattle.control.specs.Answer.{withDefault}
 use Rattle.control.specs.Call.{Call, start, receive, tick, line, configure, fetch, report, aggregator}
-use Rattle.control.specs.After.{answer, afterFrame, changedBy, unless, after}
-use Rattle.claims.specs.Run.{accepted, run, AllTake}
+use Rattle.control.specs.After.{answer, afterFrame, changedBy, unless, after, effect}
+use Rattle.control.specs.Accepted.{accepted}
+use Rattle.claims.proofs.Sound.{keptIf}
+use Rattle.claims.specs.Run.{run, AllTake}
 use Rattle.claims.specs.AtRest.{Sound}
 use Rattle.claims.proofs.Calls.{call-sound}
 
 pub again-count : (t : List ℕ) (qs : List Port) → countIn (again t qs) ≡ countIn t
 again-count t qs = made-count (headerOf t) qs
 
-unless-count : (b : Bool) (t : List ℕ) (qs : List Port) → countIn (cond b t (again t qs)) ≡ countIn t
-unless-count true t qs = refl
+unless-count : (b : Bool) (t : List ℕ) (qs : List Port) → countIn (keptIf b t qs) ≡ countIn t
+unless-count true t qs = again-count t (ports t)
 unless-count false t qs = again-count t qs
 
 -- ---- a start
@@ -62,7 +64,7 @@ start-room t count system delay x e =
 
 pub started-count : (t : List ℕ) (count : ℕ) (system : SystemId) (delay : TensOfMicroseconds) (x : Settings)
     → countIn (changedBy (start count system delay x) t) ≡ count
-unfolding changedBy afterStart
+unfolding effect afterStart
 started-count t count system delay x =
     let h : Header = record { count = count; system = system; delay = delay } in
     made-count h (settled h (replicate count (started x)))
@@ -72,18 +74,18 @@ same-count a b e = omega arith
 
 -- ---- each call
 
-frame-count : (t : List ℕ) (i : ℕ) (frame : List ℕ) (a : Answer) → countIn (afterFrame a t i frame) ≡ countIn t
-frame-count t i frame Done = refl
+frame-count : (t : List ℕ) (i : ℕ) (frame : List ℕ) (a : Answer) → countIn (on (afterFrame a i frame) t) ≡ countIn t
+frame-count t i frame Done = again-count t (ports t)
 frame-count t i frame Lacpdu =
-    unfold afterHeard in again-count t (worked (ours t) (displaced i (blockOf (actorPart frame)) (set (ports t) i (heardAt t i frame))))
-frame-count t i frame Marker = refl
-frame-count t i frame (Refused r) = refl
+    unfold afterHeard in again-count t (worked (ours t) (displaced i (blockOf (actorPart frame)) (set (ports t) i (heardAt i frame (stateOf t)))))
+frame-count t i frame Marker = again-count t (ports t)
+frame-count t i frame (Refused r) = again-count t (ports t)
 
-line-count : (t : List ℕ) (i : ℕ) (l : Line) → countIn (afterLine t i l) ≡ countIn t
+line-count : (t : List ℕ) (i : ℕ) (l : Line) → countIn (on (afterLine i l) t) ≡ countIn t
 unfolding afterLine afterOne
 line-count t i l = unless-count (sameLine l (portAt t i .line)) t (worked (ours t) (set (ports t) i (lined l (portAt t i))))
 
-settings-count : (t : List ℕ) (i : ℕ) (x : Settings) → countIn (afterSettings t i x) ≡ countIn t
+settings-count : (t : List ℕ) (i : ℕ) (x : Settings) → countIn (on (afterSettings i x) t) ≡ countIn t
 unfolding afterSettings afterOne
 settings-count t i x = unless-count (sameSettings x (portAt t i)) t (worked (ours t) (set (ports t) i (configured x (portAt t i))))
 
@@ -91,13 +93,13 @@ changed-count : (t : List ℕ) → Sound t → (c : Call) → accepted (answer c
 changed-count t s (start count system delay x) e =
     started-count t count system delay x
     ∙ same-count count (countIn t) (sym (start-room t count system delay x e .1) ∙ in-range t (s .ranged) .size)
-changed-count t s (receive n frame out) e = unfold changedBy in frame-count t (n - 1) frame (answer (receive n frame out) t)
-changed-count t s tick e = unfold changedBy afterTick in again-count t (worked (ours t) (map advanced (ports t)))
-changed-count t s (line n l) e = unfold changedBy in line-count t (n - 1) l
-changed-count t s (configure n x) e = unfold changedBy in settings-count t (n - 1) x
-changed-count t s (fetch n out) e = unfold changedBy afterSend in again-count t (set (ports t) (n - 1) (sent (portAt t (n - 1))))
-changed-count t s (report n) e = unfold changedBy in refl
-changed-count t s (aggregator n) e = unfold changedBy in refl
+changed-count t s (receive n frame out) e = unfold effect in frame-count t (n - 1) frame (answer (receive n frame out) t)
+changed-count t s tick e = unfold effect afterTick in again-count t (worked (ours t) (map advanced (ports t)))
+changed-count t s (line n l) e = unfold effect in line-count t (n - 1) l
+changed-count t s (configure n x) e = unfold effect in settings-count t (n - 1) x
+changed-count t s (fetch n out) e = unfold effect afterSend in again-count t (set (ports t) (n - 1) (sent (portAt t (n - 1))))
+changed-count t s (report n) e = unfold effect in again-count t (ports t)
+changed-count t s (aggregator n) e = unfold effect in again-count t (ports t)
 
 pub call-count : (t : List ℕ) → Sound t → (c : Call) → countIn (after c t) ≡ countIn t
 unfolding after

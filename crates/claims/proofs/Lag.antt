@@ -11,11 +11,10 @@ use Rattle.machine.specs.Compare.{sameSystem}
 use Rattle.port.specs.declared.record.Port.{Port}
 use Rattle.port.specs.Compared.{compared}
 use Rattle.table.specs.declared.layout.Header.{Header}
-use Rattle.table.specs.Table.{portAt, ports}
+use Rattle.table.specs.Table.{portAt, ports, ours}
 use Rattle.trunk.specs.Selection.{individual}
 use Rattle.trunk.proofs.SelectLaws.{joins-at}
 use Rattle.trunk.proofs.GroupLaws.{Together, together, shares-other}
-use Rattle.work.specs.Work.{ours}
 use Rattle.claims.specs.Lag.{isIndividual, lagOf, lagAt, anyPort}
 use Rattle.claims.specs.Claims.{GroupHasLag}
 

@@ -1,7 +1,3 @@
-pub mod Lists
-pub mod Parts
-pub mod Steps
-pub mod Settles
 pub mod Sound
 pub mod Calls
 pub mod Rule

@@ -8,6 +8,9 @@ use native.Mathlib.Omega.{arith}
 use lib.ListN.{length, getD, set, length-set}
 use lib.Dec.{eqb}
 use borrow.Author.Tests.{eqb-true, eq-eqb}
+use Rattle.octets.proofs.ListLaws.{map-at, sweep-at}
+use Rattle.octets.specs.Octets.{Octets, within}
+use Rattle.octets.proofs.RangeLaws.{within-true}
 use Rattle.frame.specs.declared.block.Block.{Block}
 use Rattle.frame.specs.Block.{blockOf}
 use Rattle.frame.specs.Wire.{actorPart, partnerPart}
@@ -19,32 +22,30 @@ use Rattle.port.specs.declared.transmit.Due.{Due}
 use Rattle.port.specs.declared.transmit.Due.the-variants.{Nothing}
 use Rattle.port.specs.Record.{withLine, withNtt, withActor, withOwn, actorBlock}
 use Rattle.port.specs.Receive.{recordDefault, unselected, initialized, portDisabled, current, receiveRun, moved, received, down, lined}
-use Rattle.port.specs.Transmit.{due, sent, silent, quieted, ticked}
+use Rattle.port.specs.Transmit.{due, sent, silent, quieted, ticked, advanced}
+use Rattle.port.proofs.RestKept.{heard-line, run-line}
+use Rattle.port.specs.Range.{ownFits}
 use Rattle.settings.specs.declared.Settings.{Settings}
 use Rattle.settings.specs.Settings.{ownOf, ownBits, sameGrouping, sameSettings, regrouped, configured}
-use Rattle.table.specs.Layout.{within}
-use Rattle.table.specs.Range.{ownFits}
 use Rattle.table.specs.Record.{decoded}
-use Rattle.table.specs.Table.{countIn, portAt, ports}
-use Rattle.table.proofs.RangeLaws.{within-true}
+use Rattle.table.specs.Table.{countIn, portAt, ports, ours, again, on, stateOf, octetsOf}
 use Rattle.table.proofs.StoreLaws.{ports-length, ports-at}
-use Rattle.trunk.specs.Advanced.{advanced}
 use Rattle.trunk.specs.Displaced.{isDisplaced, displacedIf, displaced}
-use Rattle.trunk.proofs.SweepLaws.{sweep-at}
-use Rattle.trunk.proofs.TableWork.{map-at}
-use Rattle.work.specs.Work.{ours, again, worked, afterOne, heardAt, afterHeard, afterTick, afterLine, afterSettings, afterSend}
+use Rattle.work.specs.Work.{worked, afterOne, heardAt, afterHeard, afterTick, afterLine, afterSettings, afterSend}
 use Rattle.control.specs.declared.answer.Answer.{Answer}
 use Rattle.control.specs.declared.answer.Answer.the-variants.{Done, Lacpdu, Marker, Refused}
 use Rattle.control.specs.declared.answer.Reason.the-variants as reason
 use Rattle.control.specs.Answer.{isNumber, withRoom, withDefault, dueAnswer}
 use Rattle.control.specs.Call.{Call, start, receive, tick, line, configure, fetch, report, aggregator}
-use Rattle.control.specs.After.{answer, afterFrame, changedBy, unless, after}
-use Rattle.claims.specs.Run.{Octets, Takes, AllTake, accepted, run}
+use Rattle.control.specs.After.{answer, afterFrame, changedBy, unless, after, effect}
+use Rattle.control.specs.Accepted.{accepted}
+use Rattle.table.proofs.TableLaws.{octets-back}
+use Rattle.claims.specs.Run.{Takes, AllTake, run}
+use Rattle.control.proofs.CallLaws.{named, numbered, heard-on, after-accepted, in-table}
 use Rattle.claims.specs.AtRest.{Sound}
 use Rattle.claims.specs.LineCall.{LineTaken, LineRepeated, Silent, HalfSilent, relines, NoneRelines, StaysSilent}
-use Rattle.claims.proofs.Steps.{heard-line, run-line}
-use Rattle.claims.proofs.Sound.{Before, in-ports, tick-before, line-before, settings-before, heard-before, send-ports}
-use Rattle.claims.proofs.Calls.{named, numbered, heard-on, after-accepted, call-sound, run-sound, never-stuck}
+use Rattle.claims.proofs.Sound.{Before, in-ports, tick-before, line-before, settings-before, heard-before, send-ports, keptIf, sound-back}
+use Rattle.claims.proofs.Calls.{call-sound, run-sound, never-stuck}
 use Rattle.claims.proofs.Rule.{port-firm}
 use Rattle.claims.proofs.Counts.{call-count, run-count}
 use Rattle.claims.proofs.Locality.{again-at}
@@ -52,18 +53,19 @@ use Rattle.claims.proofs.Views.{work-view, set-view}
 
 -- ---- both values as they are
 
-unless-same : (a : Answer) (t : List ℕ) → unless a t t ≡ t
-unless-same Done t = refl
-unless-same Lacpdu t = refl
-unless-same Marker t = refl
-unless-same (Refused r) t = refl
+unless-same : (a : Answer) (t u : List ℕ) → (accepted a ≡ true → u ≡ t) → unless a t u ≡ t
+unless-same Done t u f = f refl
+unless-same Lacpdu t u f = f refl
+unless-same Marker t u f = f refl
+unless-same (Refused r) t u f = refl
 
 pub line-repeated : LineRepeated
-unfolding after changedBy afterLine
-line-repeated t n =
+unfolding after effect afterLine
+line-repeated t o n =
     let p = portAt t (n - 1) in
-    let a = answer (line n (p .line)) t in
-    ap (λ (b : Bool). unless a t (cond b t (afterOne t (n - 1) (lined (p .line) p)))) (line-refl (p .line)) ∙ unless-same a t
+    let c = line n (p .line) in
+    ap (λ (b : Bool). unless (answer c t) t (octetsOf (cond b (stateOf t) (afterOne (n - 1) (lined (p .line) p) (stateOf t))))) (line-refl (p .line))
+    ∙ unless-same (answer c t) t (octetsOf (stateOf t)) (λ e. octets-back t (unfold answer in in-table t n Done e) o)
 
 -- ---- half duplex
 
@@ -121,7 +123,7 @@ sent-line : (p : Port) → sent p .line ≡ p .line
 unfolding sent
 sent-line p = refl
 
-heard-at-line : (t : List ℕ) (i : ℕ) (frame : List ℕ) → heardAt t i frame .line ≡ portAt t i .line
+heard-at-line : (t : List ℕ) (i : ℕ) (frame : List ℕ) → heardAt i frame (stateOf t) .line ≡ portAt t i .line
 unfolding heardAt received current
 heard-at-line t i frame =
     heard-line (actorBlock (ours t .system) (i + 1) (portAt t i)) (blockOf (actorPart frame)) (blockOf (partnerPart frame)) (portAt t i)
@@ -143,54 +145,58 @@ module _ (t : List ℕ) (s : Sound t) (i : ℕ) (h : i < countIn t) where
   work-line : (ps : List Port) → Before t ps → portAt (again t (worked (ours t) ps)) i .line ≡ getD ps i (decoded []) .line
   work-line ps b = work-view (λ p. p .line) (λ p. refl) (λ p. refl) t s i h ps b
 
+  -- nothing is changed
+  same-line : portAt (octetsOf (stateOf t)) i .line ≡ portAt t i .line
+  same-line = ap (λ (u : List ℕ). portAt u i .line) (sound-back t s)
+
   -- one record is changed, and keeps its line
   set-line : (m : ℕ) (q : Port) → (eqb i m ≡ true → q .line ≡ portAt t m .line) → getD (set (ports t) m q) i (decoded []) .line ≡ portAt t i .line
   set-line m q f =
       set-view (λ p. p .line) t s i h m q (portAt t i .line) (λ is. f is ∙ ap (λ (k : ℕ). portAt t k .line) (sym (eqb-true i m is))) (λ other. refl)
 
   -- the call itself
-  given : (l : Line) → portAt (afterLine t i l) i .line ≡ l
+  given : (l : Line) → portAt (on (afterLine i l) t) i .line ≡ l
   unfolding afterLine afterOne
   given l = by (sameLine l (portAt t i .line)) refl
     where
       q : Port
       q = lined l (portAt t i)
 
-      by : (b : Bool) → sameLine l (portAt t i .line) ≡ b → portAt (cond b t (again t (worked (ours t) (set (ports t) i q)))) i .line ≡ l
-      by true e = sym (line-true l (portAt t i .line) e)
+      by : (b : Bool) → sameLine l (portAt t i .line) ≡ b → portAt (keptIf b t (worked (ours t) (set (ports t) i q))) i .line ≡ l
+      by true e = same-line ∙ sym (line-true l (portAt t i .line) e)
       by false e =
           work-line (set (ports t) i q) (line-before t s i h l)
           ∙ set-view (λ p. p .line) t s i h i q l (λ is. lined-line l (portAt t i)) (λ other. absurd (true≢false (sym (eq-eqb i i refl) ∙ other)))
 
-  other-line : (m : ℕ) → m < countIn t → (l : Line) → eqb i m ≡ false → portAt (afterLine t m l) i .line ≡ portAt t i .line
+  other-line : (m : ℕ) → m < countIn t → (l : Line) → eqb i m ≡ false → portAt (on (afterLine m l) t) i .line ≡ portAt t i .line
   unfolding afterLine afterOne
   other-line m g l f = by (sameLine l (portAt t m .line))
     where
       q : Port
       q = lined l (portAt t m)
 
-      by : (b : Bool) → portAt (cond b t (again t (worked (ours t) (set (ports t) m q)))) i .line ≡ portAt t i .line
-      by true = refl
+      by : (b : Bool) → portAt (keptIf b t (worked (ours t) (set (ports t) m q))) i .line ≡ portAt t i .line
+      by true = same-line
       by false = work-line (set (ports t) m q) (line-before t s m g l) ∙ set-line m q (λ e. absurd (true≢false (sym e ∙ f)))
 
-  settings-line : (m : ℕ) → m < countIn t → (x : Settings) → ownFits (ownOf x) ≡ true → portAt (afterSettings t m x) i .line ≡ portAt t i .line
+  settings-line : (m : ℕ) → m < countIn t → (x : Settings) → ownFits (ownOf x) ≡ true → portAt (on (afterSettings m x) t) i .line ≡ portAt t i .line
   unfolding afterSettings afterOne
   settings-line m g x o = by (sameSettings x (portAt t m))
     where
       q : Port
       q = configured x (portAt t m)
 
-      by : (b : Bool) → portAt (cond b t (again t (worked (ours t) (set (ports t) m q)))) i .line ≡ portAt t i .line
-      by true = refl
+      by : (b : Bool) → portAt (keptIf b t (worked (ours t) (set (ports t) m q))) i .line ≡ portAt t i .line
+      by true = same-line
       by false = work-line (set (ports t) m q) (settings-before t s m g x o) ∙ set-line m q (λ e. configured-line x (portAt t m))
 
-  send-line : (m : ℕ) → m < countIn t → portAt (afterSend t m) i .line ≡ portAt t i .line
+  send-line : (m : ℕ) → m < countIn t → portAt (on (afterSend m) t) i .line ≡ portAt t i .line
   unfolding afterSend
   send-line m g =
       let q = sent (portAt t m) in
       ap (λ (p : Port). p .line) (again-at t (set (ports t) m q) (send-ports t s m g) i (decoded []) h) ∙ set-line m q (λ e. sent-line (portAt t m))
 
-  tick-line : portAt (afterTick t) i .line ≡ portAt t i .line
+  tick-line : portAt (on afterTick t) i .line ≡ portAt t i .line
   unfolding afterTick
   tick-line =
       work-line (map advanced (ports t)) (tick-before t s)
@@ -198,28 +204,28 @@ module _ (t : List ℕ) (s : Sound t) (i : ℕ) (h : i < countIn t) where
       ∙ advanced-line (getD (ports t) i (decoded [])) ∙ ap (λ (p : Port). p .line) (ports-at t i (decoded []) h)
 
   frame-line : (n : ℕ) (frame out : List ℕ) → Octets frame → (a : Answer) → answer (receive n frame out) t ≡ a
-      → portAt (afterFrame a t (n - 1) frame) i .line ≡ portAt t i .line
-  frame-line n frame out o Done e = refl
+      → portAt (on (afterFrame a (n - 1) frame) t) i .line ≡ portAt t i .line
+  frame-line n frame out o Done e = same-line
   frame-line n frame out o Lacpdu e = unfold afterHeard in
       let x = heard-on t n frame out e in
       let a = blockOf (actorPart frame) in
-      let q = heardAt t (n - 1) frame in
+      let q = heardAt (n - 1) frame (stateOf t) in
       let here : i < length (set (ports t) (n - 1) q) = rw (length-set (ports t) (n - 1) q, ports-length) h in
       work-line (displaced (n - 1) a (set (ports t) (n - 1) q)) (heard-before t s (n - 1) (x .below) frame o (x .up) (x .full))
       ∙ displaced-line (n - 1) a (set (ports t) (n - 1) q) i (decoded []) here ∙ set-line (n - 1) q (λ y. heard-at-line t (n - 1) frame)
-  frame-line n frame out o Marker e = refl
-  frame-line n frame out o (Refused r) e = refl
+  frame-line n frame out o Marker e = same-line
+  frame-line n frame out o (Refused r) e = same-line
 
   changed-keeps : (c : Call) → Takes c → accepted (answer c t) ≡ true → relines c i ≡ false → portAt (changedBy c t) i .line ≡ portAt t i .line
-  unfolding changedBy
+  unfolding effect
   changed-keeps (start count system delay x) k e f = absurd (true≢false f)
   changed-keeps (receive n frame out) k e f = frame-line n frame out (k .0) (answer (receive n frame out) t) refl
   changed-keeps tick k e f = tick-line
   changed-keeps (line n l) k e f = other-line (n - 1) (unfold answer in named t n Done e) l f
   changed-keeps (configure n x) k e f = settings-line (n - 1) (unfold answer in named t n (withDefault x Done) e) x k
   changed-keeps (fetch n out) k e f = send-line (n - 1) (unfold answer in named t n (withRoom out (dueAnswer (due (portAt t (n - 1))))) e)
-  changed-keeps (report n) k e f = refl
-  changed-keeps (aggregator n) k e f = refl
+  changed-keeps (report n) k e f = same-line
+  changed-keeps (aggregator n) k e f = same-line
 
   call-keeps : (c : Call) → Takes c → relines c i ≡ false → portAt (after c t) i .line ≡ portAt t i .line
   unfolding after
@@ -241,7 +247,7 @@ run-keeps i t (c ∷ cs) s h k f =
     run-keeps i (after c t) cs (call-sound t s c (k .0)) (rw (call-count t s c) h) (k .1) (f .1) ∙ call-keeps t s i h c (k .0) (f .0)
 
 after-line : (t : List ℕ) → Sound t → (n : ℕ) (l : Line) → accepted (answer (line n l) t) ≡ true → portAt (after (line n l) t) (n - 1) .line ≡ l
-unfolding changedBy
+unfolding effect
 after-line t s n l e =
     ap (λ (u : List ℕ). portAt u (n - 1) .line) (after-accepted t (line n l) e) ∙ given t s (n - 1) (unfold answer in named t n Done e) l
 

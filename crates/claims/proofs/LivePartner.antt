@@ -10,6 +10,8 @@ use lib.ListN.{length, getD, set, length-set}
 use lib.Seq.{getD-set-same}
 use lib.Dec.{eqb}
 use borrow.Author.Tests.{eqb-true, eqb-false, eq-eqb}
+use Rattle.octets.proofs.ListLaws.{map-at, sweep-at}
+use Rattle.octets.specs.Octets.{Octets}
 use Rattle.frame.specs.declared.block.Block.{Block}
 use Rattle.frame.specs.Block.{blockOf}
 use Rattle.frame.specs.Wire.{actorPart}
@@ -23,32 +25,31 @@ use Rattle.machine.specs.States.{sameLine}
 use Rattle.machine.specs.Time.{ranOut}
 use Rattle.port.specs.declared.record.Port.{Port}
 use Rattle.port.specs.Record.{withLine, withNtt, withActor, withOwn}
-use Rattle.port.specs.Receive.{recordPdu, unselected, portDisabled, expired, heard, current}
-use Rattle.port.specs.Receive.{receiveChoice, receiveStep, receiveRun, received, down, lined}
-use Rattle.port.specs.Transmit.{sent, due, ticked}
+use Rattle.port.specs.Receive.{recordPdu, unselected, portDisabled, expired, heard, current, receiveChoice, receiveStep, receiveRun, received, down, lined}
+use Rattle.port.specs.Transmit.{sent, due, ticked, advanced}
+use Rattle.port.specs.Rest.{goesWith}
+use Rattle.port.proofs.RestParts.{Standing, receivePart, ReceiveRests}
+use Rattle.port.proofs.RestKept.{lined-falls}
+use Rattle.port.specs.Range.{ownFits}
 use Rattle.settings.specs.declared.Settings.{Settings}
 use Rattle.settings.specs.Settings.{ownOf, ownBits, sameGrouping, sameSettings, regrouped, configured}
 use Rattle.table.specs.Record.{decoded}
-use Rattle.table.specs.Range.{ownFits}
-use Rattle.table.specs.Table.{countIn, portAt, ports}
+use Rattle.table.specs.Table.{countIn, portAt, ports, ours, again, on, stateOf, octetsOf}
 use Rattle.table.proofs.StoreLaws.{ports-length, ports-at}
-use Rattle.trunk.specs.Advanced.{advanced}
 use Rattle.trunk.specs.Displaced.{isDisplaced, displacedIf, displaced}
-use Rattle.trunk.proofs.SweepLaws.{sweep-at}
-use Rattle.trunk.proofs.TableWork.{map-at}
-use Rattle.work.specs.Work.{ours, again, worked, afterOne, heardAt, afterHeard, afterTick, afterLine, afterSettings, afterSend}
+use Rattle.work.specs.Work.{worked, afterOne, heardAt, afterHeard, afterTick, afterLine, afterSettings, afterSend}
 use Rattle.control.specs.declared.answer.Answer.{Answer}
 use Rattle.control.specs.declared.answer.Answer.the-variants.{Done, Lacpdu, Marker, Refused}
 use Rattle.control.specs.Answer.{withRoom, withDefault, dueAnswer}
 use Rattle.control.specs.Call.{Call, start, receive, tick, line, configure, fetch, report, aggregator}
-use Rattle.control.specs.After.{answer, afterFrame, changedBy, unless, after}
-use Rattle.claims.specs.Run.{isLacpdu, Octets, Takes, AllTake, accepted, run}
-use Rattle.claims.specs.AtRest.{Sound, goesWith}
+use Rattle.control.specs.After.{answer, afterFrame, changedBy, unless, after, effect}
+use Rattle.control.specs.Accepted.{isLacpdu, accepted}
+use Rattle.claims.specs.Run.{Takes, AllTake, run}
+use Rattle.control.proofs.CallLaws.{named, heard-on, after-accepted}
+use Rattle.claims.specs.AtRest.{Sound}
 use Rattle.claims.specs.LivePartner.{lasting, Live, isExpired, toHalf, ends, NoneEnds, LivePartner}
-use Rattle.claims.proofs.Parts.{Standing, receivePart, ReceiveRests}
-use Rattle.claims.proofs.Steps.{lined-falls}
-use Rattle.claims.proofs.Sound.{Before, in-ports, port-standing, tick-before, line-before, settings-before, heard-before, send-ports}
-use Rattle.claims.proofs.Calls.{named, heard-on, after-accepted, call-sound, never-stuck}
+use Rattle.claims.proofs.Sound.{Before, in-ports, port-standing, tick-before, line-before, settings-before, heard-before, send-ports, keptIf, unmoved}
+use Rattle.claims.proofs.Calls.{call-sound, never-stuck}
 use Rattle.claims.proofs.Counts.{again-count}
 use Rattle.claims.proofs.Locality.{again-at, displaced-kept}
 use Rattle.claims.proofs.Views.{work-view, set-view}
@@ -254,7 +255,7 @@ sent-lasting : (p : Port) → lastingOf (sent p) ≡ lastingOf p
 unfolding sent
 sent-lasting p = refl
 
-heard-live : (t : List ℕ) (i : ℕ) (frame : List ℕ) → Live frame (heardAt t i frame)
+heard-live : (t : List ℕ) (i : ℕ) (frame : List ℕ) → Live frame (heardAt i frame (stateOf t))
 unfolding heardAt received current heard recordPdu
 heard-live t i frame = record { partner = refl; defaulted = refl }
 
@@ -273,6 +274,9 @@ unchanged : (t : List ℕ) (i : ℕ) → Goes t t i
 unchanged t i = record { count = refl; lasts = refl }
 
 module _ (t : List ℕ) (s : Sound t) (i : ℕ) (h : i < countIn t) where
+  same-goes : Goes t (octetsOf (stateOf t)) i
+  same-goes = unmoved (λ u. Goes t u i) t s (unchanged t i)
+
   -- work by which what lasts of record i is as it was before settling
   work-goes : (ps : List Port) → Before t ps → lastingOf (getD ps i (decoded [])) ≡ lastingOf (portAt t i) → Goes t (again t (worked (ours t) ps)) i
   work-goes ps b e = record { count = again-count t (worked (ours t) ps); lasts = work-lasting t s i h ps b ∙ e }
@@ -284,29 +288,29 @@ module _ (t : List ℕ) (s : Sound t) (i : ℕ) (h : i < countIn t) where
   at-same : (m : ℕ) → eqb i m ≡ true → portAt t m ≡ portAt t i
   at-same m e = ap (portAt t) (sym (eqb-true i m e))
 
-  line-goes : (m : ℕ) → m < countIn t → (l : Line) → (eqb i m ≡ true → toHalf (portAt t m .line) l ≡ false) → Goes t (afterLine t m l) i
+  line-goes : (m : ℕ) → m < countIn t → (l : Line) → (eqb i m ≡ true → toHalf (portAt t m .line) l ≡ false) → Goes t (on (afterLine m l) t) i
   unfolding afterLine afterOne
   line-goes m g l f = by (sameLine l (portAt t m .line)) f
     where
       by : (b : Bool) → (eqb i m ≡ true → not b && (l .up && not (l .full)) ≡ false)
-          → Goes t (cond b t (again t (worked (ours t) (set (ports t) m (lined l (portAt t m)))))) i
-      by true k = unchanged t i
+          → Goes t (keptIf b t (worked (ours t) (set (ports t) m (lined l (portAt t m))))) i
+      by true k = same-goes
       by false k =
           work-goes (set (ports t) m (lined l (portAt t m))) (line-before t s m g l)
           (set-lasting m (lined l (portAt t m)) (λ e.
           lined-lasting (portAt t m) (port-standing t s m g) l (k e) ∙ ap (λ (x : Port). lastingOf x) (at-same m e)))
 
-  settings-goes : (m : ℕ) → m < countIn t → (x : Settings) → ownFits (ownOf x) ≡ true → Goes t (afterSettings t m x) i
+  settings-goes : (m : ℕ) → m < countIn t → (x : Settings) → ownFits (ownOf x) ≡ true → Goes t (on (afterSettings m x) t) i
   unfolding afterSettings afterOne
   settings-goes m g x o = by (sameSettings x (portAt t m))
     where
-      by : (b : Bool) → Goes t (cond b t (again t (worked (ours t) (set (ports t) m (configured x (portAt t m)))))) i
-      by true = unchanged t i
+      by : (b : Bool) → Goes t (keptIf b t (worked (ours t) (set (ports t) m (configured x (portAt t m))))) i
+      by true = same-goes
       by false =
           work-goes (set (ports t) m (configured x (portAt t m))) (settings-before t s m g x o)
           (set-lasting m (configured x (portAt t m)) (λ e. configured-lasting x (portAt t m) ∙ ap (λ (y : Port). lastingOf y) (at-same m e)))
 
-  send-goes : (m : ℕ) → m < countIn t → Goes t (afterSend t m) i
+  send-goes : (m : ℕ) → m < countIn t → Goes t (on (afterSend m) t) i
   unfolding afterSend
   send-goes m g = record {
     count = again-count t (set (ports t) m (sent (portAt t m)));
@@ -315,7 +319,7 @@ module _ (t : List ℕ) (s : Sound t) (i : ℕ) (h : i < countIn t) where
         ∙ set-lasting m (sent (portAt t m)) (λ e. sent-lasting (portAt t m) ∙ ap (λ (y : Port). lastingOf y) (at-same m e));
   }
 
-  tick-goes : isExpired (portAt t i .phase .receive) && eqb (portAt t i .timers .current .0) 1 ≡ false → Goes t (afterTick t) i
+  tick-goes : isExpired (portAt t i .phase .receive) && eqb (portAt t i .timers .current .0) 1 ≡ false → Goes t (on afterTick t) i
   unfolding afterTick
   tick-goes e =
       work-goes (map advanced (ports t)) (tick-before t s)
@@ -324,15 +328,15 @@ module _ (t : List ℕ) (s : Sound t) (i : ℕ) (h : i < countIn t) where
       ∙ advanced-lasting (portAt t i) (port-standing t s i h .receive) e)
 
   frame-goes : (n : ℕ) (frame out : List ℕ) → Octets frame → (a : Answer) → answer (receive n frame out) t ≡ a
-      → isLacpdu a && (eqb i (n - 1) || isDisplaced (blockOf (actorPart frame)) (portAt t i)) ≡ false → Goes t (afterFrame a t (n - 1) frame) i
-  frame-goes n frame out o Done e f = unchanged t i
+      → isLacpdu a && (eqb i (n - 1) || isDisplaced (blockOf (actorPart frame)) (portAt t i)) ≡ false → Goes t (on (afterFrame a (n - 1) frame) t) i
+  frame-goes n frame out o Done e f = same-goes
   frame-goes n frame out o Lacpdu e f = unfold afterHeard in
       let x = heard-on t n frame out e in
       let a = blockOf (actorPart frame) in
-      work-goes (displaced (n - 1) a (set (ports t) (n - 1) (heardAt t (n - 1) frame))) (heard-before t s (n - 1) (x .below) frame o (x .up) (x .full))
-      (ap (λ (y : Port). lastingOf y) (displaced-kept t s i h (n - 1) (heardAt t (n - 1) frame) a i h f))
-  frame-goes n frame out o Marker e f = unchanged t i
-  frame-goes n frame out o (Refused r) e f = unchanged t i
+      work-goes (displaced (n - 1) a (set (ports t) (n - 1) (heardAt (n - 1) frame (stateOf t)))) (heard-before t s (n - 1) (x .below) frame o (x .up) (x .full))
+      (ap (λ (y : Port). lastingOf y) (displaced-kept t s i h (n - 1) (heardAt (n - 1) frame (stateOf t)) a i h f))
+  frame-goes n frame out o Marker e f = same-goes
+  frame-goes n frame out o (Refused r) e f = same-goes
 
   -- a test under an acceptance that holds
   under : (a b : Bool) → a ≡ true → a && b ≡ false → b ≡ false
@@ -343,7 +347,7 @@ module _ (t : List ℕ) (s : Sound t) (i : ℕ) (h : i < countIn t) where
   half-at m l f e = ap (λ (p : Port). toHalf (p .line) l) (at-same m e) ∙ under (eqb i m) (toHalf (portAt t i .line) l) e f
 
   changed-goes : (c : Call) → Takes c → accepted (answer c t) ≡ true → ends c t i ≡ false → Goes t (changedBy c t) i
-  unfolding changedBy
+  unfolding effect
   changed-goes (start count system delay x) k e f = absurd (true≢false (sym e ∙ f))
   changed-goes (receive n frame out) k e f = frame-goes n frame out (k .0) (answer (receive n frame out) t) refl f
   changed-goes tick k e f = tick-goes f
@@ -351,8 +355,8 @@ module _ (t : List ℕ) (s : Sound t) (i : ℕ) (h : i < countIn t) where
       line-goes (n - 1) (unfold answer in named t n Done e) l (half-at (n - 1) l (under (accepted (answer (line n l) t)) _ e f))
   changed-goes (configure n x) k e f = settings-goes (n - 1) (unfold answer in named t n (withDefault x Done) e) x k
   changed-goes (fetch n out) k e f = send-goes (n - 1) (unfold answer in named t n (withRoom out (dueAnswer (due (portAt t (n - 1))))) e)
-  changed-goes (report n) k e f = unchanged t i
-  changed-goes (aggregator n) k e f = unchanged t i
+  changed-goes (report n) k e f = same-goes
+  changed-goes (aggregator n) k e f = same-goes
 
   unless-goes : (a : Answer) (u : List ℕ) → (accepted a ≡ true → Goes t u i) → Goes t (unless a t u) i
   unless-goes Done u f = f refl
@@ -375,11 +379,11 @@ run-live frame i t (c ∷ cs) s h l k f =
 
 -- the frame itself, on the port that hears it
 module _ (t : List ℕ) (s : Sound t) (i : ℕ) (h : i < countIn t) (frame : List ℕ) where
-  own-kept : getD (displaced i (blockOf (actorPart frame)) (set (ports t) i (heardAt t i frame))) i (decoded []) ≡ heardAt t i frame
+  own-kept : getD (displaced i (blockOf (actorPart frame)) (set (ports t) i (heardAt i frame (stateOf t)))) i (decoded []) ≡ heardAt i frame (stateOf t)
   unfolding displaced displacedIf
   own-kept =
       let a = blockOf (actorPart frame) in
-      let q = heardAt t i frame in
+      let q = heardAt i frame (stateOf t) in
       let here : i < length (set (ports t) i q) = rw (length-set (ports t) i q, ports-length) h in
       let z : 0 + i ≡ i = omega arith in
       sweep-at (displacedIf i a) 0 (set (ports t) i q) i (decoded []) here
@@ -387,29 +391,29 @@ module _ (t : List ℕ) (s : Sound t) (i : ℕ) (h : i < countIn t) (frame : Lis
       ∙ ap (λ (p : Port). displacedIf i a i p) (getD-set-same (ports t) i q (decoded []) (in-ports t s i h))
       ∙ rw (eq-eqb i i refl)
 
-  begins : Octets frame → portAt t i .line .up ≡ true → portAt t i .line .full ≡ true → Live frame (portAt (afterHeard t i frame) i)
+  begins : Octets frame → portAt t i .line .up ≡ true → portAt t i .line .full ≡ true → Live frame (portAt (on (afterHeard i frame) t) i)
   unfolding afterHeard
   begins o u f =
-      let ps = displaced i (blockOf (actorPart frame)) (set (ports t) i (heardAt t i frame)) in
-      live-is frame (heardAt t i frame) (portAt (again t (worked (ours t) ps)) i)
+      let ps = displaced i (blockOf (actorPart frame)) (set (ports t) i (heardAt i frame (stateOf t))) in
+      live-is frame (heardAt i frame (stateOf t)) (portAt (again t (worked (ours t) ps)) i)
       (work-lasting t s i h ps (heard-before t s i h frame o u f) ∙ ap (λ (x : Port). lastingOf x) own-kept) (heard-live t i frame)
 
-  heard-count : countIn (afterHeard t i frame) ≡ countIn t
+  heard-count : countIn (on (afterHeard i frame) t) ≡ countIn t
   unfolding afterHeard
-  heard-count = again-count t (worked (ours t) (displaced i (blockOf (actorPart frame)) (set (ports t) i (heardAt t i frame))))
+  heard-count = again-count t (worked (ours t) (displaced i (blockOf (actorPart frame)) (set (ports t) i (heardAt i frame (stateOf t)))))
 
 -- what an accepted LACPDU leaves
-after-heard : (t : List ℕ) (n : ℕ) (frame out : List ℕ) → answer (receive n frame out) t ≡ Lacpdu → after (receive n frame out) t ≡ afterHeard t (n - 1) frame
-unfolding changedBy
+after-heard : (t : List ℕ) (n : ℕ) (frame out : List ℕ) → answer (receive n frame out) t ≡ Lacpdu → after (receive n frame out) t ≡ on (afterHeard (n - 1) frame) t
+unfolding effect
 after-heard t n frame out e =
-    after-accepted t (receive n frame out) (ap accepted e) ∙ ap (λ (a : Answer). afterFrame a t (n - 1) frame) e
+    after-accepted t (receive n frame out) (ap accepted e) ∙ ap (λ (a : Answer). on (afterFrame a (n - 1) frame) t) e
 
 pub live-partner : LivePartner
 live-partner t m n frame out k e cs takes none =
     let s = never-stuck t m in
     let x = heard-on t n frame out e in
     let u = after (receive n frame out) t in
-    let is : u ≡ afterHeard t (n - 1) frame = after-heard t n frame out e in
+    let is : u ≡ on (afterHeard (n - 1) frame) t = after-heard t n frame out e in
     let count : countIn u ≡ countIn t = ap (λ (l : List ℕ). countIn l) is ∙ heard-count t s (n - 1) (x .below) frame in
     let first : Live frame (portAt u (n - 1)) = rw is (begins t s (n - 1) (x .below) frame (k .0) (x .up) (x .full)) in
     run-live frame (n - 1) u cs (call-sound t s (receive n frame out) k) (rw count (x .below)) first takes none

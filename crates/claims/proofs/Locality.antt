@@ -9,6 +9,8 @@ use lib.ListN.{length, getD, set, length-map, length-set}
 use lib.Seq.{getD-set-other}
 use lib.Dec.{eqb}
 use borrow.Author.Tests.{eqb-false}
+use Rattle.octets.proofs.ListLaws.{map-at, sweep-at}
+use Rattle.octets.specs.Octets.{Octets}
 use Rattle.frame.specs.declared.block.Block.{Block}
 use Rattle.frame.specs.Block.{blockOf}
 use Rattle.frame.specs.Wire.{actorPart}
@@ -19,31 +21,31 @@ use Rattle.port.specs.Compared.{compared}
 use Rattle.port.specs.Receive.{lined}
 use Rattle.port.specs.Periodic.{periodicRun}
 use Rattle.port.specs.Transmit.{sent, due}
+use Rattle.port.specs.Range.{ownFits}
 use Rattle.port.proofs.PeriodicLaws.{periodic-idle}
 use Rattle.settings.specs.declared.Settings.{Settings}
 use Rattle.settings.specs.Settings.{configured, sameSettings, ownOf}
 use Rattle.table.specs.Record.{decoded}
-use Rattle.table.specs.Range.{ownFits}
-use Rattle.table.specs.Table.{countIn, portAt, ports}
+use Rattle.table.specs.Table.{countIn, portAt, ports, ours, again, on, stateOf, octetsOf}
 use Rattle.table.proofs.StoreLaws.{ports-length, ports-at}
 use Rattle.trunk.specs.Selection.{sharesGroup}
 use Rattle.trunk.specs.Displaced.{isDisplaced, displacedIf, displaced}
-use Rattle.trunk.proofs.SweepLaws.{sweep-at}
-use Rattle.trunk.proofs.TableWork.{map-at}
 use Rattle.trunk.proofs.GroupLaws.{shares-refl}
 use Rattle.trunk.proofs.SettledLaws.{settled-compares}
 use Rattle.trunk.proofs.DependLaws.{settled-reach}
-use Rattle.work.specs.Work.{ours, again, worked, afterOne, heardAt, afterHeard, afterLine, afterSettings, afterSend}
+use Rattle.work.specs.Work.{worked, afterOne, heardAt, afterHeard, afterLine, afterSettings, afterSend}
 use Rattle.control.specs.declared.answer.Answer.{Answer}
 use Rattle.control.specs.declared.answer.Answer.the-variants.{Done, Lacpdu, Marker, Refused}
 use Rattle.control.specs.Answer.{withRoom, withDefault, dueAnswer}
 use Rattle.control.specs.Call.{Call, start, receive, tick, line, configure, fetch, report, aggregator}
-use Rattle.control.specs.After.{answer, afterFrame, changedBy, unless, after}
-use Rattle.claims.specs.Run.{Octets, Takes, accepted, isLacpdu}
+use Rattle.control.specs.After.{answer, afterFrame, changedBy, unless, after, effect}
+use Rattle.control.specs.Accepted.{accepted, isLacpdu}
+use Rattle.claims.specs.Run.{Takes}
+use Rattle.control.proofs.CallLaws.{named, heard-on, after-accepted}
 use Rattle.claims.specs.AtRest.{Sound}
 use Rattle.claims.specs.Locality.{touches, Apart, Locality}
-use Rattle.claims.proofs.Sound.{Before, in-ports, port-resting, work-ports, line-before, settings-before, heard-before, send-ports}
-use Rattle.claims.proofs.Calls.{named, heard-on, after-accepted, never-stuck}
+use Rattle.claims.proofs.Sound.{Before, in-ports, port-resting, work-ports, line-before, settings-before, heard-before, send-ports, keptIf, sound-back}
+use Rattle.claims.proofs.Calls.{never-stuck}
 use Rattle.claims.proofs.Counts.{again-count}
 
 -- ---- work on a sound table, of which some records are as they were
@@ -121,6 +123,9 @@ module _ (t : List ℕ) (s : Sound t) (j : ℕ) (h : j < countIn t) where
   not-itself : (u : List ℕ) → ApartIn t u j j → ⊥
   not-itself u a = true≢false (sym (shares-refl (ours t) (map compared (ports t)) j) ∙ a .before)
 
+  same-port : portAt (octetsOf (stateOf t)) j ≡ portAt t j
+  same-port = ap (λ (u : List ℕ). portAt u j) (sound-back t s)
+
   one-local : (i : ℕ) (q : Port) → Before t (set (ports t) i q)
       → ((k : ℕ) → k < countIn t → eqb k i ≡ true → ApartIn t (again t (worked (ours t) (set (ports t) i q))) j k)
       → portAt (again t (worked (ours t) (set (ports t) i q))) j ≡ portAt t j
@@ -128,36 +133,36 @@ module _ (t : List ℕ) (s : Sound t) (j : ℕ) (h : j < countIn t) where
       work-local t s (set (ports t) i q) b (λ k. eqb k i) (λ k g e. set-kept t i q k g e) j h
       (λ k g e. f k g e .before) (λ k g e. f k g e .then)
 
-  line-local : (i : ℕ) → i < countIn t → (l : Line) → ((k : ℕ) → k < countIn t → eqb k i ≡ true → ApartIn t (afterLine t i l) j k)
-      → portAt (afterLine t i l) j ≡ portAt t j
+  line-local : (i : ℕ) → i < countIn t → (l : Line) → ((k : ℕ) → k < countIn t → eqb k i ≡ true → ApartIn t (on (afterLine i l) t) j k)
+      → portAt (on (afterLine i l) t) j ≡ portAt t j
   unfolding afterLine afterOne
   line-local i g l f = by (sameLine l (portAt t i .line)) f
     where
-      u : List ℕ
-      u = again t (worked (ours t) (set (ports t) i (lined l (portAt t i))))
+      ps : List Port
+      ps = worked (ours t) (set (ports t) i (lined l (portAt t i)))
 
-      by : (b : Bool) → ((k : ℕ) → k < countIn t → eqb k i ≡ true → ApartIn t (cond b t u) j k) → portAt (cond b t u) j ≡ portAt t j
-      by true f = refl
+      by : (b : Bool) → ((k : ℕ) → k < countIn t → eqb k i ≡ true → ApartIn t (keptIf b t ps) j k) → portAt (keptIf b t ps) j ≡ portAt t j
+      by true f = same-port
       by false f = one-local i (lined l (portAt t i)) (line-before t s i g l) f
 
   settings-local : (i : ℕ) → i < countIn t → (x : Settings) → ownFits (ownOf x) ≡ true
-      → ((k : ℕ) → k < countIn t → eqb k i ≡ true → ApartIn t (afterSettings t i x) j k) → portAt (afterSettings t i x) j ≡ portAt t j
+      → ((k : ℕ) → k < countIn t → eqb k i ≡ true → ApartIn t (on (afterSettings i x) t) j k) → portAt (on (afterSettings i x) t) j ≡ portAt t j
   unfolding afterSettings afterOne
   settings-local i g x o f = by (sameSettings x (portAt t i)) f
     where
-      u : List ℕ
-      u = again t (worked (ours t) (set (ports t) i (configured x (portAt t i))))
+      ps : List Port
+      ps = worked (ours t) (set (ports t) i (configured x (portAt t i)))
 
-      by : (b : Bool) → ((k : ℕ) → k < countIn t → eqb k i ≡ true → ApartIn t (cond b t u) j k) → portAt (cond b t u) j ≡ portAt t j
-      by true f = refl
+      by : (b : Bool) → ((k : ℕ) → k < countIn t → eqb k i ≡ true → ApartIn t (keptIf b t ps) j k) → portAt (keptIf b t ps) j ≡ portAt t j
+      by true f = same-port
       by false f = one-local i (configured x (portAt t i)) (settings-before t s i g x o) f
 
-  send-local : (i : ℕ) → i < countIn t → ((k : ℕ) → k < countIn t → eqb k i ≡ true → ApartIn t (afterSend t i) j k)
-      → portAt (afterSend t i) j ≡ portAt t j
+  send-local : (i : ℕ) → i < countIn t → ((k : ℕ) → k < countIn t → eqb k i ≡ true → ApartIn t (on (afterSend i) t) j k)
+      → portAt (on (afterSend i) t) j ≡ portAt t j
   send-local i g f = by (eqb j i) refl
     where
-      by : (b : Bool) → eqb j i ≡ b → portAt (afterSend t i) j ≡ portAt t j
-      by true e = absurd (not-itself (afterSend t i) (f j h e))
+      by : (b : Bool) → eqb j i ≡ b → portAt (on (afterSend i) t) j ≡ portAt t j
+      by true e = absurd (not-itself (on (afterSend i) t) (f j h e))
       by false e =
           unfold afterSend in
           again-at t (set (ports t) i (sent (portAt t i))) (send-ports t s i g) j (decoded []) h ∙ set-kept t i (sent (portAt t i)) j h e
@@ -186,29 +191,29 @@ module _ (t : List ℕ) (s : Sound t) (j : ℕ) (h : j < countIn t) where
 
   frame-local : (n : ℕ) (frame out : List ℕ) → Octets frame → (a : Answer) → answer (receive n frame out) t ≡ a
       → ((k : ℕ) → k < countIn t → eqb k (n - 1) || (isLacpdu a && isDisplaced (blockOf (actorPart frame)) (portAt t k)) ≡ true
-      → ApartIn t (afterFrame a t (n - 1) frame) j k) → portAt (afterFrame a t (n - 1) frame) j ≡ portAt t j
-  frame-local n frame out o Done e f = refl
+      → ApartIn t (on (afterFrame a (n - 1) frame) t) j k) → portAt (on (afterFrame a (n - 1) frame) t) j ≡ portAt t j
+  frame-local n frame out o Done e f = same-port
   frame-local n frame out o Lacpdu e f = unfold afterHeard in
       let x = heard-on t n frame out e in
       let a = blockOf (actorPart frame) in
       let i = n - 1 in
-      work-local t s (displaced i a (set (ports t) i (heardAt t i frame))) (heard-before t s i (x .below) frame o (x .up) (x .full))
-      (λ k. eqb k i || isDisplaced a (portAt t k)) (λ k g y. displaced-kept i (heardAt t i frame) a k g y) j h
+      work-local t s (displaced i a (set (ports t) i (heardAt i frame (stateOf t)))) (heard-before t s i (x .below) frame o (x .up) (x .full))
+      (λ k. eqb k i || isDisplaced a (portAt t k)) (λ k g y. displaced-kept i (heardAt i frame (stateOf t)) a k g y) j h
       (λ k g y. f k g y .before) (λ k g y. f k g y .then)
-  frame-local n frame out o Marker e f = refl
-  frame-local n frame out o (Refused r) e f = refl
+  frame-local n frame out o Marker e f = same-port
+  frame-local n frame out o (Refused r) e f = same-port
 
   changed-local : (c : Call) → Takes c → accepted (answer c t) ≡ true
       → ((k : ℕ) → k < countIn t → touches c t k ≡ true → ApartIn t (changedBy c t) j k) → portAt (changedBy c t) j ≡ portAt t j
-  unfolding answer changedBy
+  unfolding answer effect
   changed-local (start count system delay x) k e f = absurd (not-itself (changedBy (start count system delay x) t) (f j h refl))
   changed-local (receive n frame out) k e f = frame-local n frame out (k .0) (answer (receive n frame out) t) refl f
   changed-local tick k e f = absurd (not-itself (changedBy tick t) (f j h refl))
   changed-local (line n l) k e f = line-local (n - 1) (named t n Done e) l f
   changed-local (configure n x) k e f = settings-local (n - 1) (named t n (withDefault x Done) e) x k f
   changed-local (fetch n out) k e f = send-local (n - 1) (named t n (withRoom out (dueAnswer (due (portAt t (n - 1))))) e) f
-  changed-local (report n) k e f = refl
-  changed-local (aggregator n) k e f = refl
+  changed-local (report n) k e f = same-port
+  changed-local (aggregator n) k e f = same-port
 
 -- a refused call changes nothing, an accepted one what it changes
 unless-local : (a : Answer) (t u : List ℕ) (j : ℕ) → (accepted a ≡ true → portAt u j ≡ portAt t j) → portAt (unless a t u) j ≡ portAt t j

@@ -9,27 +9,27 @@ use Rattle.frame.proofs.WireLaws.{actor-back, partner-back, lacpdu-heard}
 use Rattle.port.specs.Record.{actorBlock}
 use Rattle.port.specs.Transmit.{due}
 use Rattle.table.specs.Layout.{headerOf}
-use Rattle.table.specs.Table.{portAt}
-use Rattle.work.specs.Work.{ours, lacpduOf, over}
+use Rattle.table.specs.Table.{portAt, ours, stateOf}
+use Rattle.work.specs.Work.{lacpduOf, over}
 use Rattle.control.specs.declared.answer.Answer.{Answer}
 use Rattle.control.specs.declared.answer.Answer.the-variants.{Done}
 use Rattle.control.specs.Answer.{withRoom, dueAnswer}
 use Rattle.control.specs.Call.{fetch}
 use Rattle.control.specs.After.{answer, unless, writtenBy, outgoing}
-use Rattle.claims.specs.Run.{accepted}
+use Rattle.control.specs.Accepted.{accepted}
+use Rattle.control.proofs.CallLaws.{on-port}
 use Rattle.claims.specs.ReadBack.{Reads, ReadBack}
-use Rattle.claims.proofs.Calls.{on-port}
 
 module _ (t : List ℕ) (n : ℕ) (out : List ℕ) (e : answer (fetch n out) t ≡ Done) where
   number : (n - 1) + 1 ≡ n
   unfolding answer
   number = let some : 1 ≤ n = on-port t n (withRoom out (dueAnswer (due (portAt t (n - 1))))) (ap accepted e) .0 .some in omega arith
 
-  sent : outgoing (fetch n out) t ≡ over (lacpduOf t (n - 1)) out
+  sent : outgoing (fetch n out) t ≡ over (lacpduOf (stateOf t) (n - 1)) out
   unfolding outgoing writtenBy
-  sent = ap (λ (a : Answer). unless a out (over (lacpduOf t (n - 1)) out)) e
+  sent = ap (λ (a : Answer). unless a out (over (lacpduOf (stateOf t) (n - 1)) out)) e
 
-  reads : Reads t n (over (lacpduOf t (n - 1)) out)
+  reads : Reads t n (over (lacpduOf (stateOf t) (n - 1)) out)
   unfolding lacpduOf
   reads =
       let p = portAt t (n - 1) in

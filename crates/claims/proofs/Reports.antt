@@ -18,10 +18,11 @@ use Rattle.table.proofs.TableLaws.{in-range}
 use Rattle.control.specs.declared.answer.Answer.{Answer}
 use Rattle.control.specs.declared.answer.Answer.the-variants.{Done}
 use Rattle.control.specs.After.{answer, unless}
-use Rattle.control.specs.Report.{noPort, noSets, portReport, aggregatorReport}
-use Rattle.claims.specs.Run.{accepted}
+use Rattle.port.specs.Absent.{noPort}
+use Rattle.control.specs.Report.{noSets, portReport, aggregatorReport}
+use Rattle.control.specs.Accepted.{accepted}
+use Rattle.control.proofs.CallLaws.{in-table}
 use Rattle.claims.specs.Reports.{PortTrue, SetsTrue, AggregatorTrue}
-use Rattle.claims.proofs.Calls.{in-table}
 
 pub port-true : PortTrue
 unfolding portReport

@@ -4,8 +4,8 @@ use Prim.Native.Nat.{ℕ, _<_}
 use mathlib.Core.Path.{_≡_, refl, sym, ap, _∙_, subst}
 use mathlib.Core.Bool.{Bool, true, false, true≢false, false≢true}
 use mathlib.Core.List.{List, [], map}
-use lib.ListN.{length, getD, length-map}
-use lib.Seq.{ext-getD}
+use lib.ListN.{getD}
+use Rattle.octets.proofs.ListLaws.{map-same}
 use Rattle.machine.specs.declared.states.Mux.{Mux}
 use Rattle.machine.specs.declared.states.Mux.the-variants.{Detached, Waiting, Attached, Collecting, Distributing}
 use Rattle.machine.specs.declared.states.Selection.{Selection}
@@ -20,21 +20,19 @@ use Rattle.port.specs.Receive.{receiveRun}
 use Rattle.port.specs.Periodic.{periodicRun}
 use Rattle.port.proofs.ReceiveLaws.{receive-idle}
 use Rattle.port.proofs.PeriodicLaws.{periodic-idle}
+use Rattle.port.proofs.RestParts.{standing}
+use Rattle.port.proofs.RestKept.{stays-idle}
 use Rattle.table.specs.Record.{decoded}
-use Rattle.table.specs.Table.{countIn, portAt, ports}
+use Rattle.table.specs.Table.{countIn, portAt, ports, ours}
 use Rattle.table.proofs.StoreLaws.{ports-at}
 use Rattle.trunk.specs.Selection.{ruleOf}
 use Rattle.trunk.specs.Ready.{ready}
 use Rattle.trunk.specs.Settled.{settled, Chosen}
-use Rattle.trunk.proofs.TableWork.{map-at}
 use Rattle.trunk.proofs.GroupLaws.{together, rule-apart}
-use Rattle.work.specs.Work.{ours, worked}
+use Rattle.work.specs.Work.{worked}
+use Rattle.trunk.proofs.Settles.{Firm, settles}
 use Rattle.claims.specs.AtRest.{Sound}
 use Rattle.claims.specs.Claims.{Ruled, RuleAfresh, DistributingEarned, BitsTrue, StaysAtRest}
-use Rattle.claims.proofs.Lists.{Each}
-use Rattle.claims.proofs.Parts.{standing}
-use Rattle.claims.proofs.Steps.{stays-idle}
-use Rattle.claims.proofs.Settles.{Firm, settles}
 use Rattle.claims.proofs.Sound.{in-ports, port-resting}
 use Rattle.claims.proofs.Calls.{never-stuck}
 
@@ -100,11 +98,6 @@ pub bits-true : BitsTrue
 bits-true t m i h = port-resting t (never-stuck t m) i h .says
 
 -- ---- nothing is left to do
-
-map-same : (f : Port → Port) (ps : List Port) → Each (λ p. f p ≡ p) ps → map f ps ≡ ps
-map-same f ps e =
-    ext-getD (decoded []) (map f ps) ps (length-map ps f)
-    (λ i k. let h : i < length ps = rw (length-map ps f) at k in map-at f ps i (decoded []) (decoded []) h ∙ e i (decoded []) h)
 
 pub at-rest : StaysAtRest
 unfolding worked

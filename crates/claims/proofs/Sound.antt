@@ -1,77 +1,56 @@
 -- Each piece of work leaves a sound table of a sound one, and start makes one. Before settling, it leaves records in range whose receive
 -- machines rest; the periodic machines and steps 3 to 6 bring the others to rest and keep the range. Assumes nothing.
 use Prim.Native.Nat.{ℕ, _+_, _<_, _≤_}
-use mathlib.Core.Path.{_≡_, refl, sym, ap, _∙_, subst}
-use mathlib.Core.Bool.{Bool, true, false, cond, not, _&&_}
+use mathlib.Core.Path.{_≡_, sym, ap, _∙_, subst}
+use mathlib.Core.Bool.{Bool, true, false, cond}
 use mathlib.Core.List.{List, [], map}
-use native.Mathlib.Omega.{arith}
 use lib.ListN.{length, getD, set, replicate, length-map, length-set, length-replicate}
-use lib.Dec.{eqb}
-use Rattle.frame.specs.declared.block.Block.{Block}
+use Rattle.octets.specs.Lists.{Each}
+use Rattle.octets.proofs.ListLaws.{sweep-length, each-map, each-sweep, each-set, each-alike}
+use Rattle.octets.specs.Octets.{Octets}
 use Rattle.frame.specs.Block.{blockOf}
 use Rattle.frame.specs.Wire.{actorPart, partnerPart}
+use Rattle.frame.proofs.RangeLaws.{part-fits}
 use Rattle.machine.specs.declared.states.Line.{Line}
 use Rattle.machine.specs.States.{sameLine}
 use Rattle.port.specs.declared.record.Port.{Port}
-use Rattle.port.specs.Receive.{lined, moved}
+use Rattle.port.specs.Receive.{lined}
 use Rattle.port.specs.Periodic.{periodicRun}
-use Rattle.port.specs.Transmit.{sent, ticked}
+use Rattle.port.specs.Transmit.{sent, advanced}
+use Rattle.port.specs.Rest.{Resting}
+use Rattle.port.proofs.RestParts.{Standing, standing, periodic-standing}
+use Rattle.port.proofs.RestKept.{received-standing, lined-standing, sent-resting}
+use Rattle.port.specs.Range.{portsInRange, ownFits}
+use Rattle.port.proofs.RangeLaws.{received-ranged, lined-ranged, sent-ranged, advanced-ranged}
 use Rattle.settings.specs.declared.Settings.{Settings}
 use Rattle.settings.specs.Settings.{configured, sameSettings, started, ownOf}
+use Rattle.settings.proofs.StandingLaws.{configured-standing, started-resting}
 use Rattle.table.specs.declared.layout.Header.{Header}
 use Rattle.table.specs.Layout.{headerOf, mostPorts}
 use Rattle.table.specs.Record.{decoded}
-use Rattle.table.specs.Range.{portInRange, portsInRange, headerFits, ownFits}
-use Rattle.table.specs.Table.{countIn, portAt, ports, tableOctets}
-use Rattle.table.proofs.RangeLaws.{both, within-is}
-use Rattle.table.proofs.TableLaws.{in-range, in-range-is}
+use Rattle.table.specs.Range.{headerFits}
+use Rattle.table.specs.State.{withPorts}
+use Rattle.table.specs.Table.{countIn, portAt, ports, tableOctets, ours, again, on, octetsOf, stateOf}
+use Rattle.table.proofs.TableLaws.{in-range, in-range-is, octets-back}
 use Rattle.table.proofs.StoreLaws.{ports-length, ports-at}
 use Rattle.table.proofs.MadeLaws.{ports-ranged-at, ports-ranged, table-ports-ranged, header-fits, made-ports, made-header, made-in-range, made-octets}
 use Rattle.trunk.specs.Settled.{settled}
-use Rattle.trunk.specs.Advanced.{advanced}
-use Rattle.trunk.specs.Displaced.{isDisabled, isDisplaced, displacedIf, displaced}
-use Rattle.trunk.proofs.SweepLaws.{sweep-length}
+use Rattle.trunk.specs.Displaced.{displacedIf, displaced}
+use Rattle.trunk.proofs.EachLaws.{Fits, settled-fits}
 use Rattle.trunk.proofs.SettledLaws.{settled-length}
 use Rattle.trunk.proofs.RestLaws.{settled-twice}
-use Rattle.trunk.proofs.RangeKept.{reselected-ranged, attached-ranged, climbed-ranged, displaced-ranged}
-use Rattle.trunk.proofs.AdvanceRange.{ticked-ranged, periodic-ranged, receive-ranged}
-use Rattle.work.specs.Work.{ours, again, worked, afterOne, afterStart, heardAt, afterHeard, afterTick, afterLine, afterSettings, afterSend}
-use Rattle.work.proofs.RangeWork.{part-fits, received-ranged, lined-ranged, configured-ranged, sent-ranged, started-ranged}
-use Rattle.claims.specs.Run.{Octets}
-use Rattle.claims.specs.AtRest.{Resting, AtRest, Sound}
-use Rattle.claims.proofs.Lists.{Each, each-map, each-sweep, each-set, each-alike, each-settled}
-use Rattle.claims.proofs.Parts.{Standing, standing, periodic-standing, reselected-resting, attached-resting, climbed-resting}
-use Rattle.claims.proofs.Steps.{advanced-standing, received-standing, moved-standing, disabled-down, lined-standing, configured-standing, sent-resting, started-resting}
-use Rattle.claims.proofs.Settles.{Settles, settles, settles-is, sent-settles}
+use Rattle.trunk.proofs.RestingLaws.{advanced-standing, displaced-standing, settled-resting}
+use Rattle.trunk.proofs.RangeKept.{displaced-ranged}
+use Rattle.work.specs.Work.{worked, afterOne, afterStart, heardAt, afterHeard, afterTick, afterLine, afterSettings, afterSend}
+use Rattle.settings.proofs.RangeLaws.{configured-ranged, started-ranged}
+use Rattle.trunk.proofs.Settles.{Settles, settles, settles-is, sent-settles}
+use Rattle.work.proofs.WorkLaws.{worked-length, worked-fits}
+use Rattle.claims.specs.AtRest.{AtRest, Sound}
 
 -- ---- lists of records
 
-abbrev pub Fits : ℕ → Port → Type 0
-Fits count p = portInRange count p ≡ true
-
-pub settled-fits : (count : ℕ) (s : Header) (ps : List Port) → length ps ≡ count → Each (Fits count) ps → Each (Fits count) (settled s ps)
-settled-fits count s ps n e =
-    each-settled (Fits count) s ps
-    (λ k p a b h. reselected-ranged count k p (within-is 1 k count a (omega arith)) h)
-    (λ r p h. attached-ranged count r p h)
-    (λ p h. climbed-ranged count p h) e
-
-pub settled-resting : (s : Header) (ps : List Port) → Each Resting ps → Each Resting (settled s ps)
-settled-resting s ps e =
-    each-settled Resting s ps (λ k p a b h. reselected-resting k p h) (λ r p h. attached-resting r p h) (λ p h. climbed-resting p h) e
-
 pub settled-at-rest : (s : Header) (ps : List Port) → Each Resting ps → AtRest s (settled s ps)
 settled-at-rest s ps e = record { each = settled-resting s ps e; together = settled-twice s ps }
-
-pub worked-length : (s : Header) (ps : List Port) → length (worked s ps) ≡ length ps
-unfolding worked
-worked-length s ps = settled-length s (map periodicRun ps) ∙ length-map ps periodicRun
-
-pub worked-fits : (count : ℕ) (s : Header) (ps : List Port) → length ps ≡ count → Each (Fits count) ps → Each (Fits count) (worked s ps)
-unfolding worked
-worked-fits count s ps n e =
-    settled-fits count s (map periodicRun ps) (length-map ps periodicRun ∙ n)
-    (each-map (Fits count) (Fits count) periodicRun ps (λ p h. periodic-ranged count p h) e)
 
 pub worked-at-rest : (s : Header) (ps : List Port) → Each Standing ps → AtRest s (worked s ps)
 unfolding worked
@@ -131,6 +110,18 @@ module _ (t : List ℕ) (s : Sound t) where
         let g = in-range t (s .ranged) in
         octets-sound (headerOf t) qs (sym n) r (header-fits t (s .octets)) (g .least) (g .most) a
 
+-- ---- where nothing changes: the octets of what they tell of are the octets
+
+pub sound-back : (t : List ℕ) → Sound t → octetsOf (stateOf t) ≡ t
+sound-back t s = octets-back t (s .ranged) (s .octets)
+
+pub unmoved : (P : List ℕ → Type 0) (t : List ℕ) → Sound t → P t → P (octetsOf (stateOf t))
+unmoved P t s x = subst P (sym (sound-back t s)) x
+
+-- the table if b, and with other ports if not
+abbrev pub keptIf : Bool → List ℕ → List Port → List ℕ
+keptIf b t ps = octetsOf (cond b (stateOf t) (withPorts ps (stateOf t)))
+
 -- the records that a call leaves before settling
 pub record Before (t : List ℕ) (ps : List Port) : Type 0 where
   pub size : length ps ≡ countIn t
@@ -149,28 +140,13 @@ module _ (t : List ℕ) (s : Sound t) (ps : List Port) (b : Before t ps) where
 
 -- ---- each piece of work
 
--- a port that is displaced has its link down
-displaced-standing : (r : ℕ) (a : Block) (i : ℕ) (p : Port) → Standing p → Standing (displacedIf r a i p)
-unfolding displacedIf isDisplaced
-displaced-standing r a i p s = by (not (eqb i r) && isDisplaced a p) refl
-  where
-    by : (b : Bool) → not (eqb i r) && isDisplaced a p ≡ b → Standing (cond b (moved p) p)
-    by true e =
-        let x = both (not (eqb i r)) (isDisplaced a p) e .1 in
-        let y = both (isDisabled (p .phase .receive)) _ x .0 in
-        moved-standing p (disabled-down (p .line) (p .phase .receive) (s .receive .state) y) s
-    by false e = s
-
 module _ (t : List ℕ) (s : Sound t) where
   pub tick-before : Before t (map advanced (ports t))
   tick-before = record {
     size = length-map (ports t) advanced ∙ ports-length t;
-    fits = each-map (Fits (countIn t)) (Fits (countIn t)) advanced (ports t) (λ p h. advanced-fits p h) (table-fits t s);
+    fits = each-map (Fits (countIn t)) (Fits (countIn t)) advanced (ports t) (λ p h. advanced-ranged (countIn t) p h) (table-fits t s);
     stands = each-map Standing Standing advanced (ports t) (λ p h. advanced-standing p h) (table-standing t s);
   }
-    where
-      advanced-fits : (p : Port) → Fits (countIn t) p → Fits (countIn t) (advanced p)
-      advanced-fits p h = unfold advanced in receive-ranged (countIn t) (ticked p) (ticked-ranged (countIn t) p h)
 
   -- one port becomes q
   pub one-before : (i : ℕ) (q : Port) → Fits (countIn t) q → Standing q → Before t (set (ports t) i q)
@@ -192,19 +168,19 @@ module _ (t : List ℕ) (s : Sound t) where
         (configured-standing c (portAt t i) (port-standing t s i h))
 
     module _ (frame : List ℕ) (o : Octets frame) (u : portAt t i .line .up ≡ true) (f : portAt t i .line .full ≡ true) where
-      heard-one : Before t (set (ports t) i (heardAt t i frame))
+      heard-one : Before t (set (ports t) i (heardAt i frame (stateOf t)))
       unfolding heardAt
       heard-one =
           let a = blockOf (actorPart frame) in
           let b = blockOf (partnerPart frame) in
-          one-before i (heardAt t i frame) (received-ranged (countIn t) (ours t .system) (i + 1) a b (portAt t i) (part-fits 18 33 frame o) (port-fits t s i h))
+          one-before i (heardAt i frame (stateOf t)) (received-ranged (countIn t) (ours t .system) (i + 1) a b (portAt t i) (part-fits 18 33 frame o) (port-fits t s i h))
           (received-standing (ours t .system) (i + 1) a b (portAt t i) u f (port-standing t s i h))
 
-      pub heard-before : Before t (displaced i (blockOf (actorPart frame)) (set (ports t) i (heardAt t i frame)))
+      pub heard-before : Before t (displaced i (blockOf (actorPart frame)) (set (ports t) i (heardAt i frame (stateOf t))))
       unfolding displaced
       heard-before =
           let a = blockOf (actorPart frame) in
-          let ps = set (ports t) i (heardAt t i frame) in
+          let ps = set (ports t) i (heardAt i frame (stateOf t)) in
           record {
             size = sweep-length (displacedIf i a) 0 ps ∙ heard-one .size;
             fits =
@@ -232,36 +208,36 @@ module _ (t : List ℕ) (s : Sound t) where
           (subst (Settles (ours t)) sent-same (sent-settles (ours t) (ports t) i (decoded []) (settles (ours t) (ports t) (s .rest .together))));
     }
 
-    pub send-ports : ports (afterSend t i) ≡ set (ports t) i (sent (portAt t i))
+    pub send-ports : ports (on (afterSend i) t) ≡ set (ports t) i (sent (portAt t i))
     unfolding afterSend
     send-ports = again-ports t s (set (ports t) i (sent (portAt t i))) sent-size sent-fits
 
-    pub send-sound : Sound (afterSend t i)
+    pub send-sound : Sound (on (afterSend i) t)
     unfolding afterSend
     send-sound = again-sound t s (set (ports t) i (sent (portAt t i))) sent-size sent-fits sent-at-rest
 
-    pub line-sound : (l : Line) → Sound (afterLine t i l)
+    pub line-sound : (l : Line) → Sound (on (afterLine i l) t)
     unfolding afterLine afterOne
     line-sound l = by (sameLine l (portAt t i .line))
       where
-        by : (b : Bool) → Sound (cond b t (again t (worked (ours t) (set (ports t) i (lined l (portAt t i))))))
-        by true = s
+        by : (b : Bool) → Sound (keptIf b t (worked (ours t) (set (ports t) i (lined l (portAt t i)))))
+        by true = unmoved Sound t s s
         by false = work-sound t s (set (ports t) i (lined l (portAt t i))) (line-before l)
 
-    pub settings-sound : (c : Settings) → ownFits (ownOf c) ≡ true → Sound (afterSettings t i c)
+    pub settings-sound : (c : Settings) → ownFits (ownOf c) ≡ true → Sound (on (afterSettings i c) t)
     unfolding afterSettings afterOne
     settings-sound c f = by (sameSettings c (portAt t i))
       where
-        by : (b : Bool) → Sound (cond b t (again t (worked (ours t) (set (ports t) i (configured c (portAt t i))))))
-        by true = s
+        by : (b : Bool) → Sound (keptIf b t (worked (ours t) (set (ports t) i (configured c (portAt t i)))))
+        by true = unmoved Sound t s s
         by false = work-sound t s (set (ports t) i (configured c (portAt t i))) (settings-before c f)
 
-    pub heard-sound : (frame : List ℕ) → Octets frame → portAt t i .line .up ≡ true → portAt t i .line .full ≡ true → Sound (afterHeard t i frame)
+    pub heard-sound : (frame : List ℕ) → Octets frame → portAt t i .line .up ≡ true → portAt t i .line .full ≡ true → Sound (on (afterHeard i frame) t)
     unfolding afterHeard
     heard-sound frame o u f =
-        work-sound t s (displaced i (blockOf (actorPart frame)) (set (ports t) i (heardAt t i frame))) (heard-before frame o u f)
+        work-sound t s (displaced i (blockOf (actorPart frame)) (set (ports t) i (heardAt i frame (stateOf t)))) (heard-before frame o u f)
 
-  pub tick-sound : Sound (afterTick t)
+  pub tick-sound : Sound (on afterTick t)
   unfolding afterTick
   tick-sound = work-sound t s (map advanced (ports t)) tick-before
 
@@ -282,11 +258,11 @@ module _ (h : Header) (c : Settings) (f : headerFits h ≡ true) (o : ownFits (o
       settled-fits (h .count) h alike many
       (unfold alike in each-alike (Fits (h .count)) (h .count) (started c) (started-ranged (h .count) c some o))
 
-  pub start-ports : ports (afterStart h c) ≡ settled h (replicate (h .count) (started c))
+  pub start-ports : ports (octetsOf (afterStart h c)) ≡ settled h (replicate (h .count) (started c))
   unfolding afterStart alike
   start-ports = octets-ports h (settled h alike) settled-many start-fits
 
-  pub start-sound : Sound (afterStart h c)
+  pub start-sound : Sound (octetsOf (afterStart h c))
   unfolding afterStart alike
   start-sound =
       octets-sound h (settled h alike) settled-many start-fits f some few

@@ -10,6 +10,9 @@ use native.Mathlib.Nat.{zero-add}
 use lib.Seq.{getD-append-seam}
 use lib.Dec.{eqb, ltb, leb}
 use borrow.Author.Tests.{eqb-true, eqb-false, eq-eqb, leb-true, leb-false, le-ltb}
+use Rattle.octets.proofs.ListLaws.{map-at, sweep-at, each-alike}
+use Rattle.octets.specs.Octets.{Octets}
+use Rattle.octets.proofs.RangeLaws.{within-true, within-is}
 use Rattle.frame.specs.declared.block.Block.{Block}
 use Rattle.frame.specs.declared.block.SystemId.{SystemId}
 use Rattle.frame.specs.declared.wire.TensOfMicroseconds.{TensOfMicroseconds}
@@ -23,34 +26,33 @@ use Rattle.machine.specs.Time.{fastPeriodicTime}
 use Rattle.port.specs.declared.record.Port.{Port}
 use Rattle.port.specs.declared.transmit.Due.the-variants as due
 use Rattle.port.specs.Receive.{moved, lined}
-use Rattle.port.specs.Transmit.{due as dueOf, sent}
+use Rattle.port.specs.Transmit.{due as dueOf, sent, advanced}
+use Rattle.port.proofs.RestKept.{received-ages, moved-ages, lined-ages}
+use Rattle.port.specs.Range.{ownFits}
 use Rattle.settings.specs.declared.Settings.{Settings}
 use Rattle.settings.specs.Settings.{configured, sameSettings, ownOf, blank, started}
+use Rattle.settings.proofs.StandingLaws.{configured-ages}
 use Rattle.table.specs.declared.layout.Header.{Header}
 use Rattle.table.specs.Layout.{mostPorts}
 use Rattle.table.specs.Record.{decoded}
-use Rattle.table.specs.Range.{ownFits}
-use Rattle.table.specs.Table.{tableInRange, countIn, portAt, ports}
-use Rattle.table.proofs.RangeLaws.{within-true, within-is}
+use Rattle.table.specs.Table.{tableInRange, countIn, portAt, ports, ours, again, on, octetsOf, stateOf}
 use Rattle.table.proofs.StoreLaws.{ports-length, ports-at}
-use Rattle.trunk.specs.Advanced.{advanced}
 use Rattle.trunk.specs.Displaced.{isDisplaced, displacedIf, displaced}
-use Rattle.trunk.proofs.SweepLaws.{sweep-at}
-use Rattle.trunk.proofs.TableWork.{map-at}
-use Rattle.work.specs.Work.{ours, again, worked, afterOne, afterStart, heardAt, afterHeard, afterTick, afterLine, afterSettings, afterSend}
+use Rattle.trunk.proofs.RestingLaws.{advanced-ages}
+use Rattle.work.specs.Work.{worked, afterOne, afterStart, heardAt, afterHeard, afterTick, afterLine, afterSettings, afterSend}
 use Rattle.control.specs.declared.answer.Answer.{Answer}
 use Rattle.control.specs.declared.answer.Answer.the-variants.{Done, Lacpdu, Marker, Refused}
 use Rattle.control.specs.declared.answer.Reason.the-variants as reason
 use Rattle.control.specs.Answer.{answerNumber, isNumber, withRoom, withDefault, dueAnswer}
 use Rattle.control.specs.Call.{Call, start, receive, tick, line, configure, fetch, report, aggregator}
-use Rattle.control.specs.After.{answer, afterFrame, changedBy, unless, after}
-use Rattle.claims.specs.Run.{Octets, Takes, AllTake, accepted, run, Made}
+use Rattle.control.specs.After.{answer, afterFrame, changedBy, unless, after, effect}
+use Rattle.control.specs.Accepted.{accepted}
+use Rattle.claims.specs.Run.{Takes, AllTake, run, Made}
+use Rattle.control.proofs.CallLaws.{OnPort, on-port, named, heard-on, after-accepted}
 use Rattle.claims.specs.AtRest.{Sound}
 use Rattle.claims.specs.ThreeSends.{sendsBy, sends, sendsOf, recent, ThreeSends, ticksIn, NoneStarts, FourSendsApart}
-use Rattle.claims.proofs.Lists.{each-alike}
-use Rattle.claims.proofs.Steps.{advanced-ages, received-ages, moved-ages, lined-ages, configured-ages}
-use Rattle.claims.proofs.Sound.{Before, in-ports, tick-before, line-before, settings-before, heard-before, send-ports, start-ports}
-use Rattle.claims.proofs.Calls.{OnPort, on-port, named, heard-on, after-accepted, started-sound, call-sound, never-stuck}
+use Rattle.claims.proofs.Sound.{Before, in-ports, tick-before, line-before, settings-before, heard-before, send-ports, start-ports, keptIf, sound-back}
+use Rattle.claims.proofs.Calls.{started-sound, call-sound, never-stuck}
 use Rattle.claims.proofs.Counts.{start-room, started-count, call-count, run-count}
 use Rattle.claims.proofs.Locality.{again-at}
 use Rattle.claims.proofs.Views.{settled-view, work-view, set-view}
@@ -62,31 +64,35 @@ module _ (t : List ℕ) (s : Sound t) (i : ℕ) (h : i < countIn t) where
   work-ages : (ps : List Port) → Before t ps → portAt (again t (worked (ours t) ps)) i .ages ≡ getD ps i (decoded []) .ages
   work-ages ps b = work-view (λ p. p .ages) (λ p. refl) (λ p. refl) t s i h ps b
 
+  -- nothing is changed
+  pub same-ages : portAt (octetsOf (stateOf t)) i .ages ≡ portAt t i .ages
+  same-ages = ap (λ (u : List ℕ). portAt u i .ages) (sound-back t s)
+
   -- one record is changed, and keeps its ages
   set-ages : (m : ℕ) (q : Port) → q .ages ≡ portAt t m .ages → getD (set (ports t) m q) i (decoded []) .ages ≡ portAt t i .ages
   set-ages m q e =
       set-view (λ p. p .ages) t s i h m q (portAt t i .ages) (λ is. e ∙ ap (λ (k : ℕ). portAt t k .ages) (sym (eqb-true i m is))) (λ other. refl)
 
-  line-ages : (m : ℕ) → m < countIn t → (l : Line) → portAt (afterLine t m l) i .ages ≡ portAt t i .ages
+  line-ages : (m : ℕ) → m < countIn t → (l : Line) → portAt (on (afterLine m l) t) i .ages ≡ portAt t i .ages
   unfolding afterLine afterOne
   line-ages m g l = by (sameLine l (portAt t m .line))
     where
       q : Port
       q = lined l (portAt t m)
 
-      by : (b : Bool) → portAt (cond b t (again t (worked (ours t) (set (ports t) m q)))) i .ages ≡ portAt t i .ages
-      by true = refl
+      by : (b : Bool) → portAt (keptIf b t (worked (ours t) (set (ports t) m q))) i .ages ≡ portAt t i .ages
+      by true = same-ages
       by false = work-ages (set (ports t) m q) (line-before t s m g l) ∙ set-ages m q (lined-ages l (portAt t m))
 
-  settings-ages : (m : ℕ) → m < countIn t → (x : Settings) → ownFits (ownOf x) ≡ true → portAt (afterSettings t m x) i .ages ≡ portAt t i .ages
+  settings-ages : (m : ℕ) → m < countIn t → (x : Settings) → ownFits (ownOf x) ≡ true → portAt (on (afterSettings m x) t) i .ages ≡ portAt t i .ages
   unfolding afterSettings afterOne
   settings-ages m g x o = by (sameSettings x (portAt t m))
     where
       q : Port
       q = configured x (portAt t m)
 
-      by : (b : Bool) → portAt (cond b t (again t (worked (ours t) (set (ports t) m q)))) i .ages ≡ portAt t i .ages
-      by true = refl
+      by : (b : Bool) → portAt (keptIf b t (worked (ours t) (set (ports t) m q))) i .ages ≡ portAt t i .ages
+      by true = same-ages
       by false = work-ages (set (ports t) m q) (settings-before t s m g x o) ∙ set-ages m q (configured-ages x (portAt t m))
 
   displaced-ages : (r : ℕ) (a : Block) (ps : List Port) → i < length ps → getD (displaced r a ps) i (decoded []) .ages ≡ getD ps i (decoded []) .ages
@@ -100,21 +106,21 @@ module _ (t : List ℕ) (s : Sound t) (i : ℕ) (h : i < countIn t) where
       by p false = refl
 
   frame-ages : (n : ℕ) (frame out : List ℕ) → Octets frame → (a : Answer) → answer (receive n frame out) t ≡ a
-      → portAt (afterFrame a t (n - 1) frame) i .ages ≡ portAt t i .ages
-  frame-ages n frame out o Done e = refl
+      → portAt (on (afterFrame a (n - 1) frame) t) i .ages ≡ portAt t i .ages
+  frame-ages n frame out o Done e = same-ages
   frame-ages n frame out o Lacpdu e = unfold afterHeard heardAt in
       let x = heard-on t n frame out e in
       let a = blockOf (actorPart frame) in
       let b = blockOf (partnerPart frame) in
-      let q = heardAt t (n - 1) frame in
+      let q = heardAt (n - 1) frame (stateOf t) in
       let here : i < length (set (ports t) (n - 1) q) = rw (length-set (ports t) (n - 1) q, ports-length) h in
       work-ages (displaced (n - 1) a (set (ports t) (n - 1) q)) (heard-before t s (n - 1) (x .below) frame o (x .up) (x .full))
       ∙ displaced-ages (n - 1) a (set (ports t) (n - 1) q) here
       ∙ set-ages (n - 1) q (received-ages (ours t .system) (n - 1 + 1) a b (portAt t (n - 1)))
-  frame-ages n frame out o Marker e = refl
-  frame-ages n frame out o (Refused r) e = refl
+  frame-ages n frame out o Marker e = same-ages
+  frame-ages n frame out o (Refused r) e = same-ages
 
-  tick-ages : portAt (afterTick t) i .ages ≡ agesTicked (portAt t i .ages)
+  tick-ages : portAt (on afterTick t) i .ages ≡ agesTicked (portAt t i .ages)
   unfolding afterTick
   tick-ages =
       work-ages (map advanced (ports t)) (tick-before t s)
@@ -123,7 +129,7 @@ module _ (t : List ℕ) (s : Sound t) (i : ℕ) (h : i < countIn t) where
 
   -- a send on port m: x, if that is what remembering it gives where i is m, and as before where it is not
   send-ages : (m : ℕ) → m < countIn t → (x : Ages) → (eqb i m ≡ true → sentAges (portAt t m .ages) ≡ x) → (eqb i m ≡ false → portAt t i .ages ≡ x)
-      → portAt (afterSend t m) i .ages ≡ x
+      → portAt (on (afterSend m) t) i .ages ≡ x
   unfolding afterSend
   send-ages m g x f k =
       let q = sent (portAt t m) in
@@ -140,13 +146,13 @@ started-ages x = moved-ages (blank x) ∙ unfold blank in refl
 start-ages : (t : List ℕ) (count : ℕ) (system : SystemId) (delay : TensOfMicroseconds) (x : Settings) → Takes (start count system delay x)
     → accepted (answer (start count system delay x) t) ≡ true → (i : ℕ) → i < count
     → portAt (changedBy (start count system delay x) t) i .ages ≡ ages noSend noSend noSend
-unfolding changedBy
+unfolding effect
 start-ages t count system delay x k e i h =
     let header : Header = record { count = count; system = system; delay = delay } in
     let w = within-true 1 count mostPorts (start-room t count system delay x e .0) in
     let ps = replicate count (started x) in
     let many : i < length ps = rw (length-replicate count (started x)) h in
-    sym (ap (λ (p : Port). p .ages) (ports-at (afterStart header x) i (decoded []) (rw (started-count t count system delay x) h)))
+    sym (ap (λ (p : Port). p .ages) (ports-at (octetsOf (afterStart header x)) i (decoded []) (rw (started-count t count system delay x) h)))
     ∙ ap (λ (l : List Port). getD l i (decoded []) .ages) (start-ports header x (k .0) (k .1) (w .0) (w .1))
     ∙ settled-view (λ p. p .ages) (λ p. refl) (λ p. refl) header ps i (decoded []) many
     ∙ each-alike (λ p. p .ages ≡ ages noSend noSend noSend) count (started x) (started-ages x) i (decoded []) many
@@ -215,24 +221,24 @@ module _ (t : List ℕ) (s : Sound t) (n : ℕ) (some : 1 ≤ n) (h : n - 1 < co
       by true e = subst (At m) (sym (after-accepted t c e)) (then e)
       by false e = subst (At m) (sym (after-refused t c e)) (subst (λ (x : List ℕ). At x t) (else e) (kept t refl))
 
-  fetch-at : (m : ℕ) (out : List ℕ) → accepted (answer (fetch m out) t) ≡ true → At (cond (eqb n m) (0 ∷ l) l) (afterSend t (m - 1))
+  fetch-at : (m : ℕ) (out : List ℕ) → accepted (answer (fetch m out) t) ≡ true → At (cond (eqb n m) (0 ∷ l) l) (on (afterSend (m - 1)) t)
   unfolding At
   fetch-at m out e = by (eqb n m) refl
     where
-      on : (1 ≤ m) × (m - 1 < countIn t)
-      on = unfold answer in let o = on-port t m (withRoom out (dueAnswer (dueOf (portAt t (m - 1))))) e .0 in (o .some, o .below)
+      number : (1 ≤ m) × (m - 1 < countIn t)
+      number = unfold answer in let o = on-port t m (withRoom out (dueAnswer (dueOf (portAt t (m - 1))))) e .0 in (o .some, o .below)
 
-      by : (b : Bool) → eqb n m ≡ b → Keeps (cond b (0 ∷ l) l) (portAt (afterSend t (m - 1)) (n - 1) .ages)
+      by : (b : Bool) → eqb n m ≡ b → Keeps (cond b (0 ∷ l) l) (portAt (on (afterSend (m - 1)) t) (n - 1) .ages)
       by true is =
           let same : m - 1 ≡ n - 1 = ap (λ (x : ℕ). x - 1) (sym (eqb-true n m is)) in
           let here : portAt t (m - 1) .ages ≡ portAt t (n - 1) .ages = ap (λ (x : ℕ). portAt t x .ages) same in
-          let it : portAt (afterSend t (m - 1)) (n - 1) .ages ≡ sentAges (portAt t (n - 1) .ages) =
-          send-ages t s (n - 1) h (m - 1) (on .1) (sentAges (portAt t (n - 1) .ages)) (λ f. ap sentAges here)
+          let it : portAt (on (afterSend (m - 1)) t) (n - 1) .ages ≡ sentAges (portAt t (n - 1) .ages) =
+          send-ages t s (n - 1) h (m - 1) (number .1) (sentAges (portAt t (n - 1) .ages)) (λ f. ap sentAges here)
           (λ f. absurd (true≢false (sym (eq-eqb (n - 1) (m - 1) (sym same)) ∙ f))) in
           subst (Keeps (0 ∷ l)) (sym it) (keeps-sent l (portAt t (n - 1) .ages) k (ap barred (sym here) ∙ fetch-free t m out e))
       by false other =
-          kept (afterSend t (m - 1))
-          (send-ages t s (n - 1) h (m - 1) (on .1) (portAt t (n - 1) .ages) (λ f. absurd (same-number n m some (on .0) other f)) (λ f. refl))
+          kept (on (afterSend (m - 1)) t)
+          (send-ages t s (n - 1) h (m - 1) (number .1) (portAt t (n - 1) .ages) (λ f. absurd (same-number n m some (number .0) other f)) (λ f. refl))
 
   start-at : (count : ℕ) (system : SystemId) (delay : TensOfMicroseconds) (x : Settings) → Takes (start count system delay x)
       → accepted (answer (start count system delay x) t) ≡ true → At [] (changedBy (start count system delay x) t)
@@ -244,7 +250,7 @@ module _ (t : List ℕ) (s : Sound t) (n : ℕ) (some : 1 ≤ n) (h : n - 1 < co
       subst (Keeps []) (sym (start-ages t count system delay x g e (n - 1) (rw same h))) keeps-none
 
   tick-at : At (map suc l) (changedBy tick t)
-  unfolding At changedBy
+  unfolding At effect
   tick-at = subst (Keeps (map suc l)) (sym (tick-ages t s (n - 1) h)) (keeps-ticked l (portAt t (n - 1) .ages) k)
 
   tick-accepted : accepted (answer tick t) ≡ true
@@ -260,16 +266,16 @@ module _ (t : List ℕ) (s : Sound t) (n : ℕ) (some : 1 ≤ n) (h : n - 1 < co
       either (start count system delay x) (cond (accepted (answer (start count system delay x) t)) [] l)
       (λ e. rw e (start-at count system delay x g e)) (λ e. rw e)
   call-at (receive m frame out) g =
-      left (receive m frame out) (λ e. unfold changedBy in frame-ages t s (n - 1) h m frame out (g .0) (answer (receive m frame out) t) refl)
+      left (receive m frame out) (λ e. unfold effect in frame-ages t s (n - 1) h m frame out (g .0) (answer (receive m frame out) t) refl)
   call-at tick g = either tick (map suc l) (λ e. tick-at) (λ e. absurd (true≢false (sym tick-accepted ∙ e)))
-  call-at (line m x) g = left (line m x) (λ e. unfold changedBy in line-ages t s (n - 1) h (m - 1) (unfold answer in named t m Done e) x)
+  call-at (line m x) g = left (line m x) (λ e. unfold effect in line-ages t s (n - 1) h (m - 1) (unfold answer in named t m Done e) x)
   call-at (configure m x) g =
-      left (configure m x) (λ e. unfold changedBy in settings-ages t s (n - 1) h (m - 1) (unfold answer in named t m (withDefault x Done) e) x g)
+      left (configure m x) (λ e. unfold effect in settings-ages t s (n - 1) h (m - 1) (unfold answer in named t m (withDefault x Done) e) x g)
   call-at (fetch m out) g =
       either (fetch m out) (cond (eqb n m && accepted (answer (fetch m out) t)) (0 ∷ l) l)
-      (λ e. unfold changedBy in rw (e, and-true (eqb n m)) (fetch-at m out e)) (λ e. rw (e, and-false (eqb n m)))
-  call-at (report m) g = left (report m) (λ e. unfold changedBy in refl)
-  call-at (aggregator m) g = left (aggregator m) (λ e. unfold changedBy in refl)
+      (λ e. unfold effect in rw (e, and-true (eqb n m)) (fetch-at m out e)) (λ e. rw (e, and-false (eqb n m)))
+  call-at (report m) g = left (report m) (λ e. unfold effect in same-ages t s (n - 1) h)
+  call-at (aggregator m) g = left (aggregator m) (λ e. unfold effect in same-ages t s (n - 1) h)
 
 -- ---- runs
 

@@ -8,32 +8,19 @@ use lib.ListN.{length, getD, set, length-map}
 use lib.Seq.{getD-set-same}
 use lib.Dec.{eqb}
 use borrow.Author.Tests.{eqb-true}
+use Rattle.octets.proofs.ListLaws.{map-at}
 use Rattle.port.specs.declared.record.Port.{Port}
-use Rattle.port.specs.Compared.{compared}
-use Rattle.port.specs.Mux.{attachedIf}
 use Rattle.port.specs.Periodic.{periodicRun}
 use Rattle.port.proofs.PeriodicLaws.{besidePeriodic, periodic-keeps}
 use Rattle.table.specs.declared.layout.Header.{Header}
 use Rattle.table.specs.Record.{decoded}
-use Rattle.table.specs.Table.{countIn, portAt, ports}
-use Rattle.trunk.specs.Selection.{ruleOf}
-use Rattle.trunk.specs.Ready.{ready}
-use Rattle.trunk.specs.Settled.{selectedAll, settled}
-use Rattle.trunk.proofs.TableWork.{map-at}
-use Rattle.trunk.proofs.SettledLaws.{settled-at, selected-at}
-use Rattle.work.specs.Work.{ours, again, worked}
+use Rattle.table.specs.Table.{countIn, portAt, ports, ours, again}
+use Rattle.trunk.specs.Settled.{settled}
+use Rattle.trunk.proofs.BesideLaws.{besideSettled, settled-beside}
+use Rattle.work.specs.Work.{worked}
 use Rattle.claims.specs.AtRest.{Sound}
-use Rattle.claims.proofs.Parts.{besideSettled, reselected-beside, attached-beside, climbed-beside}
 use Rattle.claims.proofs.Sound.{Before, in-ports, work-ports}
 use Rattle.claims.proofs.Locality.{again-at, set-kept}
-
-settled-beside : (s : Header) (ps : List Port) (i : ℕ) (d : Port) → i < length ps → besideSettled (getD (settled s ps) i d) ≡ besideSettled (getD ps i d)
-settled-beside s ps i d h =
-    let ss = selectedAll s ps in
-    let r = ready (getD ss i d .aggregator) ss in
-    ap (λ (x : Port). besideSettled x) (settled-at s ps i d h)
-    ∙ climbed-beside (attachedIf r (getD ss i d)) ∙ attached-beside r (getD ss i d)
-    ∙ ap (λ (x : Port). besideSettled x) (selected-at s ps i d h) ∙ reselected-beside (ruleOf s (map compared ps) i) (getD ps i d)
 
 -- a view that looks beside what the periodic machine and steps 3 to 6 change
 module _ {A : Type 0} (v : Port → A) (paces : (p : Port) → v (besidePeriodic p) ≡ v p) (settles : (p : Port) → v (besideSettled p) ≡ v p) where

@@ -7,31 +7,33 @@ use native.Mathlib.Omega.{arith}
 use lib.Dec.{ltb}
 use lib.Count.{ones, onesIn, trailingZeros}
 use borrow.Author.Tests.{ltb-true}
+use Rattle.octets.specs.Lists.{mapFrom}
+use Rattle.frame.specs.Block.{blockFits}
 use Rattle.machine.specs.Compare.{sameAddress, sameSystem, sameNumbers, sameParty, sameView, maintained, inSync, sameState, sameBlock}
-use Rattle.port.specs.Receive.{recordDefault, recordPdu, updateSelected, updateDefaultSelected, updateNtt, initialized, portDisabled, expired}
-use Rattle.port.specs.Receive.{lacpDisabled, defaulted, heard, current, moved, received, receiveChoice, receiveStep, receiveRun, lined}
+use Rattle.port.specs.Receive.{recordDefault, recordPdu, updateSelected, updateDefaultSelected, updateNtt, initialized, portDisabled, expired, lacpDisabled, defaulted, heard, current, moved, received, receiveChoice, receiveStep, receiveRun, lined}
 use Rattle.port.specs.Periodic.{periodicChoice, periodicStep, periodicRun}
-use Rattle.port.specs.Transmit.{due, sent, silent as Port·silent, quieted, ticked}
+use Rattle.port.specs.Transmit.{due, sent, silent as Port·silent, quieted, ticked, advanced}
 use Rattle.port.specs.Mux.{muxChoice, muxStep, detached, placed, attachedIf, muxRun}
 use Rattle.settings.specs.Settings.{sameGrouping, sameSettings, regrouped, configured, lawful, blank, started}
-use Rattle.trunk.specs.Advanced.{advanced}
+use Rattle.port.specs.Range.{timersInRange, agesInRange, valuesInRange, ownFits}
 use Rattle.trunk.specs.Selection.{individual, sameKeys, sameGroup, joins, sharesGroup, firstFrom, lowest, ruleOf}
 use Rattle.trunk.specs.Ready.{waitsFor, hasWaiting, holdsBack, heldBack, ready}
-use Rattle.trunk.specs.Settled.{mapFrom, mustMove, reselected, selectedAll, attachedAll, climbed, settled}
+use Rattle.trunk.specs.Settled.{mustMove, reselected, selectedAll, attachedAll, climbed, settled}
 use Rattle.trunk.specs.Displaced.{isDisplaced, displacedIf, displaced}
-use Rattle.octets.specs.Octets.{sameOctets}
+use Rattle.octets.specs.Octets.{Octets, sameOctets}
 use Rattle.frame.specs.Class.{foreign, unknown, wrongLength, wrongMarkerType, illegal, classOf}
 use Rattle.frame.specs.Wire.{zeros}
 use Rattle.report.specs.Sets.{stands, setOf, setsOf}
-use Rattle.table.specs.Range.{codesInRange, timersInRange, agesInRange, recordInRange, blockFits, ownFits, headerFits}
+use Rattle.table.specs.Range.{codesInRange, recordInRange, headerFits}
 use Rattle.table.specs.Record.{encoded, decoded}
-use Rattle.table.specs.Table.{recordAt, portAt, portsFrom, ports, recordsOctets, tableOctets, firstInRange, tableInRange}
+use Rattle.table.specs.State.{portIn}
+use Rattle.table.specs.Table.{recordAt, portsFrom, ports, recordsOctets, tableOctets, firstInRange, tableInRange, decodedAt}
 use Rattle.work.specs.Work.{worked, afterOne, afterStart, heardAt, afterHeard, afterTick, afterLine, afterSettings, afterSend, lacpduOf}
 use Rattle.control.specs.Answer.{found}
-use Rattle.control.specs.After.{answer, changedBy, after, writtenBy, outgoing}
+use Rattle.control.specs.After.{answer, after, writtenBy, outgoing, effect}
 use Rattle.control.specs.Report.{portReport, aggregatorReport}
 use Rattle.control.specs.Call.{Call}
-use Rattle.claims.specs.Run.{Octets, Takes, AllTake, run}
+use Rattle.claims.specs.Run.{Takes, AllTake, run}
 use Rattle.claims.specs.ThreeSends.{sends}
 use Rattle.claims.specs.Speakers.{system, noDelay, settings}
 use Rattle.claims.specs.Witness.{Witness, said, hears, memory, ticks, later, calls, tables, begun, trunk, parted, narrowed, fallen, halved, dropped, rekeyed, silent, every, fourth}
@@ -61,7 +63,7 @@ takes =
     (tt, (tt, (tt, (refl, (heard-takes 1 1 0x3F refl, (heard-takes 1 2 0x3F refl, ticks-take 10 later then))))))
 
 pub witness : Witness
-unfolding sameAddress sameSystem sameNumbers sameParty sameView maintained inSync sameState sameBlock recordDefault recordPdu updateSelected updateDefaultSelected updateNtt initialized portDisabled expired lacpDisabled defaulted heard current moved received receiveChoice receiveStep receiveRun lined periodicChoice periodicStep periodicRun due sent Port·silent quieted ticked muxChoice muxStep detached placed attachedIf muxRun sameGrouping sameSettings regrouped configured lawful blank started advanced individual sameKeys sameGroup joins sharesGroup firstFrom lowest ruleOf waitsFor hasWaiting holdsBack heldBack ready mapFrom mustMove reselected selectedAll attachedAll climbed settled isDisplaced displacedIf displaced sameOctets foreign unknown wrongLength wrongMarkerType illegal classOf stands setOf setsOf codesInRange timersInRange agesInRange recordInRange blockFits ownFits headerFits encoded decoded recordAt portAt portsFrom ports recordsOctets tableOctets firstInRange tableInRange worked afterOne afterStart heardAt afterHeard afterTick afterLine afterSettings afterSend lacpduOf found answer changedBy after writtenBy outgoing portReport aggregatorReport ones onesIn trailingZeros run ticks tables begun trunk parted narrowed fallen halved dropped rekeyed silent every fourth sends
+unfolding sameAddress sameSystem sameNumbers sameParty sameView maintained inSync sameState sameBlock recordDefault recordPdu updateSelected updateDefaultSelected updateNtt initialized portDisabled expired lacpDisabled defaulted heard current moved received receiveChoice receiveStep receiveRun lined periodicChoice periodicStep periodicRun due sent Port·silent quieted ticked muxChoice muxStep detached placed attachedIf muxRun sameGrouping sameSettings regrouped configured lawful blank started advanced individual sameKeys sameGroup joins sharesGroup firstFrom lowest ruleOf waitsFor hasWaiting holdsBack heldBack ready mapFrom mustMove reselected selectedAll attachedAll climbed settled isDisplaced displacedIf displaced sameOctets foreign unknown wrongLength wrongMarkerType illegal classOf stands setOf setsOf codesInRange timersInRange agesInRange valuesInRange recordInRange blockFits ownFits headerFits encoded decoded recordAt decodedAt portIn portsFrom ports recordsOctets tableOctets firstInRange tableInRange worked afterOne afterStart heardAt afterHeard afterTick afterLine afterSettings afterSend lacpduOf found answer effect after writtenBy outgoing portReport aggregatorReport ones onesIn trailingZeros run ticks tables begun trunk parted narrowed fallen halved dropped rekeyed silent every fourth sends
 witness = record {
   made = record {
     memory = memory;

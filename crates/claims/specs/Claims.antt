@@ -7,17 +7,18 @@ use mathlib.Core.Logic.{_≢_}
 use Rattle.machine.specs.Mux.{isAttached, distributes}
 use Rattle.port.specs.Compared.{compared}
 use Rattle.port.specs.Receive.{receiveRun}
-use Rattle.table.specs.Table.{countIn, ports, portAt}
+use Rattle.port.specs.Mux.{SaysMux}
+use Rattle.table.specs.Table.{countIn, ports, portAt, ours}
 use Rattle.trunk.specs.Selection.{sharesGroup, ruleOf}
 use Rattle.trunk.specs.Settled.{Chosen}
-use Rattle.work.specs.Work.{ours, worked}
+use Rattle.work.specs.Work.{worked}
 use Rattle.control.specs.declared.answer.Answer.the-variants.{Refused}
 use Rattle.control.specs.declared.answer.Reason.{Reason}
 use Rattle.control.specs.declared.answer.Reason.the-variants.{Table}
 use Rattle.control.specs.Call.{Call, start, receive, tick, line, configure, fetch, report, aggregator}
 use Rattle.control.specs.After.{answer, after, bufferOf, outgoing}
 use Rattle.claims.specs.Run.{Made}
-use Rattle.claims.specs.AtRest.{Sound, SaysMux}
+use Rattle.claims.specs.AtRest.{Sound}
 use Rattle.claims.specs.Lag.{lagAt}
 
 -- 0a: a table that calls made is in range, so no call ever refuses it with answer 1; and it is at rest

@@ -5,8 +5,7 @@ use mathlib.Core.List.{List}
 use Rattle.frame.specs.declared.block.SystemId.{SystemId}
 use Rattle.frame.specs.declared.block.PortId.{PortId}
 use Rattle.port.specs.declared.record.Port.{Port}
-use Rattle.table.specs.Table.{portAt}
-use Rattle.work.specs.Work.{ours}
+use Rattle.table.specs.Table.{portAt, ours}
 
 pub record LagId : Type 0 where
   pub system : SystemId

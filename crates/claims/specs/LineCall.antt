@@ -11,7 +11,9 @@ use Rattle.control.specs.declared.answer.Reason.the-variants.{NothingToSend}
 use Rattle.control.specs.Answer.{isNumber, withRoom}
 use Rattle.control.specs.Call.{Call, start, receive, tick, line, configure, fetch, report, aggregator}
 use Rattle.control.specs.After.{answer, after}
-use Rattle.claims.specs.Run.{AllTake, accepted, run, Made}
+use Rattle.control.specs.Accepted.{accepted}
+use Rattle.octets.specs.Octets.{Octets}
+use Rattle.claims.specs.Run.{AllTake, run, Made}
 
 -- 9: an accepted line call leaves its port with both values
 abbrev pub LineTaken : Type 0
@@ -19,7 +21,7 @@ LineTaken = (t : List ℕ) → Made t → (n : ℕ) (l : Line) → accepted (ans
 
 -- both values as they are change nothing, in any memory
 abbrev pub LineRepeated : Type 0
-LineRepeated = (t : List ℕ) (n : ℕ) → after (line n (portAt t (n - 1) .line)) t ≡ t
+LineRepeated = (t : List ℕ) → Octets t → (n : ℕ) → after (line n (portAt t (n - 1) .line)) t ≡ t
 
 -- nothing is due on port n: NTT is clear, and a fetch that has room is answered 10
 pub record Silent (t : List ℕ) (n : ℕ) : Type 0 where

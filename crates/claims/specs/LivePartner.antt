@@ -19,7 +19,8 @@ use Rattle.trunk.specs.Displaced.{isDisplaced}
 use Rattle.control.specs.declared.answer.Answer.the-variants.{Lacpdu}
 use Rattle.control.specs.Call.{Call, start, receive, tick, line, configure, fetch, report, aggregator}
 use Rattle.control.specs.After.{answer, after}
-use Rattle.claims.specs.Run.{isLacpdu, Takes, AllTake, accepted, run, Made}
+use Rattle.control.specs.Accepted.{isLacpdu, accepted}
+use Rattle.claims.specs.Run.{Takes, AllTake, run, Made}
 
 -- every field and bit of a block but Synchronization and Timeout
 abbrev pub lasting : Block → Block

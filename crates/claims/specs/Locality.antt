@@ -7,13 +7,13 @@ use lib.Dec.{eqb}
 use Rattle.frame.specs.Block.{blockOf}
 use Rattle.frame.specs.Wire.{actorPart}
 use Rattle.port.specs.Compared.{compared}
-use Rattle.table.specs.Table.{countIn, ports, portAt}
+use Rattle.table.specs.Table.{countIn, ports, portAt, ours}
 use Rattle.trunk.specs.Selection.{sharesGroup}
 use Rattle.trunk.specs.Displaced.{isDisplaced}
-use Rattle.work.specs.Work.{ours}
 use Rattle.control.specs.Call.{Call, start, receive, tick, line, configure, fetch, report, aggregator}
 use Rattle.control.specs.After.{answer, after}
-use Rattle.claims.specs.Run.{isLacpdu, Takes, Made}
+use Rattle.control.specs.Accepted.{isLacpdu}
+use Rattle.claims.specs.Run.{Takes, Made}
 
 -- port k, from 0, is one that the call names, or is in PORT_DISABLED and an accepted LACPDU shows that its partner has moved; a tick
 -- and a start are for every port, and reports for none

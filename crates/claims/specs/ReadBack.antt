@@ -7,8 +7,7 @@ use Rattle.frame.specs.Class.{classOf}
 use Rattle.frame.specs.Block.{blockOf}
 use Rattle.frame.specs.Wire.{actorPart, partnerPart}
 use Rattle.port.specs.Record.{actorBlock}
-use Rattle.table.specs.Table.{portAt}
-use Rattle.work.specs.Work.{ours}
+use Rattle.table.specs.Table.{portAt, ours}
 use Rattle.control.specs.declared.answer.Answer.the-variants.{Done}
 use Rattle.control.specs.Call.{fetch}
 use Rattle.control.specs.After.{answer, outgoing}

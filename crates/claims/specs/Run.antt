@@ -1,23 +1,19 @@
 -- Runs: what a table can become by calls. A table is made if some accepted start on some memory, and then any list of calls, leaves it:
 -- refused calls and further starts included.
-use Prim.Native.Nat.{ℕ, _<_}
+use Prim.Native.Nat.{ℕ}
 use mathlib.Core.Path.{_≡_}
-use mathlib.Core.Bool.{Bool, true, false}
+use mathlib.Core.Bool.{true}
 use mathlib.Core.List.{List, [], _∷_}
-use lib.ListN.{getD}
+use Rattle.octets.specs.Octets.{Octets}
 use Rattle.frame.specs.declared.block.SystemId.{SystemId}
 use Rattle.frame.specs.declared.wire.TensOfMicroseconds.{TensOfMicroseconds}
+use Rattle.port.specs.Range.{ownFits}
 use Rattle.settings.specs.declared.Settings.{Settings}
 use Rattle.settings.specs.Settings.{ownOf}
-use Rattle.table.specs.Range.{headerFits, ownFits}
-use Rattle.control.specs.declared.answer.Answer.{Answer}
-use Rattle.control.specs.declared.answer.Answer.the-variants.{Done, Lacpdu, Marker, Refused}
+use Rattle.table.specs.Range.{headerFits}
 use Rattle.control.specs.Call.{Call, start, receive, tick, line, configure, fetch, report, aggregator}
 use Rattle.control.specs.After.{answer, after}
-
--- every element is an octet
-abbrev pub Octets : List ℕ → Type 0
-Octets l = (i : ℕ) → getD l i 0 < 256
+use Rattle.control.specs.Accepted.{accepted}
 
 -- the arguments that the program's types can hold: octets are octets, and numbers fit their two octets
 abbrev pub Takes : Call → Type 0
@@ -34,20 +30,6 @@ Takes (aggregator k) = Unit
 abbrev pub AllTake : List Call → Type 0
 AllTake [] = Unit
 AllTake (c ∷ cs) = Takes c × AllTake cs
-
--- every answer but a refusal
-abbrev pub accepted : Answer → Bool
-accepted Done = true
-accepted Lacpdu = true
-accepted Marker = true
-accepted (Refused r) = false
-
--- an accepted LACPDU
-abbrev pub isLacpdu : Answer → Bool
-isLacpdu Done = false
-isLacpdu Lacpdu = true
-isLacpdu Marker = false
-isLacpdu (Refused r) = false
 
 -- call after call
 unfoldable pub run : List ℕ → List Call → List ℕ

@@ -13,7 +13,8 @@ use Rattle.control.specs.declared.answer.Answer.the-variants.{Done}
 use Rattle.control.specs.Answer.{answerNumber}
 use Rattle.control.specs.Call.{Call, start, receive, tick, line, configure, fetch, report, aggregator}
 use Rattle.control.specs.After.{answer, after}
-use Rattle.claims.specs.Run.{Takes, AllTake, accepted, run, Made}
+use Rattle.control.specs.Accepted.{accepted}
+use Rattle.claims.specs.Run.{Takes, AllTake, run, Made}
 use Rattle.claims.specs.Claims.{isStart}
 
 -- ---- the sends of a run

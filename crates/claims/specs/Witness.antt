@@ -15,7 +15,7 @@ use Rattle.frame.specs.Class.{classOf}
 use Rattle.frame.specs.Wire.{zeros, actorPart, partnerPart}
 use Rattle.machine.specs.Ages.{ages}
 use Rattle.machine.specs.Bits.{alike}
-use Rattle.machine.specs.Mux.{isAttached, collects, distributes}
+use Rattle.machine.specs.Mux.{isAttached, collects, distributes, isUnselected}
 use Rattle.port.specs.declared.record.Port.{Port}
 use Rattle.port.specs.Compared.{compared}
 use Rattle.port.specs.Receive.{receiveRun}
@@ -23,15 +23,15 @@ use Rattle.port.specs.Record.{actorBlock}
 use Rattle.report.specs.declared.Sets.{Sets}
 use Rattle.table.specs.Layout.{tableSize}
 use Rattle.table.specs.Record.{encoded}
-use Rattle.table.specs.Table.{ports, portAt, tableInRange}
+use Rattle.table.specs.Table.{ports, portAt, tableInRange, ours, again}
 use Rattle.trunk.specs.Selection.{sharesGroup, ruleOf}
-use Rattle.trunk.specs.Settled.{isUnselected}
-use Rattle.work.specs.Work.{ours, worked, again}
+use Rattle.work.specs.Work.{worked}
 use Rattle.control.specs.Answer.{answerNumber}
 use Rattle.control.specs.Call.{Call, start, receive, tick, line, configure, fetch}
 use Rattle.control.specs.After.{answer, after, bufferOf, outgoing}
 use Rattle.control.specs.Report.{portReport, aggregatorReport}
-use Rattle.claims.specs.Run.{accepted, run, Made}
+use Rattle.control.specs.Accepted.{accepted}
+use Rattle.claims.specs.Run.{run, Made}
 use Rattle.claims.specs.LivePartner.{lasting}
 use Rattle.claims.specs.ThreeSends.{sends}
 use Rattle.claims.specs.Speakers.{system, noDelay, keyedBlock, keyedSettings, settings, upFull, upHalf, downFull, downHalf, frameOf}

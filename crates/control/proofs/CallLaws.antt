@@ -1,28 +1,33 @@
 -- What the first two tests found fixes the rest of a call's answer; a refusal leaves table and buffer as they came, and an accepted call
--- leaves what it changes. By cases on the tests and on the answer. Assumes nothing.
+-- has passed its tests and leaves what it changes. By cases on the tests and on the answer. Assumes nothing.
 use Prim.Native.Nat.{ℕ, _-_, _≤_, _<_}
 use mathlib.Core.Path.{_≡_, refl, sym, ap, _∙_}
-use mathlib.Core.Bool.{Bool, true, false, cond}
+use mathlib.Core.Bool.{Bool, true, false, cond, _&&_, _||_, false≢true}
 use mathlib.Core.List.{List}
 use native.Mathlib.Omega.{arith}
 use lib.ListN.{length}
+use Rattle.octets.proofs.RangeLaws.{within-true, both}
+use lib.Dec.{ltb}
 use Rattle.frame.specs.declared.class.Class.{Class}
 use Rattle.frame.specs.declared.class.Class.the-variants as class
 use Rattle.frame.specs.Class.{classOf}
 use Rattle.frame.proofs.ClassLaws.{heard, heard-whole}
 use Rattle.machine.specs.declared.states.Line.{Line}
 use Rattle.machine.specs.declared.states.Mux.{Mux}
-use Rattle.table.specs.Table.{tableInRange, countIn}
-use Rattle.table.proofs.RangeLaws.{within-true}
+use Rattle.table.specs.State.{State}
+use Rattle.table.specs.Table.{tableInRange, countIn, portAt}
+use Rattle.machine.specs.Mux.{collects, distributes}
+use Rattle.port.specs.declared.record.Port.{Port}
 use Rattle.control.specs.declared.answer.Answer.{Answer}
 use Rattle.control.specs.declared.answer.Answer.the-variants.{Done, Lacpdu, Marker, Refused}
 use Rattle.control.specs.declared.answer.Reason.{Reason}
 use Rattle.control.specs.declared.answer.Reason.the-variants as reason
 use Rattle.control.specs.declared.tests.Found.{Found}
 use Rattle.control.specs.declared.tests.Found.the-variants as place
-use Rattle.control.specs.Answer.{isNumber, onPort, found, frameAnswer}
-use Rattle.control.specs.Call.{Call}
-use Rattle.control.specs.After.{answer, unless, afterFrame, sentFor, changedBy, after, bufferOf, writtenBy, outgoing}
+use Rattle.control.specs.Answer.{isNumber, onPort, found, frameAnswer, withRoom}
+use Rattle.control.specs.Call.{Call, receive}
+use Rattle.control.specs.After.{answer, unless, sentFor, changedBy, after, bufferOf, writtenBy, outgoing}
+use Rattle.control.specs.Accepted.{accepted, isLacpdu}
 
 -- ---- variants are apart, and give back what they carry
 
@@ -131,16 +136,91 @@ lacpdu-whole l line m e = heard-whole l (done-heard (classOf l) line m (ap isDon
 pub marker-whole : (l : List ℕ) (line : Line) (m : Mux) → frameAnswer (classOf l) line m ≡ Marker → 124 ≤ length l
 marker-whole l line m e = heard-whole l (done-heard (classOf l) line m (ap isDone e))
 
--- ---- a received frame leaves what its answer says, refused or not
+-- ---- a received frame sends what its answer says, refused or not
 
-pub frame-after : (a : Answer) (t : List ℕ) (i : ℕ) (frame : List ℕ) → afterFrame a t i frame ≡ unless a t (afterFrame a t i frame)
-frame-after Done t i frame = refl
-frame-after Lacpdu t i frame = refl
-frame-after Marker t i frame = refl
-frame-after (Refused r) t i frame = refl
+pub frame-sent : (a : Answer) (s : State) (i : ℕ) (frame out : List ℕ) → sentFor a s i frame out ≡ unless a out (sentFor a s i frame out)
+frame-sent Done s i frame out = refl
+frame-sent Lacpdu s i frame out = refl
+frame-sent Marker s i frame out = refl
+frame-sent (Refused r) s i frame out = refl
 
-pub frame-sent : (a : Answer) (t : List ℕ) (i : ℕ) (frame out : List ℕ) → sentFor a t i frame out ≡ unless a out (sentFor a t i frame out)
-frame-sent Done t i frame out = refl
-frame-sent Lacpdu t i frame out = refl
-frame-sent Marker t i frame out = refl
-frame-sent (Refused r) t i frame out = refl
+-- ---- what an accepted call has passed
+
+pub if-accepted : (b : Bool) (a : Answer) (r : Reason) → accepted (cond b a (Refused r)) ≡ true → (b ≡ true) × (accepted a ≡ true)
+if-accepted true a r e = (refl, e)
+if-accepted false a r e = absurd (false≢true e)
+
+-- a port number that is none too high, counted from 0
+pub record OnPort (t : List ℕ) (n : ℕ) : Type 0 where
+  pub some : 1 ≤ n
+  pub below : n - 1 < countIn t
+
+pub on-port : (t : List ℕ) (n : ℕ) (rest : Answer) → accepted (onPort t n rest) ≡ true → OnPort t n × (accepted rest ≡ true)
+on-port t n rest e =
+    let a = if-accepted (tableInRange t) (cond (isNumber t n) rest (Refused reason.Number)) reason.Table e in
+    let b = if-accepted (isNumber t n) rest reason.Number (a .1) in
+    let w = within-true 1 n (countIn t) (b .0) in
+    (record { some = w .0; below = less n (countIn t) (w .0) (w .1) }, b .1)
+  where
+    less : (n c : ℕ) → 1 ≤ n → n ≤ c → n - 1 < c
+    less n c a b = omega arith
+
+-- the memory of an accepted call on a port is a table
+pub in-table : (t : List ℕ) (n : ℕ) (rest : Answer) → accepted (onPort t n rest) ≡ true → tableInRange t ≡ true
+in-table t n rest e = if-accepted (tableInRange t) (cond (isNumber t n) rest (Refused reason.Number)) reason.Table e .0
+
+-- it names a port by its number
+pub numbered : (t : List ℕ) (n : ℕ) (rest : Answer) → accepted (onPort t n rest) ≡ true → isNumber t n ≡ true
+numbered t n rest e =
+    let a = if-accepted (tableInRange t) (cond (isNumber t n) rest (Refused reason.Number)) reason.Table e in
+    if-accepted (isNumber t n) rest reason.Number (a .1) .0
+
+-- which port an accepted call on a port names
+pub named : (t : List ℕ) (n : ℕ) (rest : Answer) → accepted (onPort t n rest) ≡ true → n - 1 < countIn t
+named t n rest e = on-port t n rest e .0 .below
+
+if-lacpdu : (b : Bool) (a : Answer) (r : Reason) → isLacpdu (cond b a (Refused r)) ≡ true → (b ≡ true) × (isLacpdu a ≡ true)
+if-lacpdu true a r e = (refl, e)
+if-lacpdu false a r e = absurd (false≢true e)
+
+unless-lacpdu : (b : Bool) (a : Answer) (r : Reason) → isLacpdu (cond b (Refused r) a) ≡ true → isLacpdu a ≡ true
+unless-lacpdu true a r e = absurd (false≢true e)
+unless-lacpdu false a r e = e
+
+no-marker : (b : Bool) (r : Reason) → isLacpdu (cond b Marker (Refused r)) ≡ true → ⊥
+no-marker true r e = false≢true e
+no-marker false r e = false≢true e
+
+frame-up : (k : Class) (l : Line) (m : Mux) → isLacpdu (frameAnswer k l m) ≡ true → (l .up ≡ true) × (l .full ≡ true)
+frame-up class.Lacpdu l m e = both (l .up) (l .full) (if-lacpdu (l .up && l .full) Lacpdu reason.Disabled e .0)
+frame-up class.Marker l m e = absurd (no-marker (collects m || distributes m) reason.NotCollecting e)
+frame-up class.Response l m e = absurd (false≢true e)
+frame-up (class.Refused r) l m e = absurd (false≢true e)
+
+-- an accepted LACPDU: the port is up at full duplex
+pub record Heard (t : List ℕ) (n : ℕ) : Type 0 where
+  pub below : n - 1 < countIn t
+  pub up : portAt t (n - 1) .line .up ≡ true
+  pub full : portAt t (n - 1) .line .full ≡ true
+
+pub heard-on : (t : List ℕ) (n : ℕ) (frame out : List ℕ) → answer (receive n frame out) t ≡ Lacpdu → Heard t n
+unfolding answer
+heard-on t n frame out e =
+    let p = portAt t (n - 1) in
+    let rest = withRoom out (frameAnswer (classOf frame) (p .line) (p .phase .mux)) in
+    let a = if-lacpdu (tableInRange t) (cond (isNumber t n) rest (Refused reason.Number)) reason.Table (ap isLacpdu e) in
+    let b = if-lacpdu (isNumber t n) rest reason.Number (a .1) in
+    let c = unless-lacpdu (ltb (length out) 124) (frameAnswer (classOf frame) (p .line) (p .phase .mux)) reason.Buffer (b .1) in
+    let w = frame-up (classOf frame) (p .line) (p .phase .mux) c in
+    record { below = named t n rest (ap accepted e); up = w .0; full = w .1 }
+
+unless-accepted : (a : Answer) (t u : List ℕ) → accepted a ≡ true → unless a t u ≡ u
+unless-accepted Done t u e = refl
+unless-accepted Lacpdu t u e = refl
+unless-accepted Marker t u e = refl
+unless-accepted (Refused r) t u e = absurd (false≢true e)
+
+-- what an accepted call leaves
+pub after-accepted : (t : List ℕ) (c : Call) → accepted (answer c t) ≡ true → after c t ≡ changedBy c t
+unfolding after
+after-accepted t c e = unless-accepted (answer c t) t (changedBy c t) e

@@ -4,7 +4,8 @@ use mathlib.Core.Bool.{cond}
 use mathlib.Core.List.{List, []}
 use Rattle.frame.specs.Class.{classOf}
 use Rattle.port.specs.Transmit.{due}
-use Rattle.table.specs.Table.{tableInRange, portAt}
+use Rattle.table.specs.State.{State}
+use Rattle.table.specs.Table.{tableInRange, portAt, stateOf, on}
 use Rattle.work.specs.Work.{afterStart, afterHeard, afterTick, afterLine, afterSettings, afterSend, lacpduOf, responseOf, over}
 use Rattle.control.specs.declared.answer.Answer.{Answer}
 use Rattle.control.specs.declared.answer.Answer.the-variants.{Done, Lacpdu, Marker, Refused}
@@ -31,22 +32,26 @@ answer (report n) t = onPort t n Done
 answer (aggregator k) t = onPort t k Done
 
 -- a received frame: an accepted LACPDU changes records, and nothing else does
-abbrev pub afterFrame : Answer → List ℕ → ℕ → List ℕ → List ℕ
-afterFrame Done t i frame = t
-afterFrame Lacpdu t i frame = afterHeard t i frame
-afterFrame Marker t i frame = t
-afterFrame (Refused r) t i frame = t
+abbrev pub afterFrame : Answer → ℕ → List ℕ → State → State
+afterFrame Done i frame s = s
+afterFrame Lacpdu i frame s = afterHeard i frame s
+afterFrame Marker i frame s = s
+afterFrame (Refused r) i frame s = s
 
--- the table after a call that is accepted
-unfoldable pub changedBy : Call → List ℕ → List ℕ
-changedBy (start count system delay s) t = afterStart (record { count = count; system = system; delay = delay }) s
-changedBy (receive n frame out) t = afterFrame (answer (receive n frame out) t) t (n - 1) frame
-changedBy tick t = afterTick t
-changedBy (line n l) t = afterLine t (n - 1) l
-changedBy (configure n s) t = afterSettings t (n - 1) s
-changedBy (fetch n out) t = afterSend t (n - 1)
-changedBy (report n) t = t
-changedBy (aggregator k) t = t
+-- what a call that is accepted, with this answer, makes of the table as a value
+unfoldable pub effect : Call → Answer → State → State
+effect (start count system delay x) a s = afterStart (record { count = count; system = system; delay = delay }) x
+effect (receive n frame out) a s = afterFrame a (n - 1) frame s
+effect tick a s = afterTick s
+effect (line n l) a s = afterLine (n - 1) l s
+effect (configure n x) a s = afterSettings (n - 1) x s
+effect (fetch n out) a s = afterSend (n - 1) s
+effect (report n) a s = s
+effect (aggregator k) a s = s
+
+-- and of its octets
+abbrev pub changedBy : Call → List ℕ → List ℕ
+changedBy c t = on (effect c (answer c t)) t
 
 -- R2.16: after a refusal the table is what it was
 unfoldable pub after : Call → List ℕ → List ℕ
@@ -66,19 +71,19 @@ bufferOf (report n) = []
 bufferOf (aggregator k) = []
 
 -- a received frame: an accepted Marker is answered, and nothing else writes
-abbrev pub sentFor : Answer → List ℕ → ℕ → List ℕ → List ℕ → List ℕ
-sentFor Done t i frame out = out
-sentFor Lacpdu t i frame out = out
-sentFor Marker t i frame out = over (responseOf t i frame) out
-sentFor (Refused r) t i frame out = out
+abbrev pub sentFor : Answer → State → ℕ → List ℕ → List ℕ → List ℕ
+sentFor Done s i frame out = out
+sentFor Lacpdu s i frame out = out
+sentFor Marker s i frame out = over (responseOf s i frame) out
+sentFor (Refused r) s i frame out = out
 
 unfoldable pub writtenBy : Call → List ℕ → List ℕ
 writtenBy (start count system delay s) t = []
-writtenBy (receive n frame out) t = sentFor (answer (receive n frame out) t) t (n - 1) frame out
+writtenBy (receive n frame out) t = sentFor (answer (receive n frame out) t) (stateOf t) (n - 1) frame out
 writtenBy tick t = []
 writtenBy (line n l) t = []
 writtenBy (configure n s) t = []
-writtenBy (fetch n out) t = over (lacpduOf t (n - 1)) out
+writtenBy (fetch n out) t = over (lacpduOf (stateOf t) (n - 1)) out
 writtenBy (report n) t = []
 writtenBy (aggregator k) t = []
 

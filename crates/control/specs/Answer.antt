@@ -3,7 +3,8 @@ use Prim.Native.Nat.{ℕ, _-_}
 use mathlib.Core.Bool.{Bool, cond, _&&_, _||_}
 use mathlib.Core.List.{List}
 use lib.ListN.{length}
-use lib.Dec.{ltb, eqb}
+use lib.Dec.{ltb}
+use Rattle.octets.specs.Octets.{within}
 use Rattle.frame.specs.declared.class.Class.{Class}
 use Rattle.frame.specs.declared.class.Class.the-variants as class
 use Rattle.frame.specs.Class.{refusalNumber}
@@ -14,8 +15,7 @@ use Rattle.port.specs.declared.transmit.Due.{Due}
 use Rattle.port.specs.declared.transmit.Due.the-variants as due
 use Rattle.settings.specs.declared.Settings.{Settings}
 use Rattle.settings.specs.Settings.{lawful}
-use Rattle.table.specs.Layout.{within, tableSize, mostPorts}
-use Rattle.table.specs.Table.{tableInRange, countIn}
+use Rattle.table.specs.Table.{tableInRange, isRoom, countIn}
 use Rattle.control.specs.declared.answer.Answer.{Answer}
 use Rattle.control.specs.declared.answer.Answer.the-variants.{Done, Lacpdu, Marker, Refused}
 use Rattle.control.specs.declared.answer.Reason.{Reason}
@@ -87,8 +87,5 @@ dueAnswer due.Barred = Refused reason.Barred
 dueAnswer due.Lacpdu = Done
 
 -- R2.15: a start looks at the count and at the size
-abbrev pub isRoom : List ℕ → ℕ → Bool
-isRoom t count = within 1 count mostPorts && eqb (length t) (tableSize count)
-
 abbrev pub startAnswer : List ℕ → ℕ → Settings → Answer
 startAnswer t count s = cond (isRoom t count) (withDefault s Done) (Refused reason.Table)

@@ -1,4 +1,5 @@
 pub mod Answer
+pub mod Accepted
 pub mod Call
 pub mod After
 pub mod Report

@@ -9,7 +9,6 @@ use crate::answer::AggregatorReport;
 use crate::answer::Answer;
 use crate::answer::PortReport;
 use crate::answer::Reason;
-use crate::constants::no_port;
 use crate::constants::no_sets;
 use crate::tests::Found;
 use frame::block::SystemId;
@@ -33,7 +32,7 @@ pub fn start(
 ) -> Answer
     ensures { λ r. ⌜ Meets (Call·start count system delay settings) (now (table .entry)) r (now (table .exit)) ⌝ }
 {
-    if !tests::is_room(table, count) {
+    if !table::is_room(table, count) {
         return Answer::Refused(Reason::Table);
     }
     if !settings.is_lawful() {
@@ -158,7 +157,7 @@ pub fn report_port(table: &[u8], n: u32) -> PortReport
     match tests::find(table, n) {
         Found::Refused(why) => PortReport {
             answer: Answer::Refused(why),
-            port: no_port(),
+            port: table::record::absent(),
         },
         Found::Port(i) => PortReport {
             answer: Answer::Done,

@@ -2,14 +2,12 @@
 ghost use mathlib.Core.Path.{_≡_};
 ghost use mathlib.Core.Bool.{true};
 ghost use Rattle.table.specs.Table.{tableInRange};
-ghost use Rattle.control.specs.Answer.{isNumber, isRoom, found, frameAnswer};
+ghost use Rattle.control.specs.Answer.{isNumber, found, frameAnswer};
 use crate::answer::Answer;
 use crate::answer::Reason;
 use frame::class::Class;
 use machine::states::Line;
 use machine::states::Mux;
-use table::layout::MOST_PORTS;
-use table::layout::place_of;
 
 // What the first two tests find: a refusal, or the place of the port, from 0.
 pub enum Found {
@@ -38,19 +36,6 @@ pub fn find(table: &[u8], n: u32) -> Found
     }
     let i = n - 1;
     Found::Port(i as usize)
-}
-
-// Answer 1 of a start: a port count of 1 to 32, and memory of its size.
-pub fn is_room(table: &[u8], count: u32) -> bool
-    ensures { λ r. ⌜ r ≡ isRoom (now (table .entry)) count ⌝ }
-{
-    if count < 1 {
-        return false;
-    }
-    if (MOST_PORTS as u32) < count {
-        return false;
-    }
-    table.len() == place_of(count as usize)
 }
 
 // Of a frame: what its tests said, and at the end what the port says to it (R2.5, R2.9, R2.12).

@@ -1,19 +1,19 @@
 -- A block and its 15 octets tell the same: block to octets to block, and octets to block to octets. The numbers go back by
 -- `Rattle.octets.proofs.Laws`; a state octet goes back as a sum of eight digits, each 0 or 1. Assumes nothing.
 use Prim.Native.Nat.{ℕ, zero, suc, _+_, _*_, _/_, _%_, _≤_, _<_}
-use mathlib.Core.Path.{_≡_, refl, sym, ap, _∙_}
+use mathlib.Core.Path.{_≡_, refl, ap, _∙_}
 use mathlib.Core.Bool.{Bool, true, false}
-use mathlib.Core.List.{List, [], _∷_, _++_}
+use mathlib.Core.List.{List, [], _∷_}
 use native.Mathlib.Omega.{arith}
 use lib.ListN.{length, getD}
 use lib.Dec.{eqb}
-use Rattle.octets.specs.Octets.{high, low, joined, numberAt, numberOctets}
-use Rattle.octets.proofs.Laws.{number-back, high-back, low-back, spread-all}
+use Rattle.octets.specs.Octets.{Octets, high, low}
+use Rattle.octets.proofs.Laws.{number-back, spread-all}
+use Rattle.octets.proofs.OctetLists.{first-back, second-back}
 use Rattle.frame.specs.declared.state.PortState.{PortState}
-use Rattle.frame.specs.declared.block.Address.{Address}
 use Rattle.frame.specs.declared.block.Block.{Block}
-use Rattle.frame.specs.State.{weighed, stateOctet, stateOf, bit}
-use Rattle.frame.specs.Block.{addressAt, addressOctets, blockOf, blockOctets}
+use Rattle.frame.specs.State.{weighed, stateOctet, stateOf}
+use Rattle.frame.specs.Block.{blockOf, blockOctets}
 
 -- ---- the state octet
 
@@ -139,18 +139,11 @@ block-back b = λ i. record {
   state = state-back (b .state) i;
 }
 
--- every element is an octet
-abbrev pub Octets : List ℕ → Type 0
-Octets l = (i : ℕ) → getD l i 0 < 256
-
--- the two octets at i, from the number there
-pair-back : (l : List ℕ) → Octets l → (i : ℕ) → (high (numberAt l i) ≡ getD l i 0) × (low (numberAt l i) ≡ getD l (i + 1) 0)
-pair-back l o i = (high-back (getD l i 0) (getD l (i + 1) 0) (o (i + 1)), low-back (getD l i 0) (getD l (i + 1) 0) (o (i + 1)))
-
 -- octets to block to octets
 pub octets-back : (l : List ℕ) → length l ≡ 15 → Octets l → blockOctets (blockOf l) ≡ l
 octets-back l n o =
-    let two = pair-back l o in
-    (λ i. two 0 .0 i ∷ two 0 .1 i ∷ two 2 .0 i ∷ two 2 .1 i ∷ two 4 .0 i ∷ two 4 .1 i ∷ two 6 .0 i ∷ two 6 .1 i
-    ∷ two 8 .0 i ∷ two 8 .1 i ∷ two 10 .0 i ∷ two 10 .1 i ∷ two 12 .0 i ∷ two 12 .1 i ∷ octet-back (getD l 14 0) (o 14) i ∷ [])
+    let first = first-back l o in
+    let second = second-back l o in
+    (λ i. first 0 i ∷ second 0 i ∷ first 2 i ∷ second 2 i ∷ first 4 i ∷ second 4 i ∷ first 6 i ∷ second 6 i
+    ∷ first 8 i ∷ second 8 i ∷ first 10 i ∷ second 10 i ∷ first 12 i ∷ second 12 i ∷ octet-back (getD l 14 0) (o 14) i ∷ [])
     ∙ spread-all l 15 n

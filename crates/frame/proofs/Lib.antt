@@ -1,3 +1,4 @@
 pub mod ClassLaws
 pub mod BlockLaws
 pub mod WireLaws
+pub mod RangeLaws

@@ -1,11 +1,11 @@
 -- What is written can be read: an LACPDU gives back both its blocks, a Marker PDU its request, whatever follows them in the
 -- buffer, and both pass the frame tests as what they are. By computation on the octets as laid out. Assumes nothing.
-use Prim.Native.Nat.{ℕ, suc, _+_, _≤_}
+use Prim.Native.Nat.{ℕ, _+_, _≤_}
 use mathlib.Core.Path.{_≡_, refl, ap, _∙_}
-use mathlib.Core.Bool.{true, false}
-use mathlib.Core.List.{List, [], _∷_, _++_, append-assoc}
+use mathlib.Core.Bool.{false}
+use mathlib.Core.List.{List, _++_, append-assoc}
 use native.Mathlib.Omega.{arith}
-use lib.ListN.{length, take, length-append}
+use lib.ListN.{length, length-append}
 use lib.Seq.{take-at}
 use lib.Dec.{ltb}
 use borrow.Author.Tests.{le-ltb}
@@ -19,7 +19,7 @@ use Rattle.frame.specs.declared.wire.MarkerType.the-variants.{Marker, Re
 use Rattle.frame.specs.declared.wire.TensOfMicroseconds.{TensOfMicroseconds}
 use Rattle.frame.specs.Block.{blockOf, blockOctets}
 use Rattle.frame.specs.Class.{classOf, foreign, unknown, illegal, wrongLength, wrongMarkerType}
-use Rattle.frame.specs.Wire.{actorPart, partnerPart, requestPart, lacpdu, marker, opening, markerTypeOctet, zeros}
+use Rattle.frame.specs.Wire.{actorPart, partnerPart, requestPart, lacpdu, marker, zeros}
 use Rattle.frame.proofs.BlockLaws.{block-back}
 
 module _ (source : Address) (actor partner : Block) (delay : TensOfMicroseconds) (rest : List ℕ) where

@@ -1,8 +1,9 @@
 -- An information block (R3.2): from octet 0 system priority, 2 system, 8 key, 10 port priority, 12 port, 14 state.
 use Prim.Native.Nat.{ℕ, _+_}
+use mathlib.Core.Bool.{Bool, _&&_}
 use mathlib.Core.List.{List, [], _∷_, _++_}
 use lib.ListN.{getD}
-use Rattle.octets.specs.Octets.{numberAt, numberOctets}
+use Rattle.octets.specs.Octets.{numberAt, numberOctets, fits}
 use Rattle.frame.specs.declared.block.Address.{Address}
 use Rattle.frame.specs.declared.block.Block.{Block}
 use Rattle.frame.specs.State.{stateOctet, stateOf}
@@ -25,3 +26,15 @@ abbrev pub blockOctets : Block → List ℕ
 blockOctets b =
     numberOctets (b .system .priority) ++ (addressOctets (b .system .address) ++ (numberOctets (b .key)
     ++ (numberOctets (b .port .priority) ++ (numberOctets (b .port .number) ++ (stateOctet (b .state) ∷ [])))))
+
+-- ---- whether its numbers fit their two octets
+
+-- six octets, two at a time
+abbrev pub addressFits : Address → Bool
+addressFits a = fits (a .high) && (fits (a .middle) && fits (a .low))
+
+-- the numbers of a block
+unfoldable pub blockFits : Block → Bool
+blockFits b =
+    fits (b .system .priority)
+    && (addressFits (b .system .address) && (fits (b .key) && (fits (b .port .priority) && fits (b .port .number))))

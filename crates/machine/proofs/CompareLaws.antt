@@ -1,13 +1,12 @@
 -- Each comparison is true exactly for values that are equal in what it compares. Assumes nothing.
 use Prim.Native.Nat.{ℕ}
-use mathlib.Core.Path.{_≡_, refl, ap, _∙_}
+use mathlib.Core.Path.{_≡_, refl}
 use mathlib.Core.Bool.{Bool, true, false, _&&_, and-eq-true-iff, false≢true}
 use lib.Dec.{eqb}
 use borrow.Author.Tests.{eqb-true, eq-eqb}
 use Rattle.frame.specs.declared.block.Address.{Address}
 use Rattle.frame.specs.declared.block.Block.{Block}
 use Rattle.frame.specs.declared.block.SystemId.{SystemId}
-use Rattle.frame.specs.declared.block.PortId.{PortId}
 use Rattle.frame.specs.declared.state.PortState.{PortState}
 use Rattle.machine.specs.declared.states.Line.{Line}
 use Rattle.machine.specs.Bits.{alike}

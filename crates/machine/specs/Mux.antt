@@ -40,6 +40,10 @@ distributes Attached = false
 distributes Collecting = false
 distributes Distributing = true
 
+abbrev pub isUnselected : Selection → Bool
+isUnselected Unselected = true
+isUnselected Selected = false
+
 -- the transitions, by Selected, Ready, and the partner's Synchronization and Collecting
 abbrev pub muxNext : Mux → Selection → Bool → Bool → Bool → MuxStep
 muxNext Detached Unselected ready sync coll = Stay

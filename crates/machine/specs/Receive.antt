@@ -1,11 +1,20 @@
--- The transitions of the Receive machine but for those with an LACPDU (43.4.12, figure 43-10): by link, duplex, and whether the
--- current-while timer has run out.
+-- The transitions of the Receive machine but for those with an LACPDU (43.4.12, figure 43-10).
 use mathlib.Core.Bool.{Bool, true, false}
 use Rattle.machine.specs.declared.states.Receive.{Receive}
 use Rattle.machine.specs.declared.states.Receive.the-variants.{Initialize, PortDisabled, Expired, LacpDisabled, Defaulted, Current}
 use Rattle.machine.specs.declared.receive.ReceiveStep.{ReceiveStep}
 use Rattle.machine.specs.declared.receive.ReceiveStep.the-variants.{Stay, Enter}
 
+-- what a state means to others
+abbrev pub isDisabled : Receive → Bool
+isDisabled Initialize = false
+isDisabled PortDisabled = true
+isDisabled Expired = false
+isDisabled LacpDisabled = false
+isDisabled Defaulted = false
+isDisabled Current = false
+
+-- the transitions, by link, duplex, and whether the current-while timer has run out
 abbrev pub receiveNext : Receive → Bool → Bool → Bool → ReceiveStep
 receiveNext Initialize up full out = Enter PortDisabled
 receiveNext PortDisabled false full out = Stay

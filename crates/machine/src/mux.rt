@@ -1,6 +1,6 @@
 // The transitions of the Mux machine, independent control (figure 43-13), and what its states mean to others.
 ghost use mathlib.Core.Path.{_≡_};
-ghost use Rattle.machine.specs.Mux.{waits, isAttached, collects, distributes, muxNext};
+ghost use Rattle.machine.specs.Mux.{waits, isAttached, collects, distributes, isUnselected, muxNext};
 use crate::states::Mux;
 use crate::states::Selection;
 
@@ -104,5 +104,14 @@ impl Mux {
             Mux::Collecting => false,
             Mux::Distributing => true,
         }
+    }
+}
+
+pub fn is_unselected(s: Selection) -> bool
+    ensures { λ r. ⌜ r ≡ isUnselected s ⌝ }
+{
+    match s {
+        Selection::Unselected => true,
+        Selection::Selected => false,
     }
 }

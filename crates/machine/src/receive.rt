@@ -1,6 +1,6 @@
 // The transitions of the Receive machine (figure 43-10) but for those with an LACPDU.
 ghost use mathlib.Core.Path.{_≡_};
-ghost use Rattle.machine.specs.Receive.{receiveNext};
+ghost use Rattle.machine.specs.Receive.{isDisabled, receiveNext};
 ghost use Rattle.machine.specs.Time.{timeoutTime};
 use crate::states::Receive;
 
@@ -11,6 +11,20 @@ pub const LONG_TIMEOUT_TIME: u16 = 900;
 pub enum ReceiveStep {
     Stay,
     Enter(Receive),
+}
+
+// What a state means to others.
+pub fn is_disabled(s: Receive) -> bool
+    ensures { λ r. ⌜ r ≡ isDisabled s ⌝ }
+{
+    match s {
+        Receive::Initialize => false,
+        Receive::PortDisabled => true,
+        Receive::Expired => false,
+        Receive::LacpDisabled => false,
+        Receive::Defaulted => false,
+        Receive::Current => false,
+    }
 }
 
 // Which transition applies without an LACPDU.

@@ -1,18 +1,18 @@
--- Laws of `specs/Octets.antt`, which callers cite in the place of its text: writing over lent parts and from the front on,
--- the test for equal octets, and the round trip of a two-octet number. Assumes nothing.
-use Prim.Native.Nat.{ℕ, zero, suc, _+_, _-_, _*_, _≤_, _<_}
+-- Laws of `specs/Octets.antt`, which callers cite in the place of its text: writing over lent parts, from the front on and into the
+-- middle, the test for equal octets, and the round trip of a two-octet number. Lists of octets are in `OctetLists.antt`. Assumes nothing.
+use Prim.Native.Nat.{ℕ, zero, suc, _+_, _-_, _≤_, _<_}
 use mathlib.Core.Path.{_≡_, refl, sym, ap, _∙_}
 use mathlib.Core.Bool.{Bool, true, false, and-eq-true-iff, false≢true}
 use mathlib.Core.List.{List, [], _∷_, _++_, append-assoc, append-nil}
 use native.Mathlib.Omega.{arith}
 use native.Mathlib.Nat.{zero-add}
 use native.Mathlib.Numerals.{add-one}
-use lib.ListN.{length, take, drop, getD, length-drop, length-append, drop-of-length-le}
-use lib.Seq.{take-all, take-length, drop-drop, take-at, drop-append-add, drop-cons}
+use lib.ListN.{length, take, drop, getD, length-drop, length-append, take-append-drop, drop-of-length-le}
+use lib.Seq.{take-all, take-length, length-take-le, take-append-le, drop-append-le, take-append-add, drop-append-add, drop-drop, take-at, drop-at, drop-cons}
 use lib.Dec.{eqb}
 use borrow.Author.Tests.{eqb-true, eq-eqb}
 use borrow.Rule.Slice.PartMut.{putMid, midOf, post-is}
-use Rattle.octets.specs.Octets.{putAt, sameOctets, high, low, joined, numberOctets}
+use Rattle.octets.specs.Octets.{putAt, sameOctets, high, low, joined}
 
 -- ---- writing over lent parts
 
@@ -72,6 +72,68 @@ over-all p l h = rw (drop-of-length-le l {i = length p} h, append-nil)
 pub length-put : (n : ℕ) (s d : List ℕ) → n + length s ≤ length d → length (putAt n s d) ≡ length d
 unfolding putAt
 length-put n s d h = simp (length-append, lib.ListN.length-take, length-drop) (omega arith)
+
+-- pieces that are written one after the other are written together
+pub puts-at : (n : ℕ) (ss : List (List ℕ)) (l : List ℕ) → n ≤ length l → puts n ss l ≡ putAt n (joinedUp ss) l
+unfolding putAt
+puts-at n ss l h =
+    let p = take n l in
+    let j = joinedUp ss in
+    let size : length p ≡ n = length-take-le n l h in
+    let front : over p l ≡ l = rw size (take-append-drop n l) in
+    let whole : length (p ++ j) ≡ n + length j = length-append p j ∙ ap (λ (k : ℕ). k + length j) size in
+    let pieces : puts (length p) ss (over p l) ≡ over (p ++ j) l = puts-over p ss l in
+    let moved : puts (length p) ss (over p l) ≡ puts n ss l = (λ i. puts (size i) ss (front i)) in
+    sym moved ∙ pieces ∙ ap (λ (k : ℕ). (p ++ j) ++ drop k l) whole ∙ append-assoc p j (drop (n + length j) l)
+
+-- ---- parts of what was written over
+
+-- a part of the first of two lists does not depend on the second
+front-part : (a n : ℕ) (p q : List ℕ) → a + n ≤ length p → take n (drop a (p ++ q)) ≡ take n (drop a p)
+front-part a n p q h =
+    ap (λ (l : List ℕ). take n l) (drop-append-le a p q (omega arith))
+    ∙ take-append-le n (drop a p) q (simp length-drop (omega arith))
+
+-- what is read where it was written
+pub put-here : (b n : ℕ) (s t : List ℕ) → length s ≡ n → b ≤ length t → take n (drop b (putAt b s t)) ≡ s
+unfolding putAt
+put-here b n s t e h =
+    ap (λ (l : List ℕ). take n l) (drop-at (take b t) (s ++ drop (b + length s) t) b (length-take-le b t h))
+    ∙ take-at s (drop (b + length s) t) n e
+
+-- a part that ends before what was written
+pub put-after : (a n b : ℕ) (s t : List ℕ) → a + n ≤ b → b ≤ length t → take n (drop a (putAt b s t)) ≡ take n (drop a t)
+unfolding putAt
+put-after a n b s t h k =
+    let size : length (take b t) ≡ b = length-take-le b t k in
+    let fit : a + n ≤ length (take b t) = omega arith in
+    front-part a n (take b t) (s ++ drop (b + length s) t) fit
+    ∙ sym (front-part a n (take b t) (drop b t) fit)
+    ∙ ap (λ (l : List ℕ). take n (drop a l)) (take-append-drop b t)
+
+-- all that comes after what was written
+pub put-before : (a b : ℕ) (s t : List ℕ) → b + length s ≤ a → b ≤ length t → drop a (putAt b s t) ≡ drop a t
+unfolding putAt
+put-before a b s t h k =
+    let p = take b t ++ s in
+    let rest = drop (b + length s) t in
+    let size : length p ≡ b + length s = length-append (take b t) s ∙ ap (λ (n : ℕ). n + length s) (length-take-le b t k) in
+    let more = a - (b + length s) in
+    let far : length p + more ≡ a = omega arith in
+    let reach : b + length s + more ≡ a = omega arith in
+    ap (λ (l : List ℕ). drop a l) (sym (append-assoc (take b t) s rest))
+    ∙ ap (λ (n : ℕ). drop n (p ++ rest)) (sym far)
+    ∙ drop-append-add p rest more
+    ∙ drop-drop more (b + length s) t
+    ∙ ap (λ (n : ℕ). drop n t) reach
+
+-- what is written behind the first of two lists is written into the second
+pub put-append : (a b s : List ℕ) (k : ℕ) → putAt (length a + k) s (a ++ b) ≡ a ++ putAt k s b
+unfolding putAt
+put-append a b s k =
+    let deep : length a + k + length s ≡ length a + (k + length s) = omega arith in
+    (λ i. take-append-add a b k i ++ (s ++ (ap (λ (n : ℕ). drop n (a ++ b)) deep ∙ drop-append-add a b (k + length s)) i))
+    ∙ append-assoc a (take k b) (s ++ drop (k + length s) b)
 
 -- ---- octets by their index
 

@@ -1,1 +1,4 @@
 pub mod Laws
+pub mod ListLaws
+pub mod OctetLists
+pub mod RangeLaws

@@ -1,9 +1,14 @@
--- What the contracts of `octets` cite: octets written over others, equal octets, and two-octet numbers, high octet first. Assumes nothing.
-use Prim.Native.Nat.{ℕ, _+_, _*_, _/_, _%_}
+-- What the contracts of `octets` cite: lists of octets, octets written over others, equal octets, two-octet numbers, high octet first,
+-- and ranges of numbers. Assumes nothing.
+use Prim.Native.Nat.{ℕ, _+_, _*_, _/_, _%_, _<_}
 use mathlib.Core.Bool.{Bool, true, false, _&&_}
 use mathlib.Core.List.{List, [], _∷_, _++_}
 use lib.ListN.{length, take, drop, getD}
-use lib.Dec.{eqb}
+use lib.Dec.{leb, ltb, eqb}
+
+-- every element is an octet
+abbrev pub Octets : List ℕ → Type 0
+Octets l = (i : ℕ) → getD l i 0 < 256
 
 -- d with s written over it from index `at` on
 unfoldable pub putAt : ℕ → List ℕ → List ℕ → List ℕ
@@ -32,3 +37,11 @@ joined h l = h * 256 + l
 
 abbrev pub numberAt : List ℕ → ℕ → ℕ
 numberAt l i = joined (getD l i 0) (getD l (i + 1) 0)
+
+-- a number of two octets
+abbrev pub fits : ℕ → Bool
+fits n = ltb n 65536
+
+-- whether n is neither below `low` nor above `high`
+abbrev pub within : ℕ → ℕ → ℕ → Bool
+within low n high = leb low n && leb n high

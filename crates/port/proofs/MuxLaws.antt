@@ -1,8 +1,8 @@
 -- The Mux machine on a SELECTED port comes to rest after two steps, leads an UNSELECTED one to DETACHED in three, touches its own
 -- state, its timer, NTT and the actor's three bits alone, and keeps those bits in agreement with its state. By cases on what the
 -- transitions look at. Assumes nothing.
-use Prim.Native.Nat.{ℕ, _≤_}
-use mathlib.Core.Path.{_≡_, refl, sym, ap, _∙_}
+use Prim.Native.Nat.{ℕ}
+use mathlib.Core.Path.{_≡_, refl, ap, _∙_}
 use mathlib.Core.Bool.{Bool, true, false, cond}
 use Rattle.machine.specs.declared.states.Mux.{Mux}
 use Rattle.machine.specs.declared.states.Mux.the-variants.{Detached, Waiting, Attached, Collecting, Distributing}
@@ -10,11 +10,11 @@ use Rattle.machine.specs.declared.states.Selection.{Selection}
 use Rattle.machine.specs.declared.states.Selection.the-variants.{Unselected, Selected}
 use Rattle.machine.specs.declared.mux.MuxStep.{MuxStep}
 use Rattle.machine.specs.declared.mux.MuxStep.the-variants.{Stay, Enter}
-use Rattle.machine.specs.Mux.{muxNext, waits, isAttached, collects, distributes, waitTime}
+use Rattle.machine.specs.Mux.{muxNext, waits, isAttached, collects, distributes}
 use Rattle.machine.specs.Bits.{withSynchronization, withCollecting, withDistributing}
 use Rattle.port.specs.declared.record.Port.{Port}
 use Rattle.port.specs.Record.{withNtt, withWait, withMux, withActor, withAggregator, withSelected}
-use Rattle.port.specs.Mux.{muxEntered, muxTaken, muxChoice, muxStep, muxRun, detached, placed, attachedIf}
+use Rattle.port.specs.Mux.{muxEntered, muxTaken, muxChoice, muxStep, muxRun, detached, placed, attachedIf, SaysMux}
 
 -- what the transitions look at, beside Ready
 record Seen (p : Port) (m : Mux) (s : Selection) (sync coll : Bool) : Type 0 where
@@ -160,28 +160,23 @@ placed-is k p e = moves Waiting (record { state = e; selected = refl; synchroniz
 
 -- ---- the actor's bits agree with the state
 
-pub record BitsAgree (p : Port) : Type 0 where
-  pub synchronization : p .actor .synchronization ≡ isAttached (p .phase .mux)
-  pub collecting : p .actor .collecting ≡ collects (p .phase .mux)
-  pub distributing : p .actor .distributing ≡ distributes (p .phase .mux)
-
 -- what entering a state asks of the bits that it does not set
-to-waiting : (p : Port) → p .actor .synchronization ≡ false → p .actor .collecting ≡ false → p .actor .distributing ≡ false → BitsAgree (muxEntered Waiting p)
+to-waiting : (p : Port) → p .actor .synchronization ≡ false → p .actor .collecting ≡ false → p .actor .distributing ≡ false → SaysMux (muxEntered Waiting p)
 to-waiting p s c d = record { synchronization = s; collecting = c; distributing = d }
 
-to-attached : (p : Port) → p .actor .distributing ≡ false → BitsAgree (muxEntered Attached p)
+to-attached : (p : Port) → p .actor .distributing ≡ false → SaysMux (muxEntered Attached p)
 to-attached p d = record { synchronization = refl; collecting = refl; distributing = d }
 
-to-collecting : (p : Port) → p .actor .synchronization ≡ true → BitsAgree (muxEntered Collecting p)
+to-collecting : (p : Port) → p .actor .synchronization ≡ true → SaysMux (muxEntered Collecting p)
 to-collecting p s = record { synchronization = s; collecting = refl; distributing = refl }
 
-to-distributing : (p : Port) → p .actor .synchronization ≡ true → p .actor .collecting ≡ true → BitsAgree (muxEntered Distributing p)
+to-distributing : (p : Port) → p .actor .synchronization ≡ true → p .actor .collecting ≡ true → SaysMux (muxEntered Distributing p)
 to-distributing p s c = record { synchronization = s; collecting = c; distributing = refl }
 
-to-detached : (p : Port) → BitsAgree (muxEntered Detached p)
+to-detached : (p : Port) → SaysMux (muxEntered Detached p)
 to-detached p = record { synchronization = refl; collecting = refl; distributing = refl }
 
-module _ {p : Port} {m : Mux} (at : p .phase .mux ≡ m) (h : BitsAgree p) where
+module _ (p : Port) {m : Mux} (at : p .phase .mux ≡ m) (h : SaysMux p) where
   sync-is : p .actor .synchronization ≡ isAttached m
   sync-is = h .synchronization ∙ ap isAttached at
 
@@ -191,29 +186,29 @@ module _ {p : Port} {m : Mux} (at : p .phase .mux ≡ m) (h : BitsAgree p) where
   dist-is : p .actor .distributing ≡ distributes m
   dist-is = h .distributing ∙ ap distributes at
 
-agrees : (p : Port) (m : Mux) (s : Selection) (ready sync coll : Bool) → p .phase .mux ≡ m → BitsAgree p → BitsAgree (muxTaken (muxNext m s ready sync coll) p)
+agrees : (p : Port) (m : Mux) (s : Selection) (ready sync coll : Bool) → p .phase .mux ≡ m → SaysMux p → SaysMux (muxTaken (muxNext m s ready sync coll) p)
 agrees p Detached Unselected ready sync coll e h = h
-agrees p Detached Selected ready sync coll e h = to-waiting p (sync-is e h) (coll-is e h) (dist-is e h)
+agrees p Detached Selected ready sync coll e h = to-waiting p (sync-is p e h) (coll-is p e h) (dist-is p e h)
 agrees p Waiting Unselected ready sync coll e h = to-detached p
-agrees p Waiting Selected true sync coll e h = to-attached p (dist-is e h)
+agrees p Waiting Selected true sync coll e h = to-attached p (dist-is p e h)
 agrees p Waiting Selected false sync coll e h = h
 agrees p Attached Unselected ready sync coll e h = to-detached p
-agrees p Attached Selected ready true coll e h = to-collecting p (sync-is e h)
+agrees p Attached Selected ready true coll e h = to-collecting p (sync-is p e h)
 agrees p Attached Selected ready false coll e h = h
-agrees p Collecting Unselected ready sync coll e h = to-attached p (dist-is e h)
-agrees p Collecting Selected ready true true e h = to-distributing p (sync-is e h) (coll-is e h)
+agrees p Collecting Unselected ready sync coll e h = to-attached p (dist-is p e h)
+agrees p Collecting Selected ready true true e h = to-distributing p (sync-is p e h) (coll-is p e h)
 agrees p Collecting Selected ready true false e h = h
-agrees p Collecting Selected ready false coll e h = to-attached p (dist-is e h)
-agrees p Distributing Unselected ready sync coll e h = to-collecting p (sync-is e h)
+agrees p Collecting Selected ready false coll e h = to-attached p (dist-is p e h)
+agrees p Distributing Unselected ready sync coll e h = to-collecting p (sync-is p e h)
 agrees p Distributing Selected ready true true e h = h
-agrees p Distributing Selected ready true false e h = to-collecting p (sync-is e h)
-agrees p Distributing Selected ready false coll e h = to-collecting p (sync-is e h)
+agrees p Distributing Selected ready true false e h = to-collecting p (sync-is p e h)
+agrees p Distributing Selected ready false coll e h = to-collecting p (sync-is p e h)
 
-pub bits-kept : (ready : Bool) (p : Port) → BitsAgree p → BitsAgree (muxStep ready p)
+pub bits-kept : (ready : Bool) (p : Port) → SaysMux p → SaysMux (muxStep ready p)
 unfolding muxStep muxChoice
 bits-kept ready p h =
     agrees p (p .phase .mux) (p .phase .selected) ready (p .partner .state .synchronization) (p .partner .state .collecting) refl h
 
-pub run-agrees : (p : Port) → BitsAgree p → BitsAgree (muxRun p)
+pub run-agrees : (p : Port) → SaysMux p → SaysMux (muxRun p)
 unfolding muxRun
 run-agrees p h = bits-kept false (muxStep false p) (bits-kept false p h)

@@ -1,14 +1,13 @@
 -- The Periodic Transmission machine comes to rest after two steps, and touches its own state, its timer and NTT alone. By cases on
 -- what the transitions look at: the state, whether the machine is to be quiet, the timer, the partner's Timeout. Assumes nothing.
-use Prim.Native.Nat.{ℕ}
-use mathlib.Core.Path.{_≡_, refl, sym, ap, _∙_}
+use mathlib.Core.Path.{_≡_, refl, ap, _∙_}
 use mathlib.Core.Bool.{Bool, true, false}
 use lib.Dec.{eqb}
 use Rattle.machine.specs.declared.states.Periodic.{Periodic}
 use Rattle.machine.specs.declared.states.Periodic.the-variants.{NoPeriodic, FastPeriodic, SlowPeriodic, PeriodicTx}
 use Rattle.machine.specs.declared.periodic.PeriodicStep.{PeriodicStep}
 use Rattle.machine.specs.declared.periodic.PeriodicStep.the-variants.{Stay, Enter}
-use Rattle.machine.specs.Periodic.{periodicNext, periodicTime, isTx}
+use Rattle.machine.specs.Periodic.{periodicNext, periodicTime}
 use Rattle.machine.specs.Time.{ranOut}
 use Rattle.port.specs.declared.record.Port.{Port}
 use Rattle.port.specs.Record.{withNtt, withPace, withPeriodic}

@@ -1,28 +1,24 @@
 -- The Receive machine without an LACPDU comes to rest after two steps. PORT_DISABLED and EXPIRED keep whom the partner block names
 -- and what the selection rule reads; every state that may change it makes the port UNSELECTED where it does. Assumes nothing.
 use Prim.Native.Nat.{ℕ}
-use mathlib.Core.Path.{_≡_, refl, sym, ap, _∙_}
+use mathlib.Core.Path.{_≡_, refl, ap, _∙_}
 use mathlib.Core.Bool.{Bool, true, false, cond}
 use native.Mathlib.Omega.{arith}
 use Rattle.frame.specs.declared.block.Block.{Block}
-use Rattle.frame.specs.declared.block.SystemId.{SystemId}
 use Rattle.machine.specs.declared.states.Receive.{Receive}
 use Rattle.machine.specs.declared.states.Receive.the-variants.{Initialize, PortDisabled, Expired, LacpDisabled, Defaulted, Current}
-use Rattle.machine.specs.declared.states.Selection.{Selection}
 use Rattle.machine.specs.declared.states.Selection.the-variants.{Unselected, Selected}
 use Rattle.machine.specs.declared.receive.ReceiveStep.{ReceiveStep}
 use Rattle.machine.specs.declared.receive.ReceiveStep.the-variants.{Stay, Enter}
 use Rattle.machine.specs.Receive.{receiveNext}
 use Rattle.machine.specs.Time.{ranOut}
-use Rattle.machine.specs.Bits.{withSynchronization, withTimeout, withExpired}
+use Rattle.machine.specs.Bits.{withSynchronization, withTimeout}
 use Rattle.machine.specs.Compare.{party, sameParty, sameView}
 use Rattle.machine.proofs.CompareLaws.{party-true}
 use Rattle.port.specs.declared.record.Port.{Port}
-use Rattle.port.specs.Record.{withReceive, withCurrent, withNtt, actorBlock}
+use Rattle.port.specs.Record.{withReceive, withCurrent, withNtt}
 use Rattle.port.specs.Compared.{Compared, compared}
-use Rattle.port.specs.Receive.{recordDefault, recordPdu, updateSelected, updateDefaultSelected, updateNtt, unselected, withPartnerState, expiredBit}
-use Rattle.port.specs.Receive.{initialized, portDisabled, expired, lacpDisabled, defaulted, heard, current, moved, received}
-use Rattle.port.specs.Receive.{receiveEntered, receiveTaken, receiveChoice, receiveStep, receiveRun}
+use Rattle.port.specs.Receive.{recordDefault, recordPdu, updateSelected, updateDefaultSelected, updateNtt, unselected, withPartnerState, expiredBit, initialized, portDisabled, expired, lacpDisabled, defaulted, heard, current, receiveEntered, receiveTaken, receiveChoice, receiveStep, receiveRun}
 
 -- ---- rest
 

@@ -1,19 +1,16 @@
 -- Timers stay within their times, and one that its state does not use holds 0: each machine keeps this of its own timer, and a tick of
 -- all three. Assumes nothing.
 use Prim.Native.Nat.{ℕ, _-_, _≤_}
-use mathlib.Core.Path.{_≡_, refl, sym, ap, _∙_}
+use mathlib.Core.Path.{_≡_, refl}
 use mathlib.Core.Bool.{Bool, true, false, cond, true≢false}
 use native.Mathlib.Omega.{arith}
 use Rattle.frame.specs.declared.block.Block.{Block}
 use Rattle.frame.specs.declared.block.SystemId.{SystemId}
-use Rattle.machine.specs.declared.states.Receive.{Receive}
 use Rattle.machine.specs.declared.states.Receive.the-variants.{Initialize, PortDisabled, Expired, LacpDisabled, Defaulted, Current}
 use Rattle.machine.specs.declared.states.Line.{Line}
 use Rattle.machine.specs.declared.receive.ReceiveStep.{ReceiveStep}
 use Rattle.machine.specs.declared.receive.ReceiveStep.the-variants as receive
-use Rattle.machine.specs.declared.states.Periodic.{Periodic}
 use Rattle.machine.specs.declared.states.Periodic.the-variants.{NoPeriodic, FastPeriodic, SlowPeriodic, PeriodicTx}
-use Rattle.machine.specs.declared.states.Mux.{Mux}
 use Rattle.machine.specs.declared.states.Mux.the-variants.{Detached, Waiting, Attached, Collecting, Distributing}
 use Rattle.machine.specs.declared.states.Ticks.{Ticks}
 use Rattle.machine.specs.declared.periodic.PeriodicStep.{PeriodicStep}
@@ -26,8 +23,7 @@ use Rattle.port.specs.declared.record.Port.{Port}
 use Rattle.port.specs.Timing.{Timed, CurrentTimed, PaceTimed, WaitTimed}
 use Rattle.port.specs.Periodic.{periodicTaken, periodicChoice, periodicStep, periodicRun}
 use Rattle.port.specs.Mux.{muxTaken, muxChoice, muxStep, muxRun}
-use Rattle.port.specs.Receive.{recordDefault, initialized, portDisabled, expired, lacpDisabled, defaulted, current}
-use Rattle.port.specs.Receive.{receiveTaken, receiveChoice, receiveStep, receiveRun, received, moved, down, lined}
+use Rattle.port.specs.Receive.{recordDefault, initialized, portDisabled, expired, lacpDisabled, defaulted, current, receiveTaken, receiveChoice, receiveStep, receiveRun, received, moved, down, lined}
 use Rattle.port.specs.Record.{withLine, actorBlock}
 use Rattle.port.specs.Transmit.{ticked}
 

@@ -1,7 +1,10 @@
 pub mod Record
+pub mod Absent
+pub mod Range
 pub mod Compared
 pub mod Timing
 pub mod Periodic
 pub mod Mux
 pub mod Receive
+pub mod Rest
 pub mod Transmit

@@ -1,4 +1,5 @@
 -- The Mux machine on a record (43.4.15), and steps 3 to 6 (R4) for one port.
+use mathlib.Core.Path.{_≡_}
 use mathlib.Core.Bool.{Bool, false, cond, _||_}
 use Prim.Native.Nat.{ℕ}
 use Rattle.machine.specs.declared.states.Mux.{Mux}
@@ -6,7 +7,7 @@ use Rattle.machine.specs.declared.states.Selection.the-variants.{Unselected, Se
 use Rattle.port.specs.declared.record.Port.{Port}
 use Rattle.machine.specs.declared.mux.MuxStep.{MuxStep}
 use Rattle.machine.specs.declared.mux.MuxStep.the-variants.{Stay, Enter}
-use Rattle.machine.specs.Mux.{muxNext, waits, muxBits, setsNtt, waitTime}
+use Rattle.machine.specs.Mux.{muxNext, waits, isAttached, collects, distributes, muxBits, setsNtt, waitTime}
 use Rattle.port.specs.Record.{withMux, withWait, withNtt, withActor, withAggregator, withSelected}
 
 -- the actions on entry
@@ -38,3 +39,12 @@ attachedIf ready p = cond (waits (p .phase .mux)) (muxStep ready p) p
 -- step 6: up or down as the partner's bits say; two steps lead to rest (law `mux-rests`)
 unfoldable pub muxRun : Port → Port
 muxRun p = muxStep false (muxStep false p)
+
+-- the actor's Synchronization, Collecting and Distributing say what the mux state is: of a state and three bits, and of a port
+pub record BitsAgree (m : Mux) (sync coll dist : Bool) : Type 0 where
+  pub synchronization : sync ≡ isAttached m
+  pub collecting : coll ≡ collects m
+  pub distributing : dist ≡ distributes m
+
+abbrev pub SaysMux : Port → Type 0
+SaysMux p = BitsAgree (p .phase .mux) (p .actor .synchronization) (p .actor .collecting) (p .actor .distributing)

@@ -1,5 +1,5 @@
 -- The Periodic Transmission machine (43.4.13, figure 43-11).
-use mathlib.Core.Bool.{Bool, true, false, not, _&&_, _||_}
+use mathlib.Core.Bool.{Bool, not, _&&_, _||_}
 use Rattle.machine.specs.declared.states.Periodic.{Periodic}
 use Rattle.port.specs.declared.record.Port.{Port}
 use Rattle.machine.specs.declared.periodic.PeriodicStep.{PeriodicStep}

@@ -1,6 +1,6 @@
 -- The Receive machine (43.4.12, figure 43-10) and its functions (43.4.9). The current-while timer belongs to EXPIRED and CURRENT.
 use Prim.Native.Nat.{ℕ}
-use mathlib.Core.Bool.{Bool, true, false, cond, _&&_}
+use mathlib.Core.Bool.{Bool, true, false, cond}
 use Rattle.frame.specs.declared.block.Block.{Block}
 use Rattle.frame.specs.declared.block.SystemId.{SystemId}
 use Rattle.frame.specs.declared.state.PortState.{PortState}
@@ -13,7 +13,7 @@ use Rattle.machine.specs.declared.receive.ReceiveStep.{ReceiveStep}
 use Rattle.machine.specs.declared.receive.ReceiveStep.the-variants.{Stay, Enter}
 use Rattle.machine.specs.Receive.{receiveNext}
 use Rattle.port.specs.Record.{withReceive, withSelected, withCurrent, withNtt, withActor, withPartner, withLine, actorBlock}
-use Rattle.machine.specs.Bits.{withTimeout, withAggregation, withSynchronization, withDefaulted, withExpired, alike}
+use Rattle.machine.specs.Bits.{withTimeout, withAggregation, withSynchronization, withDefaulted, withExpired}
 use Rattle.machine.specs.Compare.{sameParty, sameView, inSync}
 use Rattle.machine.specs.Time.{ranOut, shortTimeoutTime, timeoutTime}
 

@@ -1,9 +1,6 @@
 -- What a fetch needs of one port (43.4.16), the ages of its sends, and a tick of one port.
-use Prim.Native.Nat.{ℕ, _+_, _-_}
-use mathlib.Core.Bool.{Bool, true, false, cond, not, _&&_, _||_}
-use lib.Dec.{eqb, leb}
-use Rattle.machine.specs.declared.states.Ages.{Ages}
-use Rattle.machine.specs.declared.states.Timers.{Timers}
+use Prim.Native.Nat.{_-_}
+use mathlib.Core.Bool.{Bool, false, cond, not, _||_}
 use Rattle.port.specs.declared.record.Port.{Port}
 use Rattle.port.specs.declared.transmit.Due.{Due}
 use Rattle.port.specs.declared.transmit.Due.the-variants.{Nothing, Barred, Lacpdu}
@@ -12,6 +9,7 @@ use Rattle.machine.specs.States.{silentOn}
 use Rattle.machine.specs.Time.{timersFallen}
 use Rattle.machine.specs.Ages.{sentAges, barred, agesTicked}
 use Rattle.port.specs.Periodic.{bothPassive}
+use Rattle.port.specs.Receive.{receiveRun}
 
 -- R2.10, then R2.11, then an LACPDU is due
 unfoldable pub due : Port → Due
@@ -31,3 +29,7 @@ quieted p = cond (silent p) (withNtt p false) p
 -- step 1 of a tick (R4.1): timers and ages of sends
 unfoldable pub ticked : Port → Port
 ticked p = withAges (withTimers p (timersFallen (p .timers))) (agesTicked (p .ages))
+
+-- what a tick does to one port in steps 1 and 2, but for its periodic machine
+unfoldable pub advanced : Port → Port
+advanced p = receiveRun (ticked p)

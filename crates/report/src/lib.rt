@@ -1,11 +1,8 @@
 // The aggregator report: the ports of a table that hold an aggregator, are attached to it and distribute, as 32-bit sets.
 ghost use mathlib.Core.Path.{_≡_};
 ghost use mathlib.Core.Bool.{true};
-ghost use Prim.Native.Nat.{_+_, _≤_};
-ghost use lib.ListN.{length};
 ghost use Rattle.frame.specs.State.{weighed};
-ghost use Rattle.table.specs.Layout.{place, recordSize};
-ghost use Rattle.table.specs.Table.{tableInRange, ports, portAt};
+ghost use Rattle.table.specs.Table.{tableInRange, InTable, ports, portAt};
 ghost use Rattle.report.specs.Sets.{stands, setOf, lowestOf, setsOf};
 
 // How a port stands to an aggregator.
@@ -26,7 +23,7 @@ pub struct Sets {
 
 // Whether port i, from 0, stands so to aggregator k.
 fn stands_to(table: &[u8], i: usize, standing: Standing, k: u8) -> bool
-    requires { ⌜ place i + recordSize ≤ length (now table) ⌝ }
+    requires { ⌜ InTable (now table) i ⌝ }
     ensures { λ r. ⌜ r ≡ stands standing k (portAt (now (table .entry)) i) ⌝ }
 {
     let h = table::phase(table, i);

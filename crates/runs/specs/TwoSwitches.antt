@@ -2,7 +2,7 @@
 -- LACPDU that a port gives being received at the link's other end.
 use Prim.Native.Nat.{ℕ, zero, suc, _-_, _+_}
 use mathlib.Core.Path.{_≡_}
-use mathlib.Core.Bool.{Bool, true, false, cond, _&&_}
+use mathlib.Core.Bool.{Bool, true, false, _&&_}
 use mathlib.Core.List.{List, [], _∷_}
 use lib.ListN.{take}
 use lib.Dec.{eqb}
@@ -18,7 +18,6 @@ use Rattle.control.specs.declared.answer.Answer.{Answer}
 use Rattle.control.specs.declared.answer.Answer.the-variants.{Done, Lacpdu, Marker, Refused}
 use Rattle.control.specs.Call.{Call, start, receive, tick, line, fetch}
 use Rattle.control.specs.After.{answer, after, outgoing}
-use Rattle.claims.specs.Run.{run}
 use Rattle.claims.specs.Speakers.{system, noDelay, settings, upFull, downFull}
 
 -- ---- two tables, and what passes between them

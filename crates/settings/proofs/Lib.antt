@@ -1,1 +1,3 @@
 pub mod SettingsLaws
+pub mod StandingLaws
+pub mod RangeLaws

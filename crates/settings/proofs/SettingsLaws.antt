@@ -1,14 +1,11 @@
 -- Settings that change what the selection rule reads make the port UNSELECTED, and none touches the partner block. Assumes nothing.
 use Prim.Native.Nat.{ℕ}
-use mathlib.Core.Path.{_≡_, refl, sym, _∙_}
-use mathlib.Core.Bool.{Bool, true, false, cond, _&&_, and-eq-true-iff}
+use mathlib.Core.Path.{_≡_, refl}
+use mathlib.Core.Bool.{Bool, true, false, cond, and-eq-true-iff}
 use native.Mathlib.Omega.{arith}
 use lib.Dec.{eqb}
 use borrow.Author.Tests.{eqb-true}
-use Rattle.frame.specs.declared.block.Block.{Block}
-use Rattle.machine.specs.declared.states.Selection.{Selection}
 use Rattle.machine.specs.declared.states.Selection.the-variants.{Unselected, Selected}
-use Rattle.machine.specs.Bits.{alike}
 use Rattle.machine.proofs.CompareLaws.{alike-true}
 use Rattle.port.specs.declared.record.Port.{Port}
 use Rattle.port.specs.Compared.{Compared, compared}

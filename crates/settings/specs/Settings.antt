@@ -1,5 +1,4 @@
 -- A port's settings: one set at start (R3.5), changed by a call (R12).
-use Prim.Native.Nat.{ℕ}
 use mathlib.Core.Bool.{Bool, true, false, cond, _&&_}
 use lib.Dec.{eqb}
 use Rattle.frame.specs.declared.state.PortState.{PortState}

@@ -3,6 +3,7 @@ use Prim.Native.Nat.{ℕ, zero, suc, _≤_}
 use mathlib.Core.Path.{_≡_, refl}
 use mathlib.Core.Bool.{Bool, true, false}
 use native.Mathlib.Omega.{arith}
+use Rattle.octets.specs.Octets.{within}
 use Rattle.machine.specs.declared.states.Receive.{Receive}
 use Rattle.machine.specs.declared.states.Receive.the-variants.{Initialize, PortDisabled, Expired, LacpDisabled, Defaulted, Current}
 use Rattle.machine.specs.declared.states.Periodic.{Periodic}
@@ -11,7 +12,6 @@ use Rattle.machine.specs.declared.states.Mux.{Mux}
 use Rattle.machine.specs.declared.states.Mux.the-variants.{Detached, Waiting, Attached, Collecting, Distributing}
 use Rattle.machine.specs.declared.states.Selection.{Selection}
 use Rattle.machine.specs.declared.states.Selection.the-variants.{Unselected, Selected}
-use Rattle.table.specs.Layout.{within}
 use Rattle.table.specs.Codes.{flagOctet, flagOf, receiveCode, receiveOf, periodicCode, periodicOf, muxCode, muxOf, selectedCode, selectedOf}
 
 -- ---- state to number to state

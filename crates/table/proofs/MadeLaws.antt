@@ -6,22 +6,26 @@ use mathlib.Core.Bool.{true, _&&_}
 use mathlib.Core.List.{List, [], _∷_, _++_, append-assoc, append-nil}
 use native.Mathlib.Omega.{arith}
 use lib.ListN.{length, take, drop, getD, set, length-append, drop-of-length-le}
+use lib.Dec.{eqb}
+use borrow.Author.Tests.{eqb-true}
 use lib.Seq.{take-at, drop-at, drop-nil, drop-drop, drop-append-add, drop-cons, ext-getD}
-use Rattle.octets.specs.Octets.{putAt, high, low, numberOctets}
-use Rattle.octets.proofs.Laws.{number-back, over-put}
-use Rattle.frame.proofs.BlockLaws.{Octets}
+use Rattle.octets.specs.Octets.{Octets, putAt, high, low, numberOctets, fits, within}
+use Rattle.octets.proofs.Laws.{number-back, over-put, put-append}
+use Rattle.octets.proofs.OctetLists.{octets-of, append-octets}
+use Rattle.octets.proofs.RangeLaws.{both, joined, number-fits, number-octets, within-true}
+use Rattle.frame.proofs.RangeLaws.{address-fits, address-octets}
 use Rattle.port.specs.declared.record.Port.{Port}
+use Rattle.port.specs.Range.{portInRange, portsInRange}
 use Rattle.table.specs.declared.layout.Header.{Header}
 use Rattle.table.specs.Layout.{headerSize, recordSize, mostPorts, place, tableSize, headerOf, headerOctets}
 use Rattle.table.specs.Record.{encoded, decoded}
-use Rattle.table.specs.Range.{recordInRange, portInRange, portsInRange, fits, addressFits, headerFits}
-use Rattle.table.specs.Table.{countIn, recordAt, portAt, ports, recordsOctets, tableOctets}
-use Rattle.table.proofs.OctetLaws.{put-append, octets-of, append-octets}
-use Rattle.table.proofs.RangeLaws.{both, joined, number-fits, address-fits, number-octets, address-octets}
+use Rattle.table.specs.Range.{recordInRange, headerFits}
+use Rattle.frame.specs.Block.{addressFits, addressOctets}
+use Rattle.table.specs.State.{State, stateInRange}
+use Rattle.table.specs.Table.{countIn, recordAt, decodedAt, ports, recordsOctets, tableOctets, tableInRange, stateOf, octetsOf}
 use Rattle.table.proofs.RecordLaws.{encoded-length, port-back, encoded-in-range, encoded-octets}
-use Rattle.table.proofs.StoreLaws.{ports-length, ports-at}
-use Rattle.frame.specs.Block.{addressOctets}
-use Rattle.table.proofs.TableLaws.{InRange, port-in-range, table-back}
+use Rattle.table.proofs.StoreLaws.{ports-length, records-at, ports-at}
+use Rattle.table.proofs.TableLaws.{InRange, in-range-is, port-in-range, table-back}
 
 -- ---- lists of records in range
 
@@ -166,11 +170,11 @@ module _ (h : Header) (ps : List Port) where
 
     -- the records come back
     pub made-ports : ports (tableOctets h ps) ≡ ps
-    unfolding portAt
+    unfolding decodedAt
     made-ports =
         ext-getD (decoded []) (ports (tableOctets h ps)) ps (ports-length (tableOctets h ps) ∙ counted)
         (λ i k. let less : i < length ps = rw (ports-length, counted) at k in
-        ports-at (tableOctets h ps) i (decoded []) (rw counted less)
+        records-at (tableOctets h ps) i (decoded []) (rw counted less)
         ∙ ap decoded (made-record i (decoded []) less)
         ∙ port-back (length ps) (getD ps i (decoded [])) (made-ranged i less))
 
@@ -192,6 +196,32 @@ module _ (h : Header) (ps : List Port) where
     made-octets e few =
         append-octets (headerOctets h) (recordsOctets ps) (header-octets h e (omega arith))
         (records-octets (length ps) ps (omega arith) r)
+
+-- a state in range comes back from its octets, and these are a table in range
+pub record Encoded (s : State) : Type 0 where
+  pub state : stateOf (octetsOf s) ≡ s
+  pub ranged : tableInRange (octetsOf s) ≡ true
+  pub octets : Octets (octetsOf s)
+
+pub state-back : (s : State) → stateInRange s ≡ true → Encoded s
+unfolding stateInRange
+state-back s e =
+    let n = length (s .ports) in
+    let ranged = portsInRange n (s .ports) in
+    let e₀ = both (within 1 n mostPorts) (eqb (s .common .count) n && (headerFits (s .common) && ranged)) e in
+    let e₁ = both (eqb (s .common .count) n) (headerFits (s .common) && ranged) (e₀ .1) in
+    let e₂ = both (headerFits (s .common)) ranged (e₁ .1) in
+    let counted : s .common .count ≡ n = eqb-true (s .common .count) n (e₁ .0) in
+    let some : 1 ≤ n = within-true 1 n mostPorts (e₀ .0) .0 in
+    let few : n ≤ mostPorts = within-true 1 n mostPorts (e₀ .0) .1 in
+    record {
+      state = λ i. record {
+        common = made-header (s .common) (s .ports) i;
+        ports = made-ports (s .common) (s .ports) counted (e₂ .1) i;
+      };
+      ranged = in-range-is (octetsOf s) (made-in-range (s .common) (s .ports) counted (e₂ .1) some few);
+      octets = made-octets (s .common) (s .ports) counted (e₂ .1) (e₂ .0) few;
+    }
 
 -- ---- a store into a table in range
 

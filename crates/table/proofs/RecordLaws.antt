@@ -6,18 +6,22 @@ use mathlib.Core.List.{List, _∷_, _++_}
 use native.Mathlib.Omega.{arith}
 use lib.ListN.{length, take, drop, getD, length-drop}
 use lib.Seq.{length-take-le}
-use Rattle.octets.specs.Octets.{high, low, numberAt}
-use Rattle.octets.proofs.Laws.{number-back, high-back, low-back, spread, spread-all, spread-part}
+use Rattle.octets.specs.Octets.{Octets}
+use Rattle.octets.proofs.Laws.{number-back, spread, spread-all, spread-part}
+use Rattle.octets.proofs.OctetLists.{octets-of, append-octets, take-octets, drop-octets, first-back, second-back}
+use Rattle.octets.proofs.RangeLaws.{joined, small}
 use Rattle.frame.specs.Block.{blockOf, blockOctets}
-use Rattle.frame.proofs.BlockLaws.{state-back, octet-back, octet-le, block-back, octets-back, Octets}
+use Rattle.frame.proofs.BlockLaws.{state-back, octet-back, octet-le, block-back, octets-back}
+use Rattle.frame.proofs.RangeLaws.{part-fits, block-octets}
 use Rattle.port.specs.declared.record.Port.{Port}
 use Rattle.table.specs.Layout.{recordSize}
-use Rattle.table.specs.Record.{phaseOctets, statusOctets, timersOctets, timersIn, agesOctets, ownOctets, ownIn, encoded, decoded}
+use Rattle.table.specs.Record.{phaseOctets, statusOctets, timersOctets, agesOctets, ownOctets, ownIn, encoded, decoded}
 use Rattle.table.specs.Codes.{flagOctet, receiveCode, periodicCode, muxCode, selectedCode}
-use Rattle.table.proofs.OctetLaws.{octets-of, append-octets, take-octets, drop-octets}
 use Rattle.table.proofs.CodeLaws.{flag-back, receive-back, periodic-back, mux-back, selected-back, flag-octet-back, receive-code-back, periodic-code-back, mux-code-back, selected-code-back, flag-within, receive-within, periodic-within, mux-within, selected-within}
-use Rattle.table.specs.Range.{codesInRange, timersInRange, recordInRange, portInRange}
-use Rattle.table.proofs.RangeLaws.{joined, small, wait-fits, ages-fit, block-fits, own-fits, block-octets, own-octets, timers-octets, ranged-octets, ranged, ranged-is}
+use Rattle.port.specs.Range.{valuesInRange, portInRange}
+use Rattle.port.proofs.RangeLaws.{ranged-values, wait-fits, ages-fit, ranged}
+use Rattle.table.specs.Range.{codesInRange, recordInRange}
+use Rattle.table.proofs.RangeLaws.{own-fits, own-octets, timers-octets, ranged-octets}
 use mathlib.Core.Bool.{Bool, true}
 use Rattle.frame.specs.declared.state.PortState.{PortState}
 use Rattle.machine.specs.declared.states.Phase.{Phase}
@@ -64,14 +68,6 @@ record-back p h =
 
 -- ---- octets to record to octets
 
--- the two octets at i, from the number there
-module _ (l : List ℕ) (o : Octets l) (i : ℕ) where
-  first-back : high (numberAt l i) ≡ getD l i 0
-  first-back = high-back (getD l i 0) (getD l (i + 1) 0) (o (i + 1))
-
-  second-back : low (numberAt l i) ≡ getD l (i + 1) 0
-  second-back = low-back (getD l i 0) (getD l (i + 1) 0) (o (i + 1))
-
 -- the 15 octets from a on, from the block there
 blocks-back : (a : ℕ) (l : List ℕ) → Octets l → a + 15 ≤ length l → blockOctets (blockOf (take 15 (drop a l))) ≡ spread a 15 l
 blocks-back a l o h =
@@ -116,32 +112,22 @@ port-back count p e = record-back p (wait-fits (p .timers) (ranged count p e .ti
 
 -- a record in range has octets in range
 pub encoded-in-range : (count : ℕ) (p : Port) → portInRange count p ≡ true → recordInRange count (encoded p) ≡ true
-unfolding recordInRange codesInRange encoded decoded
+unfolding recordInRange codesInRange encoded
 encoded-in-range count p e =
-    let r = ranged count p e in
-    let same : timersIn (encoded p) ≡ p .timers = ap (λ (q : Port). q .timers) (port-back count p e) in
     joined
     (joined (receive-within (p .phase .receive))
     (joined (periodic-within (p .phase .periodic))
     (joined (mux-within (p .phase .mux))
     (joined (selected-within (p .phase .selected))
-    (joined (r .aggregator)
-    (joined (flag-within (p .ntt)) (joined (flag-within (p .line .up)) (flag-within (p .line .full)))))))))
-    (joined (ap timersInRange same ∙ r .timers) (r .ages))
+    (joined (flag-within (p .ntt)) (joined (flag-within (p .line .up)) (flag-within (p .line .full))))))))
+    (ap (valuesInRange count) (port-back count p e) ∙ ranged-values count p e)
 
 -- octets in range tell of a record in range
 pub decoded-in-range : (count : ℕ) (l : List ℕ) → Octets l → recordInRange count l ≡ true → portInRange count (decoded l) ≡ true
-unfolding decoded
+unfolding portInRange decoded
 decoded-in-range count l o e =
-    let r = ranged-octets count l e in
-    let octets : (a : ℕ) → Octets (take 15 (drop a l)) = λ a. take-octets 15 (drop a l) (drop-octets a l o) in
-    ranged-is count (decoded l) record {
-      aggregator = r .codes .aggregator;
-      timers = r .timers;
-      ages = r .ages;
-      own = own-fits (ownIn l) l o refl refl refl (block-fits (take 15 (drop 27 l)) (octets 27));
-      partner = block-fits (take 15 (drop 42 l)) (octets 42);
-    }
+    joined (ranged-octets count l e .values)
+    (joined (own-fits (ownIn l) l o refl refl refl (part-fits 27 42 l o)) (part-fits 42 57 l o))
 
 -- ---- octets
 

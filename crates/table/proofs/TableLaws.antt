@@ -9,18 +9,18 @@ use lib.ListN.{length, take, drop, getD, length-drop, take-append-drop, drop-of-
 use lib.Seq.{length-take-le, drop-drop}
 use lib.Dec.{leb, eqb}
 use borrow.Author.Tests.{leb-true, le-leb, eqb-true, eqb-false, eq-eqb}
-use Rattle.octets.specs.Octets.{putAt, high, low, numberAt}
-use Rattle.octets.proofs.Laws.{high-back, low-back, spread-part}
-use Rattle.frame.proofs.BlockLaws.{Octets}
+use Rattle.octets.specs.Octets.{Octets, putAt, within}
+use Rattle.octets.proofs.Laws.{spread-part}
+use Rattle.octets.proofs.OctetLists.{take-octets, drop-octets, put-octets, first-back, second-back}
+use Rattle.octets.proofs.RangeLaws.{both, joined, within-true, within-is}
 use Rattle.port.specs.declared.record.Port.{Port}
-use Rattle.table.specs.Layout.{headerSize, recordSize, mostPorts, place, tableSize, within, headerOf, headerOctets}
+use Rattle.port.specs.Range.{portInRange}
+use Rattle.table.specs.Layout.{headerSize, recordSize, mostPorts, place, tableSize, headerOf, headerOctets}
 use Rattle.table.specs.Record.{encoded}
-use Rattle.table.specs.Range.{recordInRange, portInRange}
-use Rattle.table.specs.Table.{countIn, recordAt, portAt, portsFrom, ports, recordsOctets, tableOctets, firstInRange, tableInRange}
-use Rattle.table.proofs.OctetLaws.{take-octets, drop-octets, put-octets}
-use Rattle.table.proofs.RangeLaws.{both, joined, within-true, within-is}
+use Rattle.table.specs.Range.{recordInRange}
+use Rattle.table.specs.Table.{countIn, recordAt, decodedAt, portsFrom, ports, portAt, recordsOctets, tableOctets, firstInRange, tableInRange, InTable, stateOf, octetsOf}
 use Rattle.table.proofs.RecordLaws.{encoded-length, encoded-in-range, encoded-octets, decoded-in-range, record-octets-back}
-use Rattle.table.proofs.StoreLaws.{put-same, put-other, stored-length, stored-count}
+use Rattle.table.proofs.StoreLaws.{put-same, put-other, stored-length, stored-count, port-decoded}
 
 -- ---- the check taken apart, and put together
 
@@ -76,12 +76,19 @@ in-range-is t r =
 pub inside : (t : List ℕ) → InRange t → (i : ℕ) → i < countIn t → place i + recordSize ≤ length t
 inside t r i h = let s : length t ≡ tableSize (countIn t) = r .size in omega arith
 
+pub lies : (t : List ℕ) (i : ℕ) → InTable t i → place i + recordSize ≤ length t
+lies t i at = inside t (in-range t (at .0)) i (at .1)
+
 -- a record of a table in range is in range
 pub port-in-range : (t : List ℕ) → InRange t → Octets t → (i : ℕ) → i < countIn t → portInRange (countIn t) (portAt t i) ≡ true
-unfolding portAt recordAt
+unfolding decodedAt recordAt
 port-in-range t r o i h =
-    decoded-in-range (countIn t) (take recordSize (drop (place i) t))
+    ap (portInRange (countIn t)) (port-decoded t i h)
+    ∙ decoded-in-range (countIn t) (take recordSize (drop (place i) t))
     (take-octets recordSize (drop (place i) t) (drop-octets (place i) t o)) (r .records i h)
+
+pub ranged-at : (t : List ℕ) → tableInRange t ≡ true → Octets t → (i : ℕ) → i < countIn t → portInRange (countIn t) (portAt t i) ≡ true
+ranged-at t e o i h = port-in-range t (in-range t e) o i h
 
 -- ---- a store keeps the range
 
@@ -128,15 +135,15 @@ stored-octets i p t r e o =
 
 header-octets-back : (t : List ℕ) → headerSize ≤ length t → Octets t → headerOctets (headerOf t) ≡ take headerSize t
 header-octets-back t h o =
-    let first : (i : ℕ) → high (numberAt t i) ≡ getD t i 0 = λ i. high-back (getD t i 0) (getD t (i + 1) 0) (o (i + 1)) in
-    let second : (i : ℕ) → low (numberAt t i) ≡ getD t (i + 1) 0 = λ i. low-back (getD t i 0) (getD t (i + 1) 0) (o (i + 1)) in
+    let first = first-back t o in
+    let second = second-back t o in
     (λ i. getD t 0 0 ∷ first 1 i ∷ second 1 i ∷ first 3 i ∷ second 3 i ∷ first 5 i ∷ second 5 i ∷ first 7 i ∷ second 7 i ∷ first 9 i ∷ second 9 i ∷ [])
     ∙ spread-part 0 headerSize t h
 
 -- one record, and what comes after it
 record-at-back : (count i : ℕ) (t : List ℕ) → place i + recordSize ≤ length t → Octets t → recordInRange count (recordAt t i) ≡ true
-    → encoded (portAt t i) ≡ recordAt t i
-unfolding portAt recordAt
+    → encoded (decodedAt t i) ≡ recordAt t i
+unfolding decodedAt recordAt
 record-at-back count i t h o e =
     record-octets-back count (take recordSize (drop (place i) t))
     (length-take-le recordSize (drop (place i) t) (simp length-drop (omega arith)))
@@ -156,7 +163,7 @@ records-back : (count k n : ℕ) (t : List ℕ) → length t ≡ place (k + n) �
 unfolding recordsOctets portsFrom
 records-back count k zero t size o f = sym (drop-of-length-le t {i = place k} (omega arith))
 records-back count k (suc n) t size o f =
-    let this : encoded (portAt t k) ≡ recordAt t k = record-at-back count k t (omega arith) o (f k (omega arith)) in
+    let this : encoded (decodedAt t k) ≡ recordAt t k = record-at-back count k t (omega arith) o (f k (omega arith)) in
     let rest : recordsOctets (portsFrom (k + 1) n t) ≡ drop (place (k + 1)) t =
     records-back count (k + 1) n t (size ∙ ap place (omega arith)) o (λ i h. f i (omega arith)) in
     (λ i. this i ++ rest i) ∙ record-and-rest k t
@@ -168,6 +175,9 @@ table-back t r o =
     let size : length t ≡ tableSize (countIn t) = r .size in
     (λ i. header-octets-back t (r .header) o i ++ records-back (countIn t) 0 (countIn t) t (omega arith) o (λ i h. r .records i (omega arith)) i)
     ∙ take-append-drop headerSize t
+
+pub octets-back : (t : List ℕ) → tableInRange t ≡ true → Octets t → octetsOf (stateOf t) ≡ t
+octets-back t e o = table-back t (in-range t e) o
 
 -- two tables in range with equal headers and equal records are equal octet for octet
 pub tables-equal : (t u : List ℕ) → InRange t → InRange u → Octets t → Octets u → headerOf t ≡ headerOf u → ports t ≡ ports u → t ≡ u

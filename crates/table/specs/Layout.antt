@@ -1,10 +1,9 @@
 -- Where header and records lie in the lent memory. The sizes of header and record are each one definition.
 use Prim.Native.Nat.{ℕ, _+_, _*_}
-use mathlib.Core.Bool.{Bool, cond, _&&_}
+use mathlib.Core.Bool.{cond}
 use mathlib.Core.List.{List, _∷_, _++_}
 use lib.ListN.{getD}
-use lib.Dec.{leb}
-use Rattle.octets.specs.Octets.{numberAt, numberOctets}
+use Rattle.octets.specs.Octets.{numberAt, numberOctets, within}
 use Rattle.frame.specs.Block.{addressAt, addressOctets}
 use Rattle.table.specs.declared.layout.Header.{Header}
 
@@ -19,10 +18,6 @@ recordSize = 57
 -- the most ports that a table has
 abbrev pub mostPorts : ℕ
 mostPorts = 32
-
--- whether n is neither below `low` nor above `high`
-abbrev pub within : ℕ → ℕ → ℕ → Bool
-within low n high = leb low n && leb n high
 
 -- where record i, from 0, begins
 abbrev pub place : ℕ → ℕ

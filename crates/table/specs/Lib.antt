@@ -2,4 +2,6 @@ pub mod Layout
 pub mod Codes
 pub mod Record
 pub mod Range
+pub mod State
 pub mod Table
+pub mod Worked

@@ -1,9 +1,11 @@
 // The layout of a table: a header, and then the records one after the other, the first port's first.
 ghost use mathlib.Core.Path.{_≡_};
 ghost use Prim.Native.Nat.{_+_, _≤_};
+ghost use mathlib.Core.Bool.{true};
 ghost use lib.ListN.{length};
 ghost use Rattle.octets.specs.Octets.{putAt};
 ghost use Rattle.table.specs.Layout.{headerSize, place, publishedSize, headerOf, headerOctets};
+ghost use Rattle.table.specs.Table.{tableInRange};
 use frame::block::Address;
 use frame::block::SystemId;
 use frame::wire::TensOfMicroseconds;
@@ -44,7 +46,7 @@ pub fn table_size(count: u32) -> u32
 
 // The header at the front of a table.
 pub fn read_header(table: &[u8]) -> Header
-    requires { ⌜ headerSize ≤ length (now table) ⌝ }
+    requires { ⌜ tableInRange (now table) ≡ true ⌝ }
     ensures { λ r. ⌜ r ≡ headerOf (now (table .entry)) ⌝ }
 {
     let system = SystemId {

@@ -2,15 +2,20 @@
 // check that answer 1 rests on. Nothing of a table's size stands on the stack.
 ghost use mathlib.Core.Path.{_≡_};
 ghost use Prim.Native.Nat.{_+_, _≤_};
-ghost use lib.ListN.{length};
+ghost use mathlib.Core.Bool.{true};
+ghost use lib.ListN.{length, replicate};
 ghost use Rattle.octets.specs.Octets.{putAt};
-ghost use Rattle.table.specs.Layout.{headerSize, place, tableSize, recordSize};
+ghost use Rattle.table.specs.Layout.{place, tableSize, recordSize};
+ghost use Rattle.port.specs.Range.{portInRange};
 ghost use Rattle.table.specs.Record.{encoded};
-ghost use Rattle.table.specs.Table.{countIn, portAt, recordAt, firstInRange, tableInRange};
+ghost use Rattle.table.specs.Table.{countIn, portAt, recordAt, firstInRange, tableInRange, isRoom, InTable};
+ghost use Rattle.table.specs.Worked.{Holds, Became};
 use crate::layout::HEADER;
+use crate::layout::Header;
 use crate::layout::MOST_PORTS;
 use crate::layout::RECORD;
 use crate::layout::place_of;
+use crate::layout::write_header;
 use crate::range::is_record;
 use crate::range::within;
 use crate::record::aggregator_in;
@@ -29,7 +34,7 @@ pub mod record;
 
 // The port count in the header.
 pub fn count(table: &[u8]) -> usize
-    requires { ⌜ headerSize ≤ length (now table) ⌝ }
+    requires { ⌜ tableInRange (now table) ≡ true ⌝ }
     ensures { λ r. ⌜ r ≡ countIn (now (table .entry)) ⌝ }
 {
     table[0] as usize
@@ -46,7 +51,7 @@ fn record_at(table: &[u8], i: usize) -> &[u8]
 
 // The record of port `i`, from 0.
 pub fn load(table: &[u8], i: usize) -> Port
-    requires { ⌜ place i + recordSize ≤ length (now table) ⌝ }
+    requires { ⌜ InTable (now table) i ⌝ }
     ensures { λ r. ⌜ r ≡ portAt (now (table .entry)) i ⌝ }
 {
     read_record(record_at(table, i))
@@ -54,7 +59,7 @@ pub fn load(table: &[u8], i: usize) -> Port
 
 // The states of port `i`, from 0, without the rest of its record.
 pub fn phase(table: &[u8], i: usize) -> Phase
-    requires { ⌜ place i + recordSize ≤ length (now table) ⌝ }
+    requires { ⌜ InTable (now table) i ⌝ }
     ensures { λ r. ⌜ r ≡ portAt (now (table .entry)) i .phase ⌝ }
 {
     phase_in(record_at(table, i))
@@ -62,7 +67,7 @@ pub fn phase(table: &[u8], i: usize) -> Phase
 
 // The aggregator that port `i`, from 0, holds.
 pub fn aggregator(table: &[u8], i: usize) -> u8
-    requires { ⌜ place i + recordSize ≤ length (now table) ⌝ }
+    requires { ⌜ InTable (now table) i ⌝ }
     ensures { λ r. ⌜ r ≡ portAt (now (table .entry)) i .aggregator ⌝ }
 {
     aggregator_in(record_at(table, i))
@@ -70,19 +75,41 @@ pub fn aggregator(table: &[u8], i: usize) -> u8
 
 // The timers of port `i`, from 0.
 pub fn timers(table: &[u8], i: usize) -> Timers
-    requires { ⌜ place i + recordSize ≤ length (now table) ⌝ }
+    requires { ⌜ InTable (now table) i ⌝ }
     ensures { λ r. ⌜ r ≡ portAt (now (table .entry)) i .timers ⌝ }
 {
     timers_in(record_at(table, i))
 }
 
-// Writes the record of port `i`, from 0; every other octet stays.
+// The record of port `i`, from 0, becomes p, which is in range; every other one stays.
 pub fn store(table: &mut [u8], i: usize, p: Port)
+    requires { ⌜ InTable (now table) i × (portInRange (countIn (now table)) p ≡ true) ⌝ }
+    ensures { λ _. ⌜ Became (now (table .entry)) (now (table .exit)) i p ⌝ }
+{
+    put(table, i, p);
+}
+
+// Writes record `i`, from 0, of a table or of what becomes one; every other octet stays.
+fn put(table: &mut [u8], i: usize, p: Port)
     requires { ⌜ place i + recordSize ≤ length (now table) ⌝ }
     ensures { λ _. ⌜ now (table .exit) ≡ putAt (place i) (encoded p) (now (table .entry)) ⌝ }
 {
     let at = place_of(i);
     write_record(p, &mut table[at..at + RECORD]);
+}
+
+// Makes a table of memory with any content: this header, and for every port this record.
+pub fn fill(table: &mut [u8], header: Header, p: Port)
+    requires { ⌜ (isRoom (now table) (header .count) ≡ true) × (portInRange (header .count) p ≡ true) ⌝ }
+    ensures { λ _. ⌜ Holds (now (table .exit)) header (replicate (header .count) p) ⌝ }
+{
+    let n = header.count as usize;
+    write_header(table, header);
+    let mut i: usize = 0;
+    while i < n {
+        put(table, i, p);
+        i += 1;
+    }
 }
 
 // Whether every record of a table of `count` ports is in range.
@@ -115,4 +142,17 @@ pub fn is_table(table: &[u8]) -> bool
         return false;
     }
     has_records(table, count)
+}
+
+// Whether memory has the size of a table of `count` ports, of which there are 1 to 32.
+pub fn is_room(table: &[u8], count: u32) -> bool
+    ensures { λ r. ⌜ r ≡ isRoom (now (table .entry)) count ⌝ }
+{
+    if count < 1 {
+        return false;
+    }
+    if (MOST_PORTS as u32) < count {
+        return false;
+    }
+    table.len() == place_of(count as usize)
 }

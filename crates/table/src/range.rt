@@ -1,9 +1,12 @@
 // Answer 1's ranges of a record's octets.
 ghost use mathlib.Core.Path.{_≡_};
 ghost use lib.ListN.{length};
-ghost use Rattle.table.specs.Layout.{recordSize, within as Layout·within};
-ghost use Rattle.table.specs.Range.{codesInRange, timersInRange, ageInRange, agesInRange, recordInRange};
+ghost use Rattle.octets.specs.Octets.{within as Octets·within};
+ghost use Rattle.port.specs.Range.{timersInRange, ageInRange, agesInRange};
+ghost use Rattle.table.specs.Layout.{recordSize};
+ghost use Rattle.table.specs.Range.{codesInRange, recordInRange};
 use crate::record::ages_in;
+use crate::record::aggregator_in;
 use crate::record::timers_in;
 use machine::ages::FORGOTTEN_AGE;
 use machine::ages::NO_SEND;
@@ -15,22 +18,21 @@ use machine::states::Timers;
 
 // Whether n is neither below `low` nor above `high`.
 pub fn within(low: u8, n: u8, high: u8) -> bool
-    ensures { λ r. ⌜ r ≡ Layout·within low n high ⌝ }
+    ensures { λ r. ⌜ r ≡ Octets·within low n high ⌝ }
 {
     (low <= n) & (n <= high)
 }
 
-// States, aggregator held and flags, in a table of `count` ports.
-fn codes_in_range(count: u8, s: &[u8]) -> bool
+// States and flags.
+fn codes_in_range(s: &[u8]) -> bool
     requires { ⌜ length (now s) ≡ recordSize ⌝ }
-    ensures { λ r. ⌜ r ≡ codesInRange count (now (s .entry)) ⌝ }
+    ensures { λ r. ⌜ r ≡ codesInRange (now (s .entry)) ⌝ }
 {
     within(0, s[0], 5)
         & (within(0, s[1], 3)
             & (within(0, s[2], 4)
                 & (within(0, s[3], 1)
-                    & (within(1, s[4], count)
-                        & (within(0, s[5], 1) & (within(0, s[6], 1) & within(0, s[7], 1)))))))
+                    & (within(0, s[5], 1) & (within(0, s[6], 1) & within(0, s[7], 1))))))
 }
 
 // Each timer at most the longest time with which it is started.
@@ -60,5 +62,7 @@ pub fn is_record(count: u8, s: &[u8]) -> bool
     requires { ⌜ length (now s) ≡ recordSize ⌝ }
     ensures { λ r. ⌜ r ≡ recordInRange count (now (s .entry)) ⌝ }
 {
-    codes_in_range(count, s) & (timers_in_range(timers_in(s)) & ages_in_range(ages_in(s)))
+    codes_in_range(s)
+        & (within(1, aggregator_in(s), count)
+            & (timers_in_range(timers_in(s)) & ages_in_range(ages_in(s))))
 }

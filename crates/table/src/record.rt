@@ -1,7 +1,8 @@
-// A port's record and its 57 octets, group by group.
+// A port's record and its octets, group by group.
 ghost use mathlib.Core.Path.{_≡_};
 ghost use lib.ListN.{length, getD};
 ghost use Rattle.octets.specs.Octets.{putAt};
+ghost use Rattle.port.specs.Absent.{noPort};
 ghost use Rattle.table.specs.Layout.{recordSize};
 ghost use Rattle.table.specs.Record.{phaseOctets, phaseIn, statusOctets, lineIn, timersOctets, timersIn, agesOctets, agesIn, ownOctets, ownIn, encoded, decoded};
 use crate::codes::flag_octet;
@@ -14,6 +15,7 @@ use crate::codes::receive_code;
 use crate::codes::receive_of;
 use crate::codes::selected_code;
 use crate::codes::selected_of;
+use crate::layout::RECORD;
 use frame::block::Address;
 use frame::block::Block;
 use frame::state::PortState;
@@ -182,7 +184,7 @@ fn own_in(s: &[u8]) -> Own
     }
 }
 
-// Writes a record into its 57 octets.
+// Writes a record into its octets.
 pub fn write_record(p: Port, out: &mut [u8])
     requires { ⌜ length (now out) ≡ recordSize ⌝ }
     ensures { λ _. ⌜ now (out .exit) ≡ encoded p ⌝ }
@@ -199,10 +201,10 @@ pub fn write_record(p: Port, out: &mut [u8])
     let own = p.own;
     write_own(own, out);
     let partner = p.partner;
-    partner.write(&mut out[42..57]);
+    partner.write(&mut out[42..RECORD]);
 }
 
-// The record that 57 octets tell of.
+// The record that octets tell of.
 pub fn read_record(s: &[u8]) -> Port
     requires { ⌜ length (now s) ≡ recordSize ⌝ }
     ensures { λ r. ⌜ r ≡ decoded (now (s .entry)) ⌝ }
@@ -216,6 +218,13 @@ pub fn read_record(s: &[u8]) -> Port
         timers: timers_in(s),
         ages: ages_in(s),
         own: own_in(s),
-        partner: Block::read(&s[42..57]),
+        partner: Block::read(&s[42..RECORD]),
     }
+}
+
+// The record of no port: what zero octets tell of.
+pub fn absent() -> Port
+    ensures { λ r. ⌜ r ≡ noPort ⌝ }
+{
+    read_record(&[0u8; RECORD])
 }

@@ -7,6 +7,7 @@ use mathlib.Core.List.{List, [], _∷_, map}
 use native.Mathlib.Omega.{arith}
 use lib.ListN.{length, getD}
 use borrow.Author.Tests.{ne-eqb}
+use Rattle.octets.proofs.ListLaws.{map-at}
 use Rattle.port.specs.declared.record.Port.{Port}
 use Rattle.port.specs.Compared.{Compared, compared}
 use Rattle.port.specs.Mux.{attachedIf}
@@ -14,7 +15,6 @@ use Rattle.table.specs.declared.layout.Header.{Header}
 use Rattle.trunk.specs.Selection.{nobody, joins, sharesGroup, ruleOf}
 use Rattle.trunk.specs.Ready.{waitsFor, hasWaiting, holdsBack, heldBack, ready}
 use Rattle.trunk.specs.Settled.{selectedAll, climbed, settled}
-use Rattle.trunk.proofs.TableWork.{map-at}
 use Rattle.trunk.proofs.GroupLaws.{shares-refl, rule-shared, rule-apart, rule-same}
 use Rattle.trunk.proofs.SettledLaws.{selected-length, selected-at, selected-rule, settled-at}
 

@@ -2,12 +2,13 @@
 -- share a group. By what a search from the front finds first. Assumes nothing.
 use Prim.Native.Nat.{ℕ, zero, suc, _+_, _<_, _≤_}
 use mathlib.Core.Path.{_≡_, refl, sym, ap, _∙_}
-use mathlib.Core.Bool.{Bool, true, false, cond, not, _&&_, and-eq-true-iff, or-true, true≢false}
+use mathlib.Core.Bool.{Bool, true, false, cond, not, or-true, true≢false}
 use mathlib.Core.List.{List}
 use native.Mathlib.Omega.{arith}
 use lib.ListN.{getD}
 use lib.Dec.{eqb, ltb}
 use borrow.Author.Tests.{eqb-true, eqb-false, eq-eqb, ne-eqb, not-true, ltb-true, ltb-false}
+use Rattle.octets.proofs.RangeLaws.{both}
 use Rattle.frame.specs.declared.block.SystemId.{SystemId}
 use Rattle.machine.specs.Compare.{sameSystem}
 use Rattle.machine.proofs.CompareLaws.{system-true, system-refl}
@@ -24,9 +25,6 @@ pub record Together (ours : Header) (c d : Compared) : Type 0 where
   pub key : c .key ≡ d .key
   pub system : c .system ≡ d .system
   pub partnerKey : c .partnerKey ≡ d .partnerKey
-
-both : (a b : Bool) → a && b ≡ true → (a ≡ true) × (b ≡ true)
-both a b e = and-eq-true-iff a b .0 e
 
 pub together : (ours : Header) (c d : Compared) → sameGroup ours c d ≡ true → Together ours c d
 unfolding sameGroup sameKeys

@@ -5,7 +5,6 @@ use mathlib.Core.Bool.{Bool, true, false, cond}
 use Rattle.port.specs.declared.record.Port.{Port}
 use Rattle.port.specs.Compared.{compared}
 use Rattle.port.specs.Mux.{detached, placed, attachedIf, muxRun}
-use Rattle.port.specs.Transmit.{quieted}
 use Rattle.port.proofs.MuxLaws.{mux-keeps, detached-keeps, placed-keeps, attached-keeps}
 use Rattle.port.proofs.TransmitLaws.{quieted-keeps}
 use Rattle.trunk.specs.Settled.{mustMove, reselected, climbed}

@@ -1,6 +1,4 @@
-pub mod SweepLaws
 pub mod RangeKept
-pub mod AdvanceRange
 pub mod TableWork
 pub mod SelectLaws
 pub mod KeepLaws
@@ -8,5 +6,9 @@ pub mod ReadyLaws
 pub mod GroupLaws
 pub mod SettledLaws
 pub mod StepLaws
+pub mod EachLaws
 pub mod RestLaws
+pub mod Settles
+pub mod BesideLaws
+pub mod RestingLaws
 pub mod DependLaws

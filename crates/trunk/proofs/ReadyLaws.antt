@@ -1,25 +1,24 @@
 -- Step 5 port by port: attaching a port never changes whether an aggregator is Ready for a port that still waits. A SELECTED port that
 -- holds its aggregator back is left alone, and one that does not hold back does not do so after attaching. Assumes nothing.
-use Prim.Native.Nat.{ℕ, zero, suc, _+_, _<_, _≤_}
+use Prim.Native.Nat.{ℕ, zero, suc, _+_, _<_}
 use mathlib.Core.Path.{_≡_, refl, sym, ap, _∙_}
 use mathlib.Core.Bool.{Bool, true, false, cond, not, _&&_, _||_, or-true, false≢true, true≢false}
-use mathlib.Core.List.{List, [], _∷_, map}
+use mathlib.Core.List.{List, [], _∷_}
 use native.Mathlib.Omega.{arith}
 use lib.ListN.{length, getD}
 use lib.Dec.{ltb, eqb}
-use borrow.Author.Tests.{eqb-true, eq-eqb, not-true, ltb-true}
+use borrow.Author.Tests.{eqb-true, eq-eqb, not-true}
+use Rattle.octets.specs.Lists.{mapFrom}
+use Rattle.octets.proofs.ListLaws.{below, doneTo, each, done-length, done-next}
 use Rattle.machine.specs.declared.states.Mux.{Mux}
 use Rattle.machine.specs.declared.states.Mux.the-variants.{Detached, Waiting, Attached, Collecting, Distributing}
-use Rattle.machine.specs.declared.states.Selection.{Selection}
 use Rattle.machine.specs.declared.states.Selection.the-variants.{Unselected, Selected}
 use Rattle.machine.specs.Mux.{waits}
-use Rattle.machine.specs.Time.{ranOut}
 use Rattle.port.specs.declared.record.Port.{Port}
 use Rattle.port.specs.Record.{withAggregator, withWait, withMux, withSelected}
-use Rattle.port.specs.Mux.{muxEntered, muxTaken, muxChoice, muxStep, attachedIf}
+use Rattle.port.specs.Mux.{muxEntered, muxChoice, muxStep, attachedIf}
 use Rattle.trunk.specs.Ready.{waitsFor, hasWaiting, holdsBack, heldBack, ready}
-use Rattle.trunk.specs.Settled.{mapFrom, attaching, Chosen}
-use Rattle.trunk.proofs.SweepLaws.{below, doneTo, each, done-length, done-next}
+use Rattle.trunk.specs.Settled.{attaching, Chosen}
 
 -- ---- one port
 

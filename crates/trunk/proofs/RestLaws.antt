@@ -9,6 +9,8 @@ use lib.ListN.{length, getD, length-map}
 use lib.Seq.{ext-getD}
 use lib.Dec.{eqb}
 use borrow.Author.Tests.{eq-eqb, not-false}
+use Rattle.octets.specs.Lists.{mapFrom}
+use Rattle.octets.proofs.ListLaws.{map-at}
 use Rattle.machine.specs.declared.states.Mux.{Mux}
 use Rattle.machine.specs.declared.states.Mux.the-variants.{Detached, Waiting, Attached, Collecting, Distributing}
 use Rattle.machine.specs.declared.states.Selection.{Selection}
@@ -26,8 +28,7 @@ use Rattle.port.proofs.TransmitLaws.{quieted-keeps, quieted-twice}
 use Rattle.table.specs.declared.layout.Header.{Header}
 use Rattle.trunk.specs.Selection.{ruleOf}
 use Rattle.trunk.specs.Ready.{waitsFor, hasWaiting, holdsBack, heldBack, ready}
-use Rattle.trunk.specs.Settled.{mapFrom, selectedAll, attachedAll, climbed, settled, Chosen}
-use Rattle.trunk.proofs.TableWork.{map-at}
+use Rattle.trunk.specs.Settled.{selectedAll, attachedAll, climbed, settled, Chosen}
 use Rattle.trunk.proofs.ReadyLaws.{waits-waiting, attached-other, attached-stays, attached-enters, some-waits, waits-own, holds-kept}
 use Rattle.trunk.proofs.SettledLaws.{chosen-kept, reselected-stays, attached-holds, climbed-holds, attached-length, attached-at, selected-length, selected-at, selected-chosen, settled-length, settled-from, settled-chosen, settled-rule}
 

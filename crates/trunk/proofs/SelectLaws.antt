@@ -1,20 +1,19 @@
 -- The search for the lowest-numbered port of a group, turn by turn, and what steps 3 and 4 make of one port. Assumes nothing.
-use Prim.Native.Nat.{ℕ, zero, suc, _+_, _-_, _<_, _≤_}
-use mathlib.Core.Path.{_≡_, refl, sym, ap, _∙_}
-use mathlib.Core.Bool.{Bool, true, false, cond}
+use Prim.Native.Nat.{ℕ, suc, _+_, _-_, _<_}
+use mathlib.Core.Path.{_≡_, ap, _∙_}
+use mathlib.Core.Bool.{Bool, true, false}
 use mathlib.Core.List.{List, map}
 use native.Mathlib.Omega.{arith}
 use native.Mathlib.Nat.{sub-zero}
+use Rattle.octets.proofs.ListLaws.{doneTo, done-keeps}
 use Rattle.port.specs.Compared.{Compared, compared}
 use Rattle.table.specs.declared.layout.Header.{Header}
 use Rattle.table.specs.Table.{countIn, ports, portAt}
-use Rattle.trunk.specs.Selection.{sameGroup, nobody, joins, firstFrom, lowest}
+use Rattle.trunk.specs.Selection.{sameGroup, nobody, joins, firstFrom, lowest, ruleOf}
 use Rattle.port.specs.declared.record.Port.{Port}
 use Rattle.port.specs.Mux.{detached, placed}
-use Rattle.trunk.specs.Selection.{ruleOf}
 use Rattle.trunk.specs.Settled.{mustMove, reselected, selecting}
-use Rattle.trunk.specs.Worked.{Worked}
-use Rattle.trunk.proofs.SweepLaws.{doneTo, done-keeps}
+use Rattle.table.specs.Worked.{Worked}
 use Rattle.trunk.proofs.TableWork.{map-port-at, next-is}
 use Rattle.trunk.proofs.KeepLaws.{reselected-compared}
 

@@ -3,25 +3,25 @@
 use Prim.Native.Nat.{ℕ, _+_, _<_}
 use mathlib.Core.Path.{_≡_, refl, sym, ap, _∙_}
 use mathlib.Core.Bool.{Bool, true, false, cond, not, _||_, true≢false}
-use mathlib.Core.List.{List, [], _∷_, map}
+use mathlib.Core.List.{List, map}
 use native.Mathlib.Omega.{arith}
 use lib.ListN.{length, getD, length-map}
 use lib.Dec.{eqb}
 use borrow.Author.Tests.{eqb-true, eq-eqb, not-false}
+use Rattle.octets.specs.Lists.{mapFrom}
+use Rattle.octets.proofs.ListLaws.{map-at, map-keeps, doneTo, each, sweep-length, sweep-at, sweep-keeps, sweep-map}
 use Rattle.machine.specs.declared.states.Selection.{Selection}
 use Rattle.machine.specs.declared.states.Selection.the-variants.{Unselected, Selected}
-use Rattle.machine.specs.Mux.{waits}
+use Rattle.machine.specs.Mux.{waits, isUnselected}
 use Rattle.port.specs.declared.record.Port.{Port}
 use Rattle.port.specs.Compared.{compared}
 use Rattle.port.specs.Mux.{detached, placed, attachedIf, muxRun}
-use Rattle.port.proofs.MuxLaws.{mux-keeps, detached-keeps, placed-keeps, attached-keeps}
+use Rattle.port.proofs.MuxLaws.{mux-keeps, placed-keeps, attached-keeps}
 use Rattle.port.proofs.TransmitLaws.{quieted-keeps}
 use Rattle.table.specs.declared.layout.Header.{Header}
 use Rattle.trunk.specs.Selection.{sharesGroup, ruleOf}
 use Rattle.trunk.specs.Ready.{ready}
-use Rattle.trunk.specs.Settled.{mapFrom, isUnselected, mustMove, reselected, selecting, selectedAll, attaching, attachedAll, climbed, settled, Chosen}
-use Rattle.trunk.proofs.SweepLaws.{doneTo, each, sweep-length, sweep-at, sweep-keeps, sweep-map}
-use Rattle.trunk.proofs.TableWork.{map-at}
+use Rattle.trunk.specs.Settled.{mustMove, reselected, selecting, selectedAll, attaching, attachedAll, climbed, settled, Chosen}
 use Rattle.trunk.proofs.KeepLaws.{reselected-compared, attached-compared, climbed-compared}
 use Rattle.trunk.proofs.ReadyLaws.{ready-meanwhile}
 use Rattle.trunk.proofs.GroupLaws.{rule-shared, rule-apart}
@@ -72,10 +72,6 @@ climbed-holds p = (
 )
 
 -- ---- all ports
-
-map-keeps : {A : Type 0} (g : Port → A) (f : Port → Port) → ((p : Port) → g (f p) ≡ g p) → (ps : List Port) → map g (map f ps) ≡ map g ps
-map-keeps g f keeps [] = refl
-map-keeps g f keeps (p ∷ ps) = λ k. keeps p k ∷ map-keeps g f keeps ps k
 
 pub attached-compares : (ps : List Port) → map compared (attachedAll ps) ≡ map compared ps
 unfolding attachedAll

@@ -1,23 +1,14 @@
 -- Displaced ports (43.4.8 port_moved, R7.15).
 use Prim.Native.Nat.{ℕ}
-use mathlib.Core.Bool.{Bool, true, false, cond, not, _&&_}
+use mathlib.Core.Bool.{Bool, cond, not, _&&_}
 use mathlib.Core.List.{List}
 use lib.Dec.{eqb}
+use Rattle.octets.specs.Lists.{mapFrom}
 use Rattle.frame.specs.declared.block.Block.{Block}
-use Rattle.machine.specs.declared.states.Receive.{Receive}
-use Rattle.machine.specs.declared.states.Receive.the-variants.{Initialize, PortDisabled, Expired, LacpDisabled, Defaulted, Current}
+use Rattle.machine.specs.Receive.{isDisabled}
 use Rattle.machine.specs.Compare.{sameAddress}
 use Rattle.port.specs.declared.record.Port.{Port}
 use Rattle.port.specs.Receive.{moved}
-use Rattle.trunk.specs.Settled.{mapFrom}
-
-abbrev pub isDisabled : Receive → Bool
-isDisabled Initialize = false
-isDisabled PortDisabled = true
-isDisabled Expired = false
-isDisabled LacpDisabled = false
-isDisabled Defaulted = false
-isDisabled Current = false
 
 -- in PORT_DISABLED, with a partner whose system address and port are those of the block `a`
 unfoldable pub isDisplaced : Block → Port → Bool

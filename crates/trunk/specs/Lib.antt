@@ -2,6 +2,4 @@ pub mod Selection
 pub mod Ready
 pub mod Settled
 pub mod Displaced
-pub mod Worked
-pub mod Advanced
 pub mod Sweep

@@ -1,6 +1,6 @@
 -- Ready of an aggregator (43.4.8, R11.5): somebody waits for it, and nobody with a timer still running.
 use Prim.Native.Nat.{ℕ}
-use mathlib.Core.Bool.{Bool, true, false, not, _&&_, _||_}
+use mathlib.Core.Bool.{Bool, false, not, _&&_, _||_}
 use mathlib.Core.List.{List, [], _∷_}
 use lib.Dec.{eqb}
 use Rattle.machine.specs.Mux.{waits}

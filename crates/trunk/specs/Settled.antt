@@ -1,12 +1,12 @@
 -- Steps 3 to 6 of an accepted call (R4), on all records.
-use Prim.Native.Nat.{ℕ, _+_, _<_}
+use Prim.Native.Nat.{ℕ}
 use mathlib.Core.Path.{_≡_}
-use lib.ListN.{length, getD}
-use mathlib.Core.Bool.{Bool, true, false, cond, not, _||_}
-use mathlib.Core.List.{List, [], _∷_, map}
+use mathlib.Core.Bool.{Bool, cond, not, _||_}
+use mathlib.Core.List.{List, map}
 use lib.Dec.{eqb}
-use Rattle.machine.specs.declared.states.Selection.{Selection}
-use Rattle.machine.specs.declared.states.Selection.the-variants.{Unselected, Selected}
+use Rattle.octets.specs.Lists.{mapFrom, Each}
+use Rattle.machine.specs.declared.states.Selection.the-variants.{Selected}
+use Rattle.machine.specs.Mux.{isUnselected}
 use Rattle.port.specs.declared.record.Port.{Port}
 use Rattle.port.specs.Compared.{compared}
 use Rattle.port.specs.Mux.{detached, placed, attachedIf, muxRun}
@@ -14,15 +14,6 @@ use Rattle.port.specs.Transmit.{quieted}
 use Rattle.table.specs.declared.layout.Header.{Header}
 use Rattle.trunk.specs.Selection.{ruleOf}
 use Rattle.trunk.specs.Ready.{ready}
-
--- each record changed by its index, the first of them i
-unfoldable pub mapFrom : (ℕ → Port → Port) → ℕ → List Port → List Port
-mapFrom f i [] = []
-mapFrom f i (p ∷ ps) = f i p ∷ mapFrom f (i + 1) ps
-
-abbrev pub isUnselected : Selection → Bool
-isUnselected Unselected = true
-isUnselected Selected = false
 
 -- UNSELECTED, or the aggregator k that the rule gives is not what it holds
 unfoldable pub mustMove : ℕ → Port → Bool
@@ -59,4 +50,4 @@ Chosen p = p .phase .selected ≡ Selected
 
 -- every port is, as step 4 leaves them
 abbrev pub AllChosen : List Port → Type 0
-AllChosen ps = (i : ℕ) (d : Port) → i < length ps → Chosen (getD ps i d)
+AllChosen ps = Each Chosen ps

@@ -1,13 +1,14 @@
 -- What every port does in turn, the first port first: one line for each step.
 use Prim.Native.Nat.{ℕ}
 use mathlib.Core.List.{List}
+use Rattle.octets.specs.Lists.{mapFrom}
 use Rattle.port.specs.declared.record.Port.{Port}
 use Rattle.port.specs.Periodic.{periodicRun}
+use Rattle.port.specs.Transmit.{advanced}
 use Rattle.trunk.specs.declared.sweep.Step.{Step}
 use Rattle.trunk.specs.declared.sweep.Step.the-variants.{Tick, Periodic, Mux, Displaced}
-use Rattle.trunk.specs.Advanced.{advanced}
 use Rattle.trunk.specs.Displaced.{displacedIf}
-use Rattle.trunk.specs.Settled.{mapFrom, climbed}
+use Rattle.trunk.specs.Settled.{climbed}
 
 -- what the step makes of port i
 abbrev pub stepped : Step → ℕ → Port → Port

@@ -1,25 +1,12 @@
 // Displaced ports (43.4.8 port_moved).
 ghost use mathlib.Core.Path.{_≡_};
 ghost use Rattle.table.specs.Table.{InTable, portAt};
-ghost use Rattle.trunk.specs.Displaced.{isDisabled, isDisplaced, displacedIf};
-ghost use Rattle.trunk.specs.Worked.{Became};
+ghost use Rattle.trunk.specs.Displaced.{isDisplaced, displacedIf};
+ghost use Rattle.table.specs.Worked.{Became};
 use frame::block::Block;
 use machine::compare::same_address;
-use machine::states::Receive;
+use machine::receive::is_disabled;
 use port::record::Port;
-
-fn is_disabled(s: Receive) -> bool
-    ensures { λ r. ⌜ r ≡ isDisabled s ⌝ }
-{
-    match s {
-        Receive::Initialize => false,
-        Receive::PortDisabled => true,
-        Receive::Expired => false,
-        Receive::LacpDisabled => false,
-        Receive::Defaulted => false,
-        Receive::Current => false,
-    }
-}
 
 // In PORT_DISABLED, with a partner whose system address and port are those of the block `a`.
 fn is_displaced(p: Port, a: Block) -> bool

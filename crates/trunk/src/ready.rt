@@ -1,18 +1,15 @@
 // Ready of an aggregator (43.4.8), and step 5.
 ghost use mathlib.Core.Path.{_≡_};
 ghost use mathlib.Core.Bool.{true, not, _&&_};
-ghost use Prim.Native.Nat.{_+_, _≤_};
-ghost use lib.ListN.{length};
 ghost use Rattle.machine.specs.Mux.{waits};
-ghost use Rattle.table.specs.Layout.{place, recordSize};
 ghost use Rattle.table.specs.Table.{tableInRange, InTable, ports, portAt};
 ghost use Rattle.trunk.specs.Ready.{holdsBack, heldBack};
 ghost use Rattle.trunk.specs.Settled.{Chosen, AllChosen, attaching, attachedAll};
-ghost use Rattle.trunk.specs.Worked.{Worked, Became};
+ghost use Rattle.table.specs.Worked.{Worked, Became};
 
 // Whether port i waits for aggregator k with its timer still running.
 fn holds_back(table: &[u8], i: usize, k: u8) -> bool
-    requires { ⌜ place i + recordSize ≤ length (now table) ⌝ }
+    requires { ⌜ InTable (now table) i ⌝ }
     ensures { λ r. ⌜ r ≡ holdsBack k (portAt (now (table .entry)) i) ⌝ }
 {
     let h = table::phase(table, i);

@@ -6,10 +6,10 @@ ghost use Prim.Native.Nat.{_≤_};
 ghost use Rattle.port.specs.Compared.{compared};
 ghost use Rattle.table.specs.Table.{tableInRange, InTable, ports, portAt};
 ghost use Rattle.trunk.specs.Selection.{individual, sameGroup, lowest as Selection·lowest};
-ghost use Rattle.trunk.specs.Settled.{isUnselected, mustMove, selecting, selectedAll};
-ghost use Rattle.trunk.specs.Worked.{Worked, Became};
+ghost use Rattle.trunk.specs.Settled.{mustMove, selecting, selectedAll};
+ghost use Rattle.table.specs.Worked.{Worked, Became};
 use machine::compare::same_system;
-use machine::states::Selection;
+use machine::mux::is_unselected;
 use port::record::Port;
 use table::layout::Header;
 
@@ -57,15 +57,6 @@ fn must_move(p: Port, k: u8) -> bool
     let h = p.phase;
     let s = h.selected;
     is_unselected(s) | !(p.aggregator == k)
-}
-
-fn is_unselected(s: Selection) -> bool
-    ensures { λ r. ⌜ r ≡ isUnselected s ⌝ }
-{
-    match s {
-        Selection::Unselected => true,
-        Selection::Selected => false,
-    }
 }
 
 // Steps 3 and 4 for port i: the rule afresh. A port that must move goes state by state down to DETACHED, and only then to the

@@ -4,7 +4,7 @@ ghost use mathlib.Core.Bool.{true};
 ghost use Rattle.table.specs.Layout.{headerOf};
 ghost use Rattle.table.specs.Table.{tableInRange, ports};
 ghost use Rattle.trunk.specs.Settled.{settled};
-ghost use Rattle.trunk.specs.Worked.{Worked};
+ghost use Rattle.table.specs.Worked.{Worked};
 use crate::ready::attach_all;
 use crate::select::select_all;
 use crate::sweep::Step;

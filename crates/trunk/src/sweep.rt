@@ -4,7 +4,7 @@ ghost use mathlib.Core.Path.{_≡_};
 ghost use mathlib.Core.Bool.{true};
 ghost use Rattle.table.specs.Table.{tableInRange, InTable, ports, portAt};
 ghost use Rattle.trunk.specs.Sweep.{stepped, swept};
-ghost use Rattle.trunk.specs.Worked.{Worked, Became};
+ghost use Rattle.table.specs.Worked.{Worked, Became};
 use crate::displace::displace_one;
 use frame::block::Block;
 

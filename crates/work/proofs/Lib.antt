@@ -1,3 +1,1 @@
-pub mod RangeWork
 pub mod WorkLaws
-pub mod FillLaws

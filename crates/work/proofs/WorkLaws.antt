@@ -1,29 +1,36 @@
--- What a piece of work leaves is the octets of the header as it was and of the records that it names. Assumes nothing.
+-- What a piece of work leaves is the octets of the header as it was and of the records that it names; the end of a call keeps their number
+-- and range. Assumes nothing.
 use Prim.Native.Nat.{ℕ, _<_, _≤_}
-use mathlib.Core.Path.{_≡_, sym, _∙_}
+use mathlib.Core.Path.{_≡_, _∙_}
 use mathlib.Core.Bool.{true}
-use mathlib.Core.List.{List}
+use mathlib.Core.List.{List, map}
 use native.Mathlib.Omega.{arith}
+use lib.ListN.{length, length-map}
 use denote.Shadow.{shadow}
 use denote.Struct.Struct.{within}
 use denote.Struct.Declared.{shape}
 use denote.RattleType.{Valss}
 use mir.Val.{Val}
 use borrow.Author.Tests.{lt-ltb}
-use Rattle.frame.proofs.BlockLaws.{Octets}
-use Rattle.port.specs.declared.record.Port.{Port}
+use Rattle.octets.specs.Octets.{fits}
+use Rattle.octets.proofs.RangeLaws.{joined}
+use Rattle.frame.specs.Block.{blockFits}
 use Rattle.port.specs.declared.record.Own.{Own}
+use Rattle.port.specs.Range.{ownFits}
 use Rattle.port.proofs.record.Own.{the-type}
-use Rattle.table.specs.Range.{fits, ownFits, blockFits}
-use Rattle.table.proofs.RangeLaws.{joined}
-use Rattle.table.specs.Layout.{headerOf, mostPorts}
-use Rattle.table.specs.Table.{tableInRange, countIn, tableOctets}
-use Rattle.table.proofs.TableLaws.{in-range, table-back}
-use Rattle.trunk.specs.Worked.{Worked}
+use Rattle.table.specs.Layout.{mostPorts}
+use Rattle.table.specs.Table.{tableInRange, countIn}
+use Rattle.table.proofs.TableLaws.{in-range}
+use Rattle.octets.specs.Lists.{Each}
+use Rattle.octets.proofs.ListLaws.{each-map}
+use Rattle.port.specs.declared.record.Port.{Port}
+use Rattle.port.specs.Periodic.{periodicRun}
+use Rattle.table.specs.declared.layout.Header.{Header}
+use Rattle.trunk.proofs.EachLaws.{Fits, settled-fits}
+use Rattle.trunk.proofs.SettledLaws.{settled-length}
+use Rattle.port.proofs.RangeLaws.{periodic-ranged}
+use Rattle.work.specs.Work.{worked}
 
--- the octets that a piece of work leaves
-pub made-of : {t u : List ℕ} {qs : List Port} → Worked t u qs → Octets u → u ≡ tableOctets (headerOf t) qs
-made-of {t} {u} w o = sym (table-back u (in-range u (w .ranged)) o) ∙ (λ i. tableOctets (w .header i) (w .records i))
 
 -- a port of a table in range is one of the most that there are
 pub below-most : (t : List ℕ) → tableInRange t ≡ true → (i : ℕ) → i < countIn t → i < mostPorts
@@ -46,3 +53,15 @@ own-typed o vs vss k =
     (joined (fit _ (s .1 .1 .0 .1))
     (joined (joined (fit _ (x .1 .1 .0 .1)) (joined (fit _ (x .1 .1 .1 .0 .1)) (fit _ (x .1 .1 .1 .1 .0 .1))))
     (joined (fit _ (b .1 .1 .1 .0 .1)) (joined (fit _ (n .1 .1 .0 .1)) (fit _ (n .1 .1 .1 .0 .1))))))))
+
+-- ---- the end of a call: periodic machines, then steps 3 to 6
+
+pub worked-length : (s : Header) (ps : List Port) → length (worked s ps) ≡ length ps
+unfolding worked
+worked-length s ps = settled-length s (map periodicRun ps) ∙ length-map ps periodicRun
+
+pub worked-fits : (count : ℕ) (s : Header) (ps : List Port) → length ps ≡ count → Each (Fits count) ps → Each (Fits count) (worked s ps)
+unfolding worked
+worked-fits count s ps n e =
+    settled-fits count s (map periodicRun ps) (length-map ps periodicRun ∙ n)
+    (each-map (Fits count) (Fits count) periodicRun ps (λ p h. periodic-ranged count p h) e)

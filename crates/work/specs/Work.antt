@@ -1,5 +1,5 @@
--- What an accepted call leaves in the table, step by step (R4): its own change and the receive machine, displaced ports,
--- periodic machines, then steps 3 to 6. Ports are counted from 0 here.
+-- What an accepted call makes of a table as a value, step by step (R4): its own change and the receive machine, displaced ports,
+-- periodic machines, then steps 3 to 6; and the frames that it sends. Ports are counted from 0 here.
 use Prim.Native.Nat.{ℕ, _+_}
 use mathlib.Core.Bool.{cond}
 use mathlib.Core.List.{List, _++_, map}
@@ -12,68 +12,63 @@ use Rattle.port.specs.declared.record.Port.{Port}
 use Rattle.port.specs.Record.{actorBlock}
 use Rattle.port.specs.Receive.{received, lined}
 use Rattle.port.specs.Periodic.{periodicRun}
-use Rattle.port.specs.Transmit.{sent}
+use Rattle.port.specs.Transmit.{sent, advanced}
 use Rattle.settings.specs.declared.Settings.{Settings}
 use Rattle.settings.specs.Settings.{configured, sameSettings, started}
 use Rattle.table.specs.declared.layout.Header.{Header}
-use Rattle.table.specs.Layout.{headerOf}
-use Rattle.table.specs.Table.{portAt, ports, tableOctets}
-use Rattle.trunk.specs.Advanced.{advanced}
+use Rattle.table.specs.State.{State, portOf, withPorts, withPort}
+use Rattle.table.specs.Table.{ports}
 use Rattle.trunk.specs.Settled.{settled}
 use Rattle.trunk.specs.Displaced.{displaced}
-
--- what belongs to the whole table
-abbrev pub ours : List ℕ → Header
-ours t = headerOf t
-
--- the same table with other records
-abbrev pub again : List ℕ → List Port → List ℕ
-again t ps = tableOctets (ours t) ps
 
 -- the end of step 2, and steps 3 to 6
 unfoldable pub worked : Header → List Port → List Port
 worked h ps = settled h (map periodicRun ps)
 
+-- the same of a table whose ports have become these
+abbrev pub working : List Port → State → State
+working ps s = withPorts (worked (s .common) ps) s
+
 -- port i becomes q, and everything settles
-unfoldable pub afterOne : List ℕ → ℕ → Port → List ℕ
-afterOne t i q = again t (worked (ours t) (set (ports t) i q))
+unfoldable pub afterOne : ℕ → Port → State → State
+afterOne i q s = working (set (s .ports) i q) s
 
 -- start: every port begins alike, and steps 3 to 6
-unfoldable pub afterStart : Header → Settings → List ℕ
-afterStart h s = tableOctets h (settled h (replicate (h .count) (started s)))
+unfoldable pub afterStart : Header → Settings → State
+afterStart h x = record { common = h; ports = settled h (replicate (h .count) (started x)) }
 
 -- what port i becomes by an accepted LACPDU: CURRENT
-unfoldable pub heardAt : List ℕ → ℕ → List ℕ → Port
-heardAt t i frame = received (ours t .system) (i + 1) (blockOf (actorPart frame)) (blockOf (partnerPart frame)) (portAt t i)
+unfoldable pub heardAt : ℕ → List ℕ → State → Port
+heardAt i frame s = received (s .common .system) (i + 1) (blockOf (actorPart frame)) (blockOf (partnerPart frame)) (portOf s i)
 
 -- an accepted LACPDU on port i, and the ports whose partner it shows to have moved
-unfoldable pub afterHeard : List ℕ → ℕ → List ℕ → List ℕ
-afterHeard t i frame = again t (worked (ours t) (displaced i (blockOf (actorPart frame)) (set (ports t) i (heardAt t i frame))))
+unfoldable pub afterHeard : ℕ → List ℕ → State → State
+afterHeard i frame s = working (displaced i (blockOf (actorPart frame)) (set (s .ports) i (heardAt i frame s))) s
 
-unfoldable pub afterTick : List ℕ → List ℕ
-afterTick t = again t (worked (ours t) (map advanced (ports t)))
+unfoldable pub afterTick : State → State
+afterTick s = working (map advanced (s .ports)) s
 
 -- link and duplex as they are change nothing
-unfoldable pub afterLine : List ℕ → ℕ → Line → List ℕ
-afterLine t i l = cond (sameLine l (portAt t i .line)) t (afterOne t i (lined l (portAt t i)))
+unfoldable pub afterLine : ℕ → Line → State → State
+afterLine i l s = cond (sameLine l (portOf s i .line)) s (afterOne i (lined l (portOf s i)) s)
 
 -- equal settings change nothing
-unfoldable pub afterSettings : List ℕ → ℕ → Settings → List ℕ
-afterSettings t i s = cond (sameSettings s (portAt t i)) t (afterOne t i (configured s (portAt t i)))
+unfoldable pub afterSettings : ℕ → Settings → State → State
+afterSettings i x s = cond (sameSettings x (portOf s i)) s (afterOne i (configured x (portOf s i)) s)
 
 -- a fetch changes NTT and the ages of its port alone
-unfoldable pub afterSend : List ℕ → ℕ → List ℕ
-afterSend t i = again t (set (ports t) i (sent (portAt t i)))
+unfoldable pub afterSend : ℕ → State → State
+afterSend i s = withPort i (sent (portOf s i)) s
 
 -- ---- the outgoing buffer: 124 octets are written, and those after them kept
 
 -- the LACPDU of port i (43.4.16)
-unfoldable pub lacpduOf : List ℕ → ℕ → List ℕ
-lacpduOf t i = lacpdu (portAt t i .own .address) (actorBlock (ours t .system) (i + 1) (portAt t i)) (portAt t i .partner) (ours t .delay)
+unfoldable pub lacpduOf : State → ℕ → List ℕ
+lacpduOf s i = lacpdu (portOf s i .own .address) (actorBlock (s .common .system) (i + 1) (portOf s i)) (portOf s i .partner) (s .common .delay)
 
 -- port i's Response to a Marker
-unfoldable pub responseOf : List ℕ → ℕ → List ℕ → List ℕ
-responseOf t i frame = response (portAt t i .own .address) frame
+unfoldable pub responseOf : State → ℕ → List ℕ → List ℕ
+responseOf s i frame = response (portOf s i .own .address) frame
 
 abbrev pub over : List ℕ → List ℕ → List ℕ
 over frame out = frame ++ drop 124 out

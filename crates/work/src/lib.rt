@@ -3,15 +3,14 @@
 ghost use mathlib.Core.Path.{_≡_};
 ghost use mathlib.Core.Bool.{true};
 ghost use Prim.Native.Nat.{_+_, _<_, _≤_};
-ghost use lib.ListN.{length, replicate};
+ghost use lib.ListN.{length};
 ghost use Rattle.frame.specs.Block.{blockOf};
 ghost use Rattle.frame.specs.Wire.{actorPart, response};
-ghost use Rattle.table.specs.Layout.{headerOf, tableSize, mostPorts};
-ghost use Rattle.table.specs.Range.{portInRange};
-ghost use Rattle.table.specs.Table.{tableInRange, InTable, countIn, ports, portAt};
-ghost use Rattle.settings.specs.Settings.{started};
-ghost use Rattle.trunk.specs.Worked.{Worked, Became};
-ghost use Rattle.work.specs.Work.{ours, worked, afterOne, afterStart, heardAt, afterHeard, afterTick, afterLine, afterSettings, afterSend, lacpduOf, over};
+ghost use Rattle.table.specs.Layout.{headerOf, mostPorts};
+ghost use Rattle.port.specs.Range.{portInRange};
+ghost use Rattle.table.specs.Table.{tableInRange, isRoom, InTable, countIn, ports, portAt, stateOf, octetsOf, on, ours};
+ghost use Rattle.table.specs.Worked.{Worked, Became};
+ghost use Rattle.work.specs.Work.{worked, afterOne, afterStart, heardAt, afterHeard, afterTick, afterLine, afterSettings, afterSend, lacpduOf, over};
 use frame::block::Block;
 use machine::states::Line;
 use port::record::Port;
@@ -23,7 +22,7 @@ use trunk::sweep::sweep;
 // The end of step 2, and steps 3 to 6.
 fn finish(table: &mut [u8])
     requires { ⌜ tableInRange (now table) ≡ true ⌝ }
-    ensures { λ _. ⌜ Worked (now (table .entry)) (now (table .exit)) (worked (ours (now (table .entry))) (ports (now (table .entry)))) ⌝ }
+    ensures { λ _. ⌜ Worked (now (table .entry)) (now (table .exit)) (worked (headerOf (now (table .entry))) (ports (now (table .entry)))) ⌝ }
 {
     sweep(table, Step::Periodic);
     trunk::settle::settle(table);
@@ -32,7 +31,7 @@ fn finish(table: &mut [u8])
 // Port i becomes q, and everything settles.
 fn change(table: &mut [u8], i: usize, q: Port)
     requires { ⌜ InTable (now table) i × (portInRange (countIn (now table)) q ≡ true) ⌝ }
-    ensures { λ _. ⌜ now (table .exit) ≡ afterOne (now (table .entry)) i q ⌝ }
+    ensures { λ _. ⌜ now (table .exit) ≡ on (afterOne i q) (now (table .entry)) ⌝ }
 {
     table::store(table, i, q);
     finish(table);
@@ -41,7 +40,7 @@ fn change(table: &mut [u8], i: usize, q: Port)
 // A tick.
 pub fn advance(table: &mut [u8])
     requires { ⌜ tableInRange (now table) ≡ true ⌝ }
-    ensures { λ _. ⌜ now (table .exit) ≡ afterTick (now (table .entry)) ⌝ }
+    ensures { λ _. ⌜ now (table .exit) ≡ on afterTick (now (table .entry)) ⌝ }
 {
     sweep(table, Step::Tick);
     finish(table);
@@ -50,7 +49,7 @@ pub fn advance(table: &mut [u8])
 // Port i has this link and duplex now. The values as they are change nothing.
 pub fn set_line(table: &mut [u8], i: usize, line: Line)
     requires { ⌜ InTable (now table) i ⌝ }
-    ensures { λ _. ⌜ now (table .exit) ≡ afterLine (now (table .entry)) i line ⌝ }
+    ensures { λ _. ⌜ now (table .exit) ≡ on (afterLine i line) (now (table .entry)) ⌝ }
 {
     let p = table::load(table, i);
     let old = p.line;
@@ -63,7 +62,7 @@ pub fn set_line(table: &mut [u8], i: usize, line: Line)
 // Port i has these settings now. Equal ones change nothing.
 pub fn configure(table: &mut [u8], i: usize, settings: Settings)
     requires { ⌜ InTable (now table) i ⌝ }
-    ensures { λ _. ⌜ now (table .exit) ≡ afterSettings (now (table .entry)) i settings ⌝ }
+    ensures { λ _. ⌜ now (table .exit) ≡ on (afterSettings i settings) (now (table .entry)) ⌝ }
 {
     let p = table::load(table, i);
     if settings.is_held(p) {
@@ -75,7 +74,7 @@ pub fn configure(table: &mut [u8], i: usize, settings: Settings)
 // An accepted LACPDU on port i, whose record is p, and the ports whose partner it shows to have moved.
 pub fn hear(table: &mut [u8], i: usize, p: Port, frame: &[u8])
     requires { ⌜ InTable (now table) i × (p ≡ portAt (now table) i) × (124 ≤ length (now frame)) ⌝ }
-    ensures { λ _. ⌜ now (table .exit) ≡ afterHeard (now (table .entry)) i (now (frame .entry)) ⌝ }
+    ensures { λ _. ⌜ now (table .exit) ≡ on (afterHeard i (now (frame .entry))) (now (table .entry)) ⌝ }
 {
     let a = Block::read(frame::wire::actor(frame));
     hear_at(table, i, p, a, frame);
@@ -94,7 +93,7 @@ fn number_of(i: usize) -> u16
 // Port i, whose record is p, records what an LACPDU says (CURRENT, 43.4.12); a is the actor block in it.
 fn hear_at(table: &mut [u8], i: usize, p: Port, a: Block, frame: &[u8])
     requires { ⌜ InTable (now table) i × (p ≡ portAt (now table) i) × (a ≡ blockOf (actorPart (now frame))) × (124 ≤ length (now frame)) ⌝ }
-    ensures { λ _. ⌜ Became (now (table .entry)) (now (table .exit)) i (heardAt (now (table .entry)) i (now (frame .entry))) ⌝ }
+    ensures { λ _. ⌜ Became (now (table .entry)) (now (table .exit)) i (heardAt i (now (frame .entry)) (stateOf (now (table .entry)))) ⌝ }
 {
     let ours = table::layout::read_header(table);
     let us = ours.system;
@@ -111,7 +110,7 @@ fn hear_at(table: &mut [u8], i: usize, p: Port, a: Block, frame: &[u8])
 // Writes the LACPDU of port i, whose record is p, over the first 124 octets of out, and remembers the send.
 pub fn send(table: &mut [u8], i: usize, p: Port, out: &mut [u8])
     requires { ⌜ InTable (now table) i × (p ≡ portAt (now table) i) × (124 ≤ length (now out)) ⌝ }
-    ensures { λ _. ⌜ (now (table .exit) ≡ afterSend (now (table .entry)) i) × (now (out .exit) ≡ over (lacpduOf (now (table .entry)) i) (now (out .entry))) ⌝ }
+    ensures { λ _. ⌜ (now (table .exit) ≡ on (afterSend i) (now (table .entry))) × (now (out .exit) ≡ over (lacpduOf (stateOf (now (table .entry))) i) (now (out .entry))) ⌝ }
 {
     write_due(table, i, p, out);
     table::store(table, i, p.sent());
@@ -120,7 +119,7 @@ pub fn send(table: &mut [u8], i: usize, p: Port, out: &mut [u8])
 // Writes the LACPDU of port i, whose record is p, over the first 124 octets of out.
 fn write_due(table: &[u8], i: usize, p: Port, out: &mut [u8])
     requires { ⌜ InTable (now table) i × (p ≡ portAt (now table) i) × (124 ≤ length (now out)) ⌝ }
-    ensures { λ _. ⌜ now (out .exit) ≡ over (lacpduOf (now (table .entry)) i) (now (out .entry)) ⌝ }
+    ensures { λ _. ⌜ now (out .exit) ≡ over (lacpduOf (stateOf (now (table .entry))) i) (now (out .entry)) ⌝ }
 {
     let ours = table::layout::read_header(table);
     let us = ours.system;
@@ -142,24 +141,9 @@ pub fn respond(p: Port, frame: &[u8], out: &mut [u8])
 
 // A table of memory with any content: every port begins alike, and steps 3 to 6.
 pub fn begin(table: &mut [u8], header: Header, settings: Settings)
-    requires { ⌜ (1 ≤ header .count) × (header .count ≤ mostPorts) × (length (now table) ≡ tableSize (header .count)) ⌝ }
-    ensures { λ _. ⌜ now (table .exit) ≡ afterStart header settings ⌝ }
+    requires { ⌜ isRoom (now table) (header .count) ≡ true ⌝ }
+    ensures { λ _. ⌜ now (table .exit) ≡ octetsOf (afterStart header settings) ⌝ }
 {
-    lay(table, header, settings);
+    table::fill(table, header, settings.start());
     trunk::settle::settle(table);
-}
-
-// Writes the header, and for every port the record with which it begins.
-fn lay(table: &mut [u8], header: Header, settings: Settings)
-    requires { ⌜ (1 ≤ header .count) × (header .count ≤ mostPorts) × (length (now table) ≡ tableSize (header .count)) ⌝ }
-    ensures { λ _. ⌜ (headerOf (now (table .exit)) ≡ header) × (tableInRange (now (table .exit)) ≡ true) × (ports (now (table .exit)) ≡ replicate (header .count) (started settings)) ⌝ }
-{
-    let n = header.count as usize;
-    let p = settings.start();
-    table::layout::write_header(table, header);
-    let mut i: usize = 0;
-    while i < n {
-        table::store(table, i, p);
-        i += 1;
-    }
 }

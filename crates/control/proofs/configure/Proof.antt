@@ -3,12 +3,13 @@ use mathlib.Core.Path.{_≡_, sym, ap, _∙_}
 use Prim.Native.Nat.{ℕ}
 use denote.Ref.{now}
 use borrow.Author.Tests.{not-true, not-false}
+use Rattle.table.specs.Table.{on}
 use Rattle.work.specs.Work.{afterSettings}
 use Rattle.control.specs.declared.answer.Answer.the-variants.{Done, Refused}
 use Rattle.control.specs.declared.answer.Reason.the-variants as reason
 use Rattle.control.specs.Answer.{withDefault}
 use Rattle.control.specs.Call as call
-use Rattle.control.specs.After.{answer, changedBy}
+use Rattle.control.specs.After.{answer, effect}
 use Rattle.control.proofs.CallLaws.{found-refused, found-answers, found-table, found-inside, found-index, refused-table, done-table}
 use borrow.Author.Needs.{needs}
 use Rattle.control.proofs.configure.Statement.{statement}
@@ -60,7 +61,7 @@ same-length-3 : tie.Need-same-length-3
 same-length-3 c = search needs
 
 returns-3 : tie.Need-returns-3
-unfolding answer changedBy
+unfolding answer effect
 returns-3 c =
     let a = (c .before .before .before .before .before .before .before .before .before .before .before .before .args) in
     let t = now (a .table) in
@@ -69,7 +70,7 @@ returns-3 c =
     let done = found-answers t (a .n) here (withDefault (a .settings) Done) ∙ lawful in (
       sym done,
       c .before .before .configure .ensures
-          ∙ ap (λ (i : ℕ). afterSettings t i (a .settings)) (found-index t (a .n) here)
+          ∙ ap (λ (i : ℕ). on (afterSettings i (a .settings)) t) (found-index t (a .n) here)
           ∙ sym (done-table (call.configure (a .n) (a .settings)) t done),
     )
 

@@ -3,11 +3,11 @@ use Prim.Native.Nat.{ℕ}
 use mathlib.Core.Path.{_≡_, sym, ap, _∙_}
 use denote.Ref.{now}
 use Rattle.port.specs.Transmit.{due}
-use Rattle.table.specs.Table.{portAt}
+use Rattle.table.specs.Table.{portAt, stateOf, on}
 use Rattle.work.specs.Work.{afterSend, lacpduOf, over}
 use Rattle.control.specs.Answer.{withRoom, dueAnswer}
 use Rattle.control.specs.Call as call
-use Rattle.control.specs.After.{answer, unless, changedBy, after, writtenBy, outgoing}
+use Rattle.control.specs.After.{answer, unless, effect, after, writtenBy, outgoing}
 use Rattle.control.proofs.CallLaws.{found-refused, found-answers, found-table, found-inside, found-index, refused-table, refused-buffer}
 use borrow.Author.Needs.{needs}
 use Rattle.control.proofs.fetch.Statement.{statement}
@@ -47,7 +47,7 @@ same-length-3 : tie.Need-same-length-3
 same-length-3 c = search needs
 
 returns-2 : tie.Need-returns-2
-unfolding answer changedBy after writtenBy outgoing
+unfolding answer effect after writtenBy outgoing
 returns-2 c =
     let a = (c .before .before .before .before .before .before .before .before .before .before .before .before .before .before .args) in
     let t = now (a .table) in
@@ -59,8 +59,8 @@ returns-2 c =
     let is : c .before .before .before .before .fetch-at .result ≡ answer this t =
     did .0 ∙ ap (λ (k : ℕ). withRoom out (dueAnswer (due (portAt t k)))) i ∙ sym (found-answers t (a .n) here _) in (
       is,
-      did .1 ∙ (λ j. unless (is j) t (afterSend t (i j))),
-      did .2 ∙ (λ j. unless (is j) out (over (lacpduOf t (i j)) out)),
+      did .1 ∙ (λ j. unless (is j) t (on (afterSend (i j)) t)),
+      did .2 ∙ (λ j. unless (is j) out (over (lacpduOf (stateOf t) (i j)) out)),
     )
 
 pub fetch-spec : {M : Type 1} → statement M

@@ -5,7 +5,6 @@ use denote.Ref.{now}
 use lib.ListN.{length}
 use borrow.Author.Tests.{lt-ltb, le-ltb}
 use Rattle.port.specs.Transmit.{due}
-use Rattle.trunk.proofs.TableWork.{lies}
 use borrow.Author.Needs.{needs}
 use Rattle.control.proofs.fetch_at.Statement.{statement}
 use Rattle.control.proofs.fetch_at.Tie as tie
@@ -14,7 +13,7 @@ returns : tie.Need-returns
 returns c = let short = lt-ltb (length (now (c .before .before .before .args .out))) 124 (c .if1 .taken) in (rw short, refl, refl)
 
 load-requires : tie.Need-load-requires
-load-requires c κs = lies _ _ (c .before .before .before .before .pre)
+load-requires c κs = c .before .before .before .before .pre
 
 due-requires : tie.Need-due-requires
 due-requires c κs = search needs

@@ -3,10 +3,11 @@ use Prim.Native.Nat.{ℕ}
 use mathlib.Core.Path.{sym, ap, _∙_}
 use denote.Ref.{now}
 use Rattle.machine.specs.declared.states.Line.{Line}
+use Rattle.table.specs.Table.{on}
 use Rattle.work.specs.Work.{afterLine}
 use Rattle.control.specs.declared.answer.Answer.the-variants.{Done}
 use Rattle.control.specs.Call as call
-use Rattle.control.specs.After.{answer, changedBy}
+use Rattle.control.specs.After.{answer, effect}
 use Rattle.control.proofs.CallLaws.{found-refused, found-answers, found-table, found-inside, found-index, refused-table, done-table}
 use borrow.Author.Needs.{needs}
 use Rattle.control.proofs.line.Statement.{statement}
@@ -43,7 +44,7 @@ same-length-2 : tie.Need-same-length-2
 same-length-2 c = search needs
 
 returns-2 : tie.Need-returns-2
-unfolding answer changedBy
+unfolding answer effect
 returns-2 c =
     let a = (c .before .before .before .before .before .before .before .before .before .before .args) in
     let t = now (a .table) in
@@ -52,7 +53,7 @@ returns-2 c =
     let done = found-answers t (a .n) here Done in (
       sym done,
       c .before .before .set-line .ensures
-          ∙ ap (λ (i : ℕ). afterLine t i new) (found-index t (a .n) here)
+          ∙ ap (λ (i : ℕ). on (afterLine i new) t) (found-index t (a .n) here)
           ∙ sym (done-table (call.line (a .n) new) t done),
     )
 

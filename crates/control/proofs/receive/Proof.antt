@@ -3,12 +3,11 @@ use Prim.Native.Nat.{ℕ}
 use mathlib.Core.Path.{_≡_, sym, ap, _∙_}
 use denote.Ref.{now}
 use Rattle.frame.specs.Class.{classOf}
-use Rattle.table.specs.Table.{portAt}
+use Rattle.table.specs.Table.{portAt, stateOf, on}
 use Rattle.control.specs.Answer.{withRoom, frameAnswer}
 use Rattle.control.specs.Call as call
-use Rattle.control.specs.After.{answer, afterFrame, sentFor, changedBy, after, writtenBy, outgoing}
-use Rattle.control.proofs.CallLaws.{found-refused, found-answers, found-table, found-inside, found-index, refused-table, refused-buffer}
-use Rattle.control.proofs.CallLaws.{frame-after, frame-sent}
+use Rattle.control.specs.After.{answer, unless, afterFrame, sentFor, effect, after, writtenBy, outgoing}
+use Rattle.control.proofs.CallLaws.{found-refused, found-answers, found-table, found-inside, found-index, refused-table, refused-buffer, frame-sent}
 use borrow.Author.Needs.{needs}
 use Rattle.control.proofs.receive.Statement.{statement}
 use Rattle.control.proofs.receive.Tie as tie
@@ -47,7 +46,7 @@ same-length-3 : tie.Need-same-length-3
 same-length-3 c = search needs
 
 returns-2 : tie.Need-returns-2
-unfolding answer changedBy after writtenBy outgoing
+unfolding answer effect after writtenBy outgoing
 returns-2 c =
     let a = (c .before .before .before .before .before .before .before .before .before .before .before .before .before .before .before .args) in
     let t = now (a .table) in
@@ -60,8 +59,8 @@ returns-2 c =
     let is : c .before .before .before .before .receive-at .result ≡ answer this t =
     did .0 ∙ ap (λ (k : ℕ). withRoom out (frameAnswer (classOf frame) (portAt t k .line) (portAt t k .phase .mux))) i ∙ sym (found-answers t (a .n) here _) in (
       is,
-      did .1 ∙ (λ j. afterFrame (is j) t (i j) frame) ∙ frame-after (answer this t) t _ frame,
-      did .2 ∙ (λ j. sentFor (is j) t (i j) frame out) ∙ frame-sent (answer this t) t _ frame out,
+      did .1 ∙ (λ j. unless (is j) t (on (afterFrame (is j) (i j) frame) t)),
+      did .2 ∙ (λ j. sentFor (is j) (stateOf t) (i j) frame out) ∙ frame-sent (answer this t) (stateOf t) _ frame out,
     )
 
 pub receive-spec : {M : Type 1} → statement M

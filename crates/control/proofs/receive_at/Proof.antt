@@ -7,7 +7,7 @@ use lib.ListN.{length}
 use borrow.Author.Tests.{lt-ltb, le-ltb}
 use Rattle.frame.specs.Wire.{response}
 use Rattle.table.specs.Table.{portAt}
-use Rattle.trunk.proofs.TableWork.{lies}
+use Rattle.table.proofs.TableLaws.{octets-back}
 use Rattle.work.specs.Work.{responseOf, over}
 use Rattle.control.specs.Answer.{frameAnswer}
 use Rattle.control.proofs.CallLaws.{lacpdu-whole, marker-whole}
@@ -19,7 +19,7 @@ returns : tie.Need-returns
 returns c = let short = lt-ltb (length (now (c .before .before .before .before .args .out))) 124 (c .if1 .taken) in (rw short, refl, refl)
 
 load-requires : tie.Need-load-requires
-load-requires c κs = lies _ _ (c .before .before .before .before .before .pre)
+load-requires c κs = c .before .before .before .before .before .pre
 
 classify-requires : tie.Need-classify-requires
 classify-requires c κs = search needs
@@ -60,7 +60,8 @@ returns-2 : tie.Need-returns-2
 returns-2 c =
     let long = le-ltb (length (now (c .before .before .before .before .before .before .before .before .before .before .before .before .args .out))) 124 (c .before .before .before .before .before .before .before .before .if1 .left) in
     let is = (λ j. frameAnswer (sym (c .before .before .before .classify .ensures) j) (sym (c .before .before .before .before .before .before .load .ensures) j .line) (sym (c .before .before .before .before .before .before .load .ensures) j .phase .mux)) ∙ sym (c .before .before .judge .ensures) ∙ (c .enum-told .given .1) in
-    (rw (long, is), refl, refl)
+    let same = octets-back (now (c .before .before .before .before .before .before .before .before .before .before .before .before .args .table)) (c .before .before .before .before .before .before .before .before .before .before .before .before .pre .0) (λ j. (c .before .before .before .before .before .before .before .before .before .before .before .slice-known .given) j .fits) in
+    (rw (long, is), sym same, refl)
 
 same-length-2 : tie.Need-same-length-2
 same-length-2 c = search needs
@@ -83,7 +84,8 @@ returns-4 c =
     let a = (c .before .before .before .before .before .before .before .before .before .before .before .before .before .before .before .before .args) in
     let long = le-ltb (length (now (c .before .before .before .before .before .before .before .before .before .before .before .before .before .before .before .before .args .out))) 124 (c .before .before .before .before .before .before .before .before .before .before .before .before .if1 .left) in
     let is = (λ j. frameAnswer (sym (c .before .before .before .before .before .before .before .classify .ensures) j) (sym (c .before .before .before .before .before .before .before .before .before .before .load .ensures) j .line) (sym (c .before .before .before .before .before .before .before .before .before .before .load .ensures) j .phase .mux)) ∙ sym (c .before .before .before .before .before .before .judge .ensures) ∙ (c .before .before .before .before .enum-told3 .given .1) in
-    (rw (long, is), refl, c .before .before .respond .ensures ∙ (λ j. over (response (c .before .before .before .before .before .before .before .before .before .before .load .ensures j .own .address) (now (a .frame))) (now (a .out))))
+    let same = octets-back (now (c .before .before .before .before .before .before .before .before .before .before .before .before .before .before .before .before .args .table)) (c .before .before .before .before .before .before .before .before .before .before .before .before .before .before .before .before .pre .0) (λ j. (c .before .before .before .before .before .before .before .before .before .before .before .before .before .before .before .slice-known .given) j .fits) in
+    (rw (long, is), sym same, c .before .before .respond .ensures ∙ (λ j. over (response (c .before .before .before .before .before .before .before .before .before .before .load .ensures j .own .address) (now (a .frame))) (now (a .out))))
 
 same-length-5 : tie.Need-same-length-5
 same-length-5 c = search needs

@@ -1,7 +1,6 @@
 -- `control::report_port` meets its contract: the record, or the constants beside a refusal. Assumes nothing.
 use mathlib.Core.Path.{sym, _∙_}
 use denote.Ref.{now}
-use Rattle.trunk.proofs.TableWork.{room}
 use Rattle.control.specs.declared.answer.Answer.the-variants.{Done}
 use Rattle.control.specs.After.{answer}
 use Rattle.control.specs.Report.{portReport}
@@ -16,8 +15,8 @@ find-requires c κs = search needs
 enum-known-why : tie.Need-enum-known-why
 enum-known-why c = search needs
 
-no-port-requires : tie.Need-no-port-requires
-no-port-requires c κs = search needs
+absent-requires : tie.Need-absent-requires
+absent-requires c κs = search needs
 
 enum-known-i : tie.Need-enum-known-i
 enum-known-i c = search needs
@@ -26,13 +25,13 @@ load-requires : tie.Need-load-requires
 load-requires c κs =
     let t = now (c .before .before .before .before .before .args .table) in
     let here = sym (c .before .before .before .find .ensures) ∙ (c .before .i .given .1) in
-    room t (found-table t _ here) _ (found-inside t _ here)
+    (found-table t _ here, found-inside t _ here)
 
 returns : tie.Need-returns
 unfolding portReport answer
 returns c =
     let a = (c .before .before .before .before .before .before .args) in
-    rw (found-refused (now (a .table)) (a .n) (sym (c .before .before .before .before .find .ensures) ∙ (c .before .before .why .given .1)) Done, c .no-port .ensures)
+    rw (found-refused (now (a .table)) (a .n) (sym (c .before .before .before .before .find .ensures) ∙ (c .before .before .why .given .1)) Done, c .absent .ensures)
 
 returns-2 : tie.Need-returns-2
 unfolding portReport answer
@@ -44,4 +43,4 @@ returns-2 c =
 pub report-port-spec : {M : Type 1} → statement M
 report-port-spec =
     tie.close
-    (tie.spec find-requires enum-known-why no-port-requires enum-known-i load-requires returns returns-2)
+    (tie.spec find-requires enum-known-why absent-requires enum-known-i load-requires returns returns-2)

@@ -2,15 +2,14 @@
 use mathlib.Core.Path.{_≡_, sym, _∙_}
 use native.Mathlib.Omega.{arith}
 use denote.Ref.{now}
-use lib.Dec.{eqb}
-use lib.ListN.{length}
-use borrow.Author.Tests.{eqb-true, not-true, not-false}
-use Rattle.table.specs.Layout.{within, tableSize, mostPorts}
-use Rattle.table.proofs.RangeLaws.{both, within-true}
+use borrow.Author.Tests.{not-true, not-false}
+use Rattle.octets.specs.Octets.{within}
+use Rattle.octets.proofs.RangeLaws.{both, within-true}
+use Rattle.table.specs.Layout.{mostPorts}
 use Rattle.control.specs.declared.answer.Answer.the-variants.{Done, Refused}
 use Rattle.control.specs.declared.answer.Reason.the-variants as reason
 use Rattle.control.specs.Call as call
-use Rattle.control.specs.After.{answer, changedBy}
+use Rattle.control.specs.After.{answer, effect}
 use Rattle.control.proofs.CallLaws.{refused-table, done-table}
 use borrow.Author.Needs.{needs}
 use Rattle.control.proofs.start.Statement.{statement}
@@ -55,17 +54,13 @@ cast-t13 c =
     omega arith
 
 begin-requires : tie.Need-begin-requires
-begin-requires c κs =
-    let a = (c .before .before .before .before .before .before .before .args) in
-    let room = both (within 1 (a .count) mostPorts) (eqb (length (now (a .table))) (tableSize (a .count))) (sym (c .before .before .before .before .is-room .ensures) ∙ not-false _ (c .before .before .before .if1 .left)) in
-    let count = within-true 1 (a .count) mostPorts (room .0) in
-    (count .0, count .1, eqb-true (length (now (a .table))) (tableSize (a .count)) (room .1))
+begin-requires c κs = sym (c .before .before .before .before .is-room .ensures) ∙ not-false _ (c .before .before .before .if1 .left)
 
 same-length-3 : tie.Need-same-length-3
 same-length-3 c = search needs
 
 returns-3 : tie.Need-returns-3
-unfolding answer changedBy
+unfolding answer effect
 returns-3 c =
     let a = (c .before .before .before .before .before .before .before .before .before .before .args) in
     let t = now (a .table) in

@@ -5,7 +5,7 @@ use borrow.Author.Tests.{not-true, not-false}
 use Rattle.control.specs.declared.answer.Answer.the-variants.{Done, Refused}
 use Rattle.control.specs.declared.answer.Reason.the-variants as reason
 use Rattle.control.specs.Call as call
-use Rattle.control.specs.After.{answer, changedBy}
+use Rattle.control.specs.After.{answer, effect}
 use Rattle.control.proofs.CallLaws.{refused-table, done-table}
 use borrow.Author.Needs.{needs}
 use Rattle.control.proofs.tick.Statement.{statement}
@@ -31,7 +31,7 @@ same-length-2 : tie.Need-same-length-2
 same-length-2 c = search needs
 
 returns-2 : tie.Need-returns-2
-unfolding answer changedBy
+unfolding answer effect
 returns-2 c =
     let t = now (c .before .before .before .before .before .before .before .before .args .table) in
     let a : answer call.tick t ≡ Done = rw (sym (c .before .before .before .before .before .is-table .ensures) ∙ not-false _ (c .before .before .before .before .if1 .left)) in

@@ -39,7 +39,7 @@ turn f t i more h {set} so-far =
     ∙ ap (λ (x : ℕ). x * 2 + weighed (f p) 1) (sym so-far))
 
 count-requires : tie.Need-count-requires Inv-loop μ-loop
-count-requires c κs = in-range _ (c .before .pre) .header
+count-requires c κs = c .before .pre
 
 loop-holds : tie.Need-loop-holds Inv-loop μ-loop
 loop-holds c =
@@ -57,7 +57,7 @@ mul-set c =
     omega arith
 
 stands-to-requires : tie.Need-stands-to-requires Inv-loop μ-loop
-stands-to-requires c κs = let size = in-range _ (c .before .before .before .before .pre) .size in omega arith
+stands-to-requires c κs = (c .before .before .before .before .pre, omega arith)
 
 weigh-requires : tie.Need-weigh-requires Inv-loop μ-loop
 weigh-requires c κs = tt

@@ -1,51 +1,21 @@
--- `store` meets its contract: the lent part comes back as the octets of the record, which are as many. Assumes nothing.
-use mathlib.Core.Path.{refl}
-use Prim.Native.Nat.{_+_}
+-- `store` meets its contract: what is written at the record's place is in range. Assumes nothing.
+use Rattle.table.proofs.TableLaws.{lies}
+use Rattle.table.proofs.WorkedLaws.{stored}
 use denote.Ref.{now}
-use Rattle.octets.proofs.Laws.{put-part}
-use Rattle.table.specs.Layout.{place, recordSize}
-use Rattle.table.specs.Record.{encoded}
 use borrow.Author.Needs.{needs}
 use Rattle.table.proofs.store.Statement.{statement}
 use Rattle.table.proofs.store.Tie as tie
 
-place-of-requires : tie.Need-place-of-requires
-place-of-requires c κs = search needs
-
-add-write-record : tie.Need-add-write-record
-add-write-record c = search needs
-
-sub-write-record : tie.Need-sub-write-record
-sub-write-record c = search needs
-
-part-write-record-start : tie.Need-part-write-record-start
-part-write-record-start c = search needs
-
-part-write-record-end : tie.Need-part-write-record-end
-part-write-record-end c = search needs
-
-write-record-requires : tie.Need-write-record-requires
-write-record-requires c κs = search needs
+put-requires : tie.Need-put-requires
+put-requires c κs = lies _ _ (c .before .before .pre .0)
 
 same-length : tie.Need-same-length
 same-length c = search needs
 
 returns : tie.Need-returns
-unfolding encoded
 returns c =
-    let a = c .before .before .before .before .before .before .args in
-    rw (c .before .before .write-record .ensures, c .before .before .before .before .place-of .ensures)
-    (put-part (place (a .i)) (place (a .i) + recordSize) (encoded (a .p)) (now (a .table)) refl)
+    let a = c .before .before .before .before .before .args in
+    rw (c .before .before .put .ensures) (stored (now (a .table)) (a .i) (a .p) (c .before .before .before .before .before .pre .0) (c .before .before .before .before .before .pre .1))
 
 pub store-spec : {M : Type 1} → statement M
-store-spec =
-    tie.close
-    (tie.spec
-    place-of-requires
-    add-write-record
-    sub-write-record
-    part-write-record-start
-    part-write-record-end
-    write-record-requires
-    same-length
-    returns)
+store-spec = tie.close (tie.spec put-requires same-length returns)

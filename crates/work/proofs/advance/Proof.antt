@@ -1,9 +1,8 @@
 -- `work::advance` meets its contract: a tick of all ports, then the rest of the work. Assumes nothing.
-use Rattle.trunk.specs.Advanced.{advanced}
-use Rattle.trunk.proofs.SweepLaws.{sweep-map}
-use Rattle.trunk.proofs.TableWork.{then, said}
+use Rattle.octets.proofs.ListLaws.{sweep-map}
+use Rattle.port.specs.Transmit.{advanced}
+use Rattle.table.proofs.WorkedLaws.{then, said, made-of}
 use Rattle.work.specs.Work.{worked, afterTick}
-use Rattle.work.proofs.WorkLaws.{made-of}
 use borrow.Author.Needs.{needs}
 use Rattle.work.proofs.advance.Statement.{statement}
 use Rattle.work.proofs.advance.Tie as tie

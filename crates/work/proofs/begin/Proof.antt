@@ -1,15 +1,31 @@
--- `work::begin` meets its contract: header and records are laid, and steps 3 to 6 done. Assumes nothing.
-use mathlib.Core.Path.{_∙_}
+-- `work::begin` meets its contract: memory is filled with the record with which a port begins, and steps 3 to 6 done. Assumes nothing.
+use mathlib.Core.Path.{_≡_, sym, ap, _∙_}
+use denote.Ref.{now}
+use lib.ListN.{replicate}
+use Rattle.port.specs.declared.record.Port.{Port}
+use Rattle.settings.specs.Settings.{started}
+use Rattle.port.specs.Range.{ownFits}
 use Rattle.table.specs.Table.{tableOctets}
 use Rattle.trunk.specs.Settled.{settled}
 use Rattle.work.specs.Work.{afterStart}
-use Rattle.work.proofs.WorkLaws.{made-of}
+use Rattle.table.proofs.FillLaws.{room-is}
+use Rattle.table.proofs.WorkedLaws.{made-of}
+use Rattle.settings.proofs.RangeLaws.{started-typed}
+use Rattle.work.proofs.WorkLaws.{own-typed}
 use borrow.Author.Needs.{needs}
 use Rattle.work.proofs.begin.Statement.{statement}
 use Rattle.work.proofs.begin.Tie as tie
 
-lay-requires : tie.Need-lay-requires
-lay-requires c κs = search needs
+start-requires : tie.Need-start-requires
+start-requires c κs = search needs
+
+fill-requires : tie.Need-fill-requires
+fill-requires c κs =
+    let a = (c .before .before .before .args) in
+    let room = (c .before .before .before .pre) in
+    let is : c .start .result ≡ started (a .settings) = c .start .ensures in
+    let own = own-typed (c .start .result .own) _ _ (c .start .ok .1 .1 .1 .1 .1 .1 .1 .1 .1 .0 .1) in
+    (room, rw is (started-typed (a .header .count) (a .settings) (room-is (now (a .table)) (a .header .count) room .some) (ap (λ (q : Port). ownFits (q .own)) (sym is) ∙ own)))
 
 settle-requires : tie.Need-settle-requires
 settle-requires c κs = search needs
@@ -20,9 +36,10 @@ same-length c = search needs
 returns : tie.Need-returns
 unfolding afterStart
 returns c =
-    let laid = (c .before .before .before .before .before .before .lay .ensures) in
+    let a = (c .before .before .before .before .before .before .before .before .before .before .args) in
+    let laid = (c .before .before .before .before .before .before .fill .ensures) in
     made-of (c .before .before .settle .ensures) (λ j. (c .slice-known3 .given) j .fits)
-    ∙ (λ j. tableOctets (laid .0 j) (settled (laid .0 j) (laid .2 j)))
+    ∙ (λ j. tableOctets (laid .0 j) (settled (laid .0 j) ((laid .2 ∙ ap (replicate (a .header .count)) (c .before .before .before .before .before .before .before .start .ensures)) j)))
 
 pub begin-spec : {M : Type 1} → statement M
-begin-spec = tie.close (tie.spec lay-requires settle-requires same-length returns)
+begin-spec = tie.close (tie.spec start-requires fill-requires settle-requires same-length returns)

@@ -3,19 +3,19 @@ use mathlib.Core.Path.{_≡_, sym, ap, _∙_}
 use mathlib.Core.Bool.{true, false}
 use denote.Ref.{now}
 use Rattle.port.specs.declared.record.Port.{Port}
+use Rattle.port.specs.Range.{ownFits}
 use Rattle.settings.specs.Settings.{sameSettings, configured}
-use Rattle.table.specs.Range.{ownFits}
 use Rattle.table.specs.Table.{countIn, portAt}
-use Rattle.trunk.proofs.TableWork.{lies, ranged-at}
+use Rattle.table.proofs.TableLaws.{ranged-at, octets-back}
+use Rattle.settings.proofs.RangeLaws.{configured-typed}
 use Rattle.work.specs.Work.{afterSettings}
-use Rattle.work.proofs.RangeWork.{configured-typed}
 use Rattle.work.proofs.WorkLaws.{own-typed}
 use borrow.Author.Needs.{needs}
 use Rattle.work.proofs.configure.Statement.{statement}
 use Rattle.work.proofs.configure.Tie as tie
 
 load-requires : tie.Need-load-requires
-load-requires c κs = lies _ _ (c .before .before .pre)
+load-requires c κs = c .before .before .pre
 
 is-held-requires : tie.Need-is-held-requires
 is-held-requires c κs = search needs
@@ -29,7 +29,7 @@ returns c =
     let a = (c .before .before .before .before .before .args) in
     let same : sameSettings (a .settings) (portAt (now (a .table)) (a .i)) ≡ true =
     ap (sameSettings (a .settings)) (sym (c .before .before .load .ensures)) ∙ (sym (c .before .is-held .ensures) ∙ (c .if1 .taken)) in
-    rw same
+    rw same (sym (octets-back (now (a .table)) (c .before .before .before .before .before .pre .0) (λ j. (c .before .before .before .before .slice-known .given) j .fits)))
 
 configure-requires : tie.Need-configure-requires
 configure-requires c κs = search needs

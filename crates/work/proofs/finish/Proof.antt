@@ -1,8 +1,8 @@
 -- `work::finish` meets its contract: the periodic machines of all ports, then steps 3 to 6. Assumes nothing.
+use Rattle.octets.proofs.ListLaws.{sweep-map}
 use Rattle.port.specs.Periodic.{periodicRun}
 use Rattle.trunk.specs.Settled.{settled}
-use Rattle.trunk.proofs.SweepLaws.{sweep-map}
-use Rattle.trunk.proofs.TableWork.{then, said}
+use Rattle.table.proofs.WorkedLaws.{then, said}
 use Rattle.work.specs.Work.{worked}
 use borrow.Author.Needs.{needs}
 use Rattle.work.proofs.finish.Statement.{statement}

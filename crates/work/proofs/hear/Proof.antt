@@ -4,9 +4,8 @@ use mathlib.Core.Path.{_≡_, ap, _∙_}
 use Rattle.frame.specs.declared.block.Block.{Block}
 use Rattle.frame.specs.Block.{blockOf}
 use Rattle.trunk.specs.Displaced.{displaced}
-use Rattle.trunk.proofs.TableWork.{then, said}
+use Rattle.table.proofs.WorkedLaws.{then, said, made-of}
 use Rattle.work.specs.Work.{worked, afterHeard}
-use Rattle.work.proofs.WorkLaws.{made-of}
 use borrow.Author.Needs.{needs}
 use Rattle.work.proofs.hear.Statement.{statement}
 use Rattle.work.proofs.hear.Tie as tie

@@ -5,18 +5,21 @@ use mathlib.Core.Path.{sym, ap, _∙_}
 use denote.Ref.{now}
 use Rattle.frame.specs.Block.{blockOf}
 use Rattle.frame.specs.Wire.{actorPart, partnerPart}
-use Rattle.table.specs.Table.{countIn, portAt}
-use Rattle.table.proofs.TableLaws.{in-range}
-use Rattle.trunk.proofs.TableWork.{lies, ranged-at, stored}
-use Rattle.work.specs.Work.{ours, heardAt}
-use Rattle.work.proofs.RangeWork.{part-fits, received-ranged}
+use Rattle.port.specs.Receive.{received}
+use Rattle.table.specs.Layout.{headerOf}
+use Rattle.table.specs.Table.{countIn}
+use Rattle.trunk.proofs.TableWork.{may-store, changed-at}
+use Rattle.work.specs.Work.{heardAt}
+use Rattle.frame.proofs.RangeLaws.{part-fits}
+use Rattle.port.proofs.RangeLaws.{received-ranged}
+use Rattle.table.proofs.WorkedLaws.{stored}
 use Rattle.work.proofs.WorkLaws.{below-most}
 use borrow.Author.Needs.{needs}
 use Rattle.work.proofs.hear_at.Statement.{statement}
 use Rattle.work.proofs.hear_at.Tie as tie
 
 read-header-requires : tie.Need-read-header-requires
-read-header-requires c κs = in-range _ (c .before .before .before .pre .0 .0) .header
+read-header-requires c κs = c .before .before .before .pre .0 .0
 
 number-of-requires : tie.Need-number-of-requires
 number-of-requires c κs = below-most _ (c .before .before .before .before .before .pre .0 .0) (c .before .before .before .before .before .args .i) (c .before .before .before .before .before .pre .0 .1)
@@ -32,7 +35,17 @@ receive-lacpdu-requires c κs =
     (c .before .actor .ensures .1, c .before .before .before .before .before .before .before .before .pre .2 ∙ ap blockOf (sym (c .before .actor .ensures .0)), c .partner .ensures .1)
 
 store-requires : tie.Need-store-requires
-store-requires c κs = lies _ _ (c .before .before .before .before .before .before .before .before .before .before .pre .0)
+store-requires c κs =
+    let a = (c .before .before .before .before .before .before .before .before .before .before .args) in
+    let e = (c .before .before .before .before .before .before .before .before .before .before .pre) in
+    let t = now (a .table) in
+    let l = now (a .frame) in
+    may-store (received (headerOf t .system) (a .i + 1) (blockOf (actorPart l)) (blockOf (partnerPart l))) t (a .i) (e .0)
+    (λ j. (c .before .before .before .before .before .before .before .before .before .slice-known .given) j .fits)
+    (λ p. received-ranged (countIn t) (headerOf t .system) (a .i + 1) (blockOf (actorPart l)) (blockOf (partnerPart l)) p
+    (part-fits 18 33 l (λ j. (c .before .before .before .before .before .before .before .before .shared-slice-known .given) j .fits)))
+    (e .1)
+    (rw (c .before .receive-lacpdu .ensures, c .before .before .partner .ensures .0, c .before .before .before .actor .ensures .0, c .before .before .before .before .number-of .ensures, c .before .before .before .before .before .before .read-header .ensures))
 
 same-length : tie.Need-same-length
 same-length c = search needs
@@ -44,12 +57,9 @@ returns c =
     let e = (c .before .before .before .before .before .before .before .before .before .before .before .before .before .pre) in
     let t = now (a .table) in
     let l = now (a .frame) in
-    let fit =
-    received-ranged (countIn t) (ours t .system) (a .i + 1) (blockOf (actorPart l)) (blockOf (partnerPart l)) (portAt t (a .i))
-    (part-fits 18 33 l (λ j. (c .before .before .before .before .before .before .before .before .before .before .before .shared-slice-known .given) j .fits))
-    (ranged-at t (e .0 .0) (λ j. (c .before .before .before .before .before .before .before .before .before .before .before .before .slice-known .given) j .fits) (a .i) (e .0 .1)) in
-    rw (c .before .before .store .ensures, c .before .before .before .before .receive-lacpdu .ensures, c .before .before .before .before .before .partner .ensures .0, c .before .before .before .before .before .before .actor .ensures .0, c .before .before .before .before .before .before .before .number-of .ensures, e .1, c .before .before .before .before .before .before .before .before .before .read-header .ensures)
-    (stored t (a .i) (heardAt t (a .i) l) (e .0 .0) (e .0 .1) fit)
+    changed-at (received (headerOf t .system) (a .i + 1) (blockOf (actorPart l)) (blockOf (partnerPart l))) t (a .i) (e .1)
+    (rw (c .before .before .before .before .receive-lacpdu .ensures, c .before .before .before .before .before .partner .ensures .0, c .before .before .before .before .before .before .actor .ensures .0, c .before .before .before .before .before .before .before .number-of .ensures, c .before .before .before .before .before .before .before .before .before .read-header .ensures))
+    (c .before .before .store .ensures)
 
 pub hear-at-spec : {M : Type 1} → statement M
 hear-at-spec =

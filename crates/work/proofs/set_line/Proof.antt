@@ -4,16 +4,16 @@ use mathlib.Core.Bool.{true, false}
 use denote.Ref.{now}
 use Rattle.machine.specs.States.{sameLine}
 use Rattle.port.specs.declared.record.Port.{Port}
+use Rattle.port.proofs.RangeLaws.{lined-ranged}
 use Rattle.table.specs.Table.{countIn, portAt}
-use Rattle.trunk.proofs.TableWork.{lies, ranged-at}
+use Rattle.table.proofs.TableLaws.{ranged-at, octets-back}
 use Rattle.work.specs.Work.{afterLine}
-use Rattle.work.proofs.RangeWork.{lined-ranged}
 use borrow.Author.Needs.{needs}
 use Rattle.work.proofs.set_line.Statement.{statement}
 use Rattle.work.proofs.set_line.Tie as tie
 
 load-requires : tie.Need-load-requires
-load-requires c κs = lies _ _ (c .before .before .pre)
+load-requires c κs = c .before .before .pre
 
 same-requires : tie.Need-same-requires
 same-requires c κs = search needs
@@ -27,7 +27,7 @@ returns c =
     let a = (c .before .before .before .before .before .before .args) in
     let same : sameLine (a .line) (portAt (now (a .table)) (a .i) .line) ≡ true =
     ap (λ (p : Port). sameLine (a .line) (p .line)) (sym (c .before .before .before .load .ensures)) ∙ (sym (c .before .same .ensures) ∙ (c .if1 .taken)) in
-    rw same
+    rw same (sym (octets-back (now (a .table)) (c .before .before .before .before .before .before .pre .0) (λ j. (c .before .before .before .before .before .slice-known .given) j .fits)))
 
 set-line-requires : tie.Need-set-line-requires
 set-line-requires c κs = search needs

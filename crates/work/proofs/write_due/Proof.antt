@@ -1,6 +1,5 @@
 -- `work::write_due` meets its contract: the header is read, and the LACPDU is written from it and from the record that is handed down, which
 -- is the port's. Assumes nothing.
-use Rattle.table.proofs.TableLaws.{in-range}
 use Rattle.work.specs.Work.{lacpduOf}
 use Rattle.work.proofs.WorkLaws.{below-most}
 use borrow.Author.Needs.{needs}
@@ -8,7 +7,7 @@ use Rattle.work.proofs.write_due.Statement.{statement}
 use Rattle.work.proofs.write_due.Tie as tie
 
 read-header-requires : tie.Need-read-header-requires
-read-header-requires c κs = in-range _ (c .before .before .pre .0 .0) .header
+read-header-requires c κs = c .before .before .pre .0 .0
 
 number-of-requires : tie.Need-number-of-requires
 number-of-requires c κs = below-most _ (c .before .before .before .before .before .before .before .pre .0 .0) (c .before .before .before .before .before .before .before .args .i) (c .before .before .before .before .before .before .before .pre .0 .1)

@@ -3,8 +3,8 @@ use mathlib.Core.Path.{sym, _∙_}
 use native.Mathlib.Omega.{arith}
 use borrow.Author.Tests.{not-true, not-false}
 use denote.Ref.{now}
+use Rattle.octets.proofs.RangeLaws.{within-true}
 use Rattle.table.specs.Table.{countIn}
-use Rattle.table.proofs.RangeLaws.{within-true}
 use Rattle.control.specs.Answer.{found}
 use borrow.Author.Needs.{needs}
 use Rattle.control.proofs.tests.find.Statement.{statement}

@@ -5,7 +5,7 @@ use Rattle.control.proofs.tests.is_number.Statement.{statement}
 use Rattle.control.proofs.tests.is_number.Tie as tie
 
 count-requires : tie.Need-count-requires
-count-requires c κs = in-range _ (c .before .pre) .header
+count-requires c κs = c .before .pre
 
 cast-count : tie.Need-cast-count
 cast-count c = let most = in-range _ (c .before .before .pre) .most in omega (arith, c .count .ensures)

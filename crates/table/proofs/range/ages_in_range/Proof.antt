@@ -1,6 +1,6 @@
 -- `ages_in_range` meets its contract: the three ages, each by its own test. Assumes nothing.
-use Rattle.table.specs.Range.{agesInRange}
 use borrow.Author.Needs.{needs}
+use Rattle.port.specs.Range.{agesInRange}
 use Rattle.table.proofs.range.ages_in_range.Statement.{statement}
 use Rattle.table.proofs.range.ages_in_range.Tie as tie
 

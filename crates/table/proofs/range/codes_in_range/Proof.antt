@@ -46,15 +46,9 @@ shared-slice-read-within-7 c = search needs
 within-requires-7 : tie.Need-within-requires-7
 within-requires-7 c κs = search needs
 
-shared-slice-read-within-8 : tie.Need-shared-slice-read-within-8
-shared-slice-read-within-8 c = search needs
-
-within-requires-8 : tie.Need-within-requires-8
-within-requires-8 c κs = search needs
-
 returns : tie.Need-returns
 unfolding codesInRange
-returns c = simp (c .within8 .ensures, c .before .before .within7 .ensures, c .before .before .before .before .within6 .ensures, c .before .before .before .before .before .before .within5 .ensures, c .before .before .before .before .before .before .before .before .within4 .ensures, c .before .before .before .before .before .before .before .before .before .before .within3 .ensures, c .before .before .before .before .before .before .before .before .before .before .before .before .within2 .ensures, c .before .before .before .before .before .before .before .before .before .before .before .before .before .before .within .ensures)
+returns c = simp (c .within7 .ensures, c .before .before .within6 .ensures, c .before .before .before .before .within5 .ensures, c .before .before .before .before .before .before .within4 .ensures, c .before .before .before .before .before .before .before .before .within3 .ensures, c .before .before .before .before .before .before .before .before .before .before .within2 .ensures, c .before .before .before .before .before .before .before .before .before .before .before .before .within .ensures)
 
 pub codes-in-range-spec : {M : Type 1} → statement M
 codes-in-range-spec =
@@ -74,6 +68,4 @@ codes-in-range-spec =
     within-requires-6
     shared-slice-read-within-7
     within-requires-7
-    shared-slice-read-within-8
-    within-requires-8
     returns)

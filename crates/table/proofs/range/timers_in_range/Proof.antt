@@ -1,6 +1,6 @@
 -- `timers_in_range` meets its contract: its tests are those of the definition. Assumes nothing.
 use mathlib.Core.Path.{refl}
-use Rattle.table.specs.Range.{timersInRange}
+use Rattle.port.specs.Range.{timersInRange}
 use Rattle.table.proofs.range.timers_in_range.Statement.{statement}
 use Rattle.table.proofs.range.timers_in_range.Tie as tie
 

@@ -5,9 +5,8 @@ use mathlib.Core.List.{[], _∷_}
 use native.Mathlib.Omega.{arith}
 use denote.Ref.{now}
 use Rattle.octets.specs.Octets.{putAt, numberOctets}
-use Rattle.octets.proofs.Laws.{put-part}
+use Rattle.octets.proofs.Laws.{put-part, puts-at}
 use Rattle.frame.specs.Block.{addressOctets, blockOctets}
-use Rattle.table.proofs.OctetLaws.{puts-at}
 use borrow.Author.Needs.{needs}
 use Rattle.table.proofs.record.write_own.Statement.{statement}
 use Rattle.table.proofs.record.write_own.Tie as tie

@@ -6,10 +6,11 @@ use denote.Ref.{now}
 use Rattle.table.specs.Table.{countIn, ports}
 use Rattle.table.proofs.TableLaws.{in-range}
 use Rattle.trunk.specs.Settled.{attaching, attachedAll}
-use Rattle.trunk.specs.Worked.{Worked}
-use Rattle.trunk.proofs.SweepLaws.{doneTo, each, sweep-map}
+use Rattle.table.specs.Worked.{Worked}
+use Rattle.octets.proofs.ListLaws.{doneTo, each, sweep-map}
 use Rattle.trunk.proofs.StepLaws.{still-chosen, attach-same}
-use Rattle.trunk.proofs.TableWork.{loop-begins, loop-ends, in-table, turn, said}
+use Rattle.table.proofs.WorkedLaws.{said}
+use Rattle.trunk.proofs.TableWork.{loop-begins, loop-ends, in-table, turn}
 use Rattle.trunk.proofs.ready.attach_all.Statement.{statement}
 use Rattle.trunk.proofs.ready.attach_all.Tie as tie
 
@@ -21,7 +22,7 @@ abbrev μ-loop : tie.MeasureT-loop
 μ-loop table₀ n i₀ table i = n - i
 
 count-requires : tie.Need-count-requires Inv-loop μ-loop
-count-requires c κs = in-range _ (c .before .before .pre .0) .header
+count-requires c κs = c .before .before .pre .0
 
 loop-holds : tie.Need-loop-holds Inv-loop μ-loop
 loop-holds c =

@@ -1,16 +1,19 @@
 -- `trunk::ready::attach_one` meets its contract: a record that may attach is loaded, stepped and stored, and stays in range; any other is
 -- what step 5 makes of it. Assumes nothing.
-use mathlib.Core.Path.{_≡_, sym, _∙_}
+use mathlib.Core.Path.{_≡_, sym, ap, _∙_}
 use mathlib.Core.Bool.{true, false, not, _&&_}
 use denote.Ref.{now}
+use lib.ListN.{set}
+use Rattle.port.specs.declared.record.Port.{Port}
 use Rattle.machine.specs.Mux.{waits}
 use Rattle.port.specs.Mux.{attachedIf}
-use Rattle.table.specs.Table.{countIn, ports, portAt}
+use Rattle.table.specs.Table.{ports, portAt}
+use Rattle.port.proofs.RangeLaws.{attached-ranged}
 use Rattle.table.proofs.StoreLaws.{ports-length, ports-at}
 use Rattle.trunk.specs.Ready.{heldBack, ready}
-use Rattle.trunk.proofs.RangeKept.{attached-ranged}
 use Rattle.trunk.proofs.StepLaws.{attach-free, attach-held}
-use Rattle.trunk.proofs.TableWork.{lies, ranged-at, stored, left-alone}
+use Rattle.table.proofs.WorkedLaws.{left-alone, said}
+use Rattle.trunk.proofs.TableWork.{may-store, changed-at}
 use borrow.Author.Needs.{needs}
 use Rattle.trunk.proofs.ready.attach_one.Statement.{statement}
 use Rattle.trunk.proofs.ready.attach_one.Tie as tie
@@ -19,13 +22,13 @@ may-attach-requires : tie.Need-may-attach-requires
 may-attach-requires c κs = c .before .before .pre .0
 
 load-requires : tie.Need-load-requires
-load-requires c κs = lies _ _ (c .before .before .before .before .before .pre .0)
+load-requires c κs = c .before .before .before .before .before .pre .0
 
 attach-requires : tie.Need-attach-requires
 attach-requires c κs = search needs
 
 store-requires : tie.Need-store-requires
-store-requires c κs = lies _ _ (c .before .before .before .before .before .before .before .before .pre .0)
+store-requires c κs = may-store (attachedIf true) (now (c .before .before .before .before .before .before .before .before .args .table)) (c .before .before .before .before .before .before .before .before .args .i) (c .before .before .before .before .before .before .before .before .pre .0) (λ j. (c .before .before .before .before .before .before .before .slice-known .given) j .fits) (attached-ranged _ true) (c .before .before .load .ensures) (c .before .attach .ensures)
 
 same-length : tie.Need-same-length
 same-length c = search needs
@@ -34,16 +37,13 @@ returns : tie.Need-returns
 returns c =
     let a = (c .before .before .before .before .before .before .before .before .before .before .before .args) in
     let t = now (a .table) in
-    let e = (c .before .before .before .before .before .before .before .before .before .before .before .pre .0 .0) in
     let h = (c .before .before .before .before .before .before .before .before .before .before .before .pre .0 .1) in
     let p = portAt t (a .i) in
-    let fit = attached-ranged (countIn t) (ready (p .aggregator) (ports t)) p (ranged-at t e (λ j. (c .before .before .before .before .before .before .before .before .before .before .slice-known .given) j .fits) (a .i) h) in
     let here = ports-at t (a .i) p h in
     let told : waits (p .phase .mux) && not (heldBack (p .aggregator) (ports t)) ≡ true = sym (c .before .before .before .before .before .before .before .before .may-attach .ensures) ∙ c .before .before .before .before .before .before .before .if1 .taken in
     let is : attachedIf true p ≡ attachedIf (ready (p .aggregator) (ports t)) p =
     rw here at (attach-free (ports t) (a .i) p (rw ports-length h) (rw here told)) in
-    rw ((c .before .before .store .ensures), (c .before .before .before .before .attach .ensures), (c .before .before .before .before .before .load .ensures), is)
-    (stored t (a .i) (attachedIf (ready (p .aggregator) (ports t)) p) e h fit)
+    said (ap (λ (x : Port). set (ports t) (a .i) x) is) (changed-at (attachedIf true) t (a .i) (c .before .before .before .before .before .load .ensures) (c .before .before .before .before .attach .ensures) (c .before .before .store .ensures))
 
 same-length-2 : tie.Need-same-length-2
 same-length-2 c = search needs

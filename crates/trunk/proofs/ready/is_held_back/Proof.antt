@@ -10,7 +10,6 @@ use Rattle.table.proofs.StoreLaws.{ports-length, ports-at}
 use Rattle.table.proofs.TableLaws.{in-range}
 use Rattle.trunk.specs.Ready.{holdsBack, heldBack}
 use Rattle.trunk.proofs.StepLaws.{held-here, held-further, held-none}
-use Rattle.trunk.proofs.TableWork.{room}
 use Rattle.trunk.proofs.ready.is_held_back.Statement.{statement}
 use Rattle.trunk.proofs.ready.is_held_back.Tie as tie
 
@@ -21,13 +20,13 @@ abbrev μ-loop : tie.MeasureT-loop
 μ-loop table k n i₀ i = n - i
 
 count-requires : tie.Need-count-requires Inv-loop μ-loop
-count-requires c κs = in-range _ (c .before .pre) .header
+count-requires c κs = c .before .pre
 
 loop-holds : tie.Need-loop-holds Inv-loop μ-loop
 loop-holds c = (omega arith, sym (c .count .ensures), refl)
 
 holds-back-requires : tie.Need-holds-back-requires Inv-loop μ-loop
-holds-back-requires c κs = room _ (c .before .before .before .before .pre) (c .before .loop .i) (omega arith)
+holds-back-requires c κs = (c .before .before .before .before .pre, omega arith)
 
 returns : tie.Need-returns Inv-loop μ-loop
 returns c =

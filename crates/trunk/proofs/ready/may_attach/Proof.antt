@@ -4,19 +4,18 @@ use mathlib.Core.Bool.{true, false}
 use denote.Ref.{now}
 use Rattle.machine.specs.Mux.{waits}
 use Rattle.table.specs.Table.{portAt}
-use Rattle.trunk.proofs.TableWork.{lies}
 use borrow.Author.Needs.{needs}
 use Rattle.trunk.proofs.ready.may_attach.Statement.{statement}
 use Rattle.trunk.proofs.ready.may_attach.Tie as tie
 
 phase-requires : tie.Need-phase-requires
-phase-requires c κs = lies _ _ (c .before .pre)
+phase-requires c κs = c .before .pre
 
 waits-requires : tie.Need-waits-requires
 waits-requires c κs = search needs
 
 aggregator-requires : tie.Need-aggregator-requires
-aggregator-requires c κs = lies _ _ (c .before .before .before .before .pre)
+aggregator-requires c κs = c .before .before .before .before .pre
 
 is-held-back-requires : tie.Need-is-held-back-requires
 is-held-back-requires c κs = search needs

@@ -7,7 +7,6 @@ use denote.Ref.{now}
 use Rattle.port.specs.Compared.{compared}
 use Rattle.table.specs.Table.{countIn, ports}
 use Rattle.trunk.specs.Selection.{joins, firstFrom, lowest}
-use Rattle.trunk.proofs.TableWork.{room}
 use Rattle.trunk.proofs.SelectLaws.{first-here, first-further, first-none, lowest-starts, joins-at}
 use Rattle.trunk.proofs.select.lowest.Statement.{statement}
 use Rattle.trunk.proofs.select.lowest.Tie as tie
@@ -23,7 +22,7 @@ loop-holds : tie.Need-loop-holds Inv-loop μ-loop
 loop-holds c = (omega arith, lowest-starts (c .before .args .ours) (map compared (ports (now (c .before .args .table)))) (c .before .args .i))
 
 load-requires : tie.Need-load-requires Inv-loop μ-loop
-load-requires c κs = room (now (c .before .before .before .args .table)) (c .before .before .before .pre .0 .0) (c .before .loop .j) (omega arith)
+load-requires c κs = let less = (c .before .before .before .pre .0 .1) in (c .before .before .before .pre .0 .0, omega arith)
 
 same-group-requires : tie.Need-same-group-requires Inv-loop μ-loop
 same-group-requires c κs = tt

@@ -6,8 +6,8 @@ use denote.Ref.{now}
 use Rattle.table.specs.Table.{countIn, ports}
 use Rattle.table.proofs.TableLaws.{in-range}
 use Rattle.trunk.specs.Settled.{selecting, selectedAll}
-use Rattle.trunk.specs.Worked.{Worked}
-use Rattle.trunk.proofs.SweepLaws.{doneTo}
+use Rattle.table.specs.Worked.{Worked}
+use Rattle.octets.proofs.ListLaws.{doneTo}
 use Rattle.trunk.proofs.SelectLaws.{select-same}
 use Rattle.trunk.proofs.TableWork.{loop-begins, loop-ends, in-table, turn}
 use Rattle.trunk.proofs.select.select_all.Statement.{statement}
@@ -21,7 +21,7 @@ abbrev μ-loop : tie.MeasureT-loop
 μ-loop table₀ ours n i₀ table i = n - i
 
 count-requires : tie.Need-count-requires Inv-loop μ-loop
-count-requires c κs = in-range _ (c .before .before .pre) .header
+count-requires c κs = c .before .before .pre
 
 loop-holds : tie.Need-loop-holds Inv-loop μ-loop
 loop-holds c =

@@ -1,28 +1,31 @@
 -- `trunk::select::select_one` meets its contract: a record that must move is loaded, stepped and stored, and stays in range; one that
 -- need not is what the rule makes of it. Assumes nothing.
-use Prim.Native.Nat.{_≤_, _+_}
-use mathlib.Core.Path.{_≡_, sym, _∙_}
+use Prim.Native.Nat.{_≤_, _<_, _+_}
+use mathlib.Core.Path.{_≡_, sym, ap, _∙_}
 use mathlib.Core.Bool.{true, false}
 use mathlib.Core.List.{map}
 use native.Mathlib.Omega.{arith}
 use denote.Ref.{now}
+use lib.ListN.{set}
+use Rattle.port.specs.declared.record.Port.{Port}
+use Rattle.octets.specs.Octets.{within}
+use Rattle.octets.proofs.RangeLaws.{within-is}
 use Rattle.port.specs.Compared.{compared}
 use Rattle.port.specs.Mux.{detached, placed}
-use Rattle.table.specs.Layout.{within}
 use Rattle.table.specs.Table.{countIn, ports, portAt}
-use Rattle.table.proofs.RangeLaws.{within-is}
 use Rattle.table.proofs.TableLaws.{in-range}
 use Rattle.trunk.specs.Selection.{lowest, ruleOf}
 use Rattle.trunk.specs.Settled.{mustMove, reselected}
-use Rattle.trunk.proofs.RangeKept.{reselected-ranged}
+use Rattle.port.proofs.RangeLaws.{placed-ranged, detached-ranged}
 use Rattle.trunk.proofs.SelectLaws.{reselected-moves, reselected-unmoved}
-use Rattle.trunk.proofs.TableWork.{lies, ranged-at, stored, left-alone}
+use Rattle.table.proofs.WorkedLaws.{left-alone, said}
+use Rattle.trunk.proofs.TableWork.{may-store, changed-at}
 use borrow.Author.Needs.{needs}
 use Rattle.trunk.proofs.select.select_one.Statement.{statement}
 use Rattle.trunk.proofs.select.select_one.Tie as tie
 
 load-requires : tie.Need-load-requires
-load-requires c κs = lies _ _ (c .before .before .pre)
+load-requires c κs = c .before .before .pre
 
 lowest-requires : tie.Need-lowest-requires
 lowest-requires c κs = (c .before .before .before .before .pre, c .before .load .ensures)
@@ -43,7 +46,17 @@ place-requires : tie.Need-place-requires
 place-requires c κs = search needs
 
 store-requires : tie.Need-store-requires
-store-requires c κs = lies _ _ (c .before .before .before .before .before .before .before .before .before .before .pre)
+store-requires c κs =
+    let a = (c .before .before .before .before .before .before .before .before .before .before .args) in
+    let t = now (a .table) in
+    let at = (c .before .before .before .before .before .before .before .before .before .before .pre) in
+    let k = lowest (a .ours) (map compared (ports t)) (a .i) + 1 in
+    let le : lowest (a .ours) (map compared (ports t)) (a .i) ≤ a .i = rw (c .before .before .before .before .before .lowest .ensures .0) at (c .before .before .before .before .before .lowest .ensures .1) in
+    let less : a .i < countIn t = at .1 in
+    let in-count : within 1 k (countIn t) ≡ true = within-is 1 k (countIn t) (omega arith) (omega arith) in
+    may-store (λ p. placed k (detached p)) t (a .i) at (λ j. (c .before .before .before .before .before .before .before .before .before .slice-known .given) j .fits) (λ p e. placed-ranged (countIn t) k (detached p) in-count (detached-ranged (countIn t) p e))
+    (c .before .before .before .before .before .before .before .load .ensures)
+    (c .before .place .ensures ∙ (λ j. placed ((c .before .before .before .before .before .lowest .ensures .0) j + 1) ((c .before .before .detach .ensures) j)))
 
 same-length : tie.Need-same-length
 same-length c = search needs
@@ -53,17 +66,13 @@ unfolding ruleOf
 returns c =
     let a = (c .before .before .before .before .before .before .before .before .before .before .before .before .before .args) in
     let t = now (a .table) in
-    let e = (c .before .before .before .before .before .before .before .before .before .before .before .before .before .pre .0) in
-    let h = (c .before .before .before .before .before .before .before .before .before .before .before .before .before .pre .1) in
     let p = portAt t (a .i) in
     let k = lowest (a .ours) (map compared (ports t)) (a .i) + 1 in
-    let le : lowest (a .ours) (map compared (ports t)) (a .i) ≤ a .i = rw ((c .before .before .before .before .before .before .before .before .lowest .ensures .0)) at (c .before .before .before .before .before .before .before .before .lowest .ensures .1) in
-    let in-count : within 1 k (countIn t) ≡ true = within-is 1 k (countIn t) (omega arith) (omega arith) in
-    let fit = reselected-ranged (countIn t) k p in-count (ranged-at t e (λ j. (c .before .before .before .before .before .before .before .before .before .before .before .before .slice-known .given) j .fits) (a .i) h) in
     let move : mustMove k p ≡ true = rw ((c .before .before .before .before .before .before .before .before .before .before .load .ensures), (c .before .before .before .before .before .before .before .before .lowest .ensures .0)) at (sym (c .before .before .before .before .before .before .before .must-move .ensures) ∙ c .before .before .before .before .before .before .if1 .taken) in
     let is : placed k (detached p) ≡ reselected k p = sym (reselected-moves k p move) in
-    rw ((c .before .before .store .ensures), (c .before .before .before .before .place .ensures), (c .before .before .before .before .before .detach .ensures), (c .before .before .before .before .before .before .before .before .before .before .load .ensures), (c .before .before .before .before .before .before .before .before .lowest .ensures .0), is)
-    (stored t (a .i) (reselected k p) e h fit)
+    said (ap (λ (x : Port). set (ports t) (a .i) x) is)
+    (changed-at (λ q. placed k (detached q)) t (a .i) (c .before .before .before .before .before .before .before .before .before .before .load .ensures)
+    (c .before .before .before .before .place .ensures ∙ (λ j. placed ((c .before .before .before .before .before .before .before .before .lowest .ensures .0) j + 1) ((c .before .before .before .before .before .detach .ensures) j))) (c .before .before .store .ensures))
 
 same-length-2 : tie.Need-same-length-2
 same-length-2 c = search needs

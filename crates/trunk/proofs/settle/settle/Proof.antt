@@ -1,21 +1,20 @@
 -- `trunk::settle::settle` meets its contract: steps 3 and 4, 5, and 6 one after the other. Assumes nothing.
-use mathlib.Core.Path.{_≡_, ap, _∙_}
+use mathlib.Core.Path.{ap, _∙_}
 use mathlib.Core.List.{List, map}
 use denote.Ref.{now}
 use Rattle.port.specs.declared.record.Port.{Port}
 use Rattle.table.specs.declared.layout.Header.{Header}
 use Rattle.table.specs.Table.{ports}
-use Rattle.table.proofs.TableLaws.{in-range}
 use Rattle.trunk.specs.Settled.{selectedAll, attachedAll, climbed, settled}
-use Rattle.trunk.proofs.SweepLaws.{sweep-map}
+use Rattle.octets.proofs.ListLaws.{sweep-map}
 use Rattle.trunk.proofs.StepLaws.{all-chosen}
-use Rattle.trunk.proofs.TableWork.{then, said}
+use Rattle.table.proofs.WorkedLaws.{then, said}
 use borrow.Author.Needs.{needs}
 use Rattle.trunk.proofs.settle.settle.Statement.{statement}
 use Rattle.trunk.proofs.settle.settle.Tie as tie
 
 read-header-requires : tie.Need-read-header-requires
-read-header-requires c κs = in-range _ (c .before .before .pre) .header
+read-header-requires c κs = c .before .before .pre
 
 select-all-requires : tie.Need-select-all-requires
 select-all-requires c κs = search needs

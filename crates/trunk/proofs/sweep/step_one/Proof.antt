@@ -1,14 +1,14 @@
 -- `trunk::sweep::step_one` meets its contract: by the step, a record is loaded, stepped and stored, and stays in range, or is left to
 -- `displace_one`. Assumes nothing.
 use mathlib.Core.Path.{ap, _∙_}
+use denote.Ref.{now}
 use Rattle.port.specs.Receive.{receiveRun}
 use Rattle.port.specs.Periodic.{periodicRun}
-use Rattle.port.specs.Transmit.{quieted}
-use Rattle.trunk.specs.Advanced.{advanced}
+use Rattle.port.specs.Transmit.{quieted, advanced}
+use Rattle.port.proofs.RangeLaws.{periodic-ranged, advanced-ranged}
 use Rattle.trunk.specs.Settled.{climbed}
-use Rattle.trunk.proofs.AdvanceRange.{advanced-ranged, periodic-ranged}
 use Rattle.trunk.proofs.RangeKept.{climbed-ranged}
-use Rattle.trunk.proofs.TableWork.{lies, changed-at}
+use Rattle.trunk.proofs.TableWork.{may-store, changed-at}
 use borrow.Author.Needs.{needs}
 use Rattle.trunk.proofs.sweep.step_one.Statement.{statement}
 use Rattle.trunk.proofs.sweep.step_one.Tie as tie
@@ -17,7 +17,7 @@ enum-told : tie.Need-enum-told
 enum-told c = search needs
 
 load-requires : tie.Need-load-requires
-load-requires c κs = lies _ _ (c .before .before .before .before .pre)
+load-requires c κs = c .before .before .before .before .pre
 
 tick-requires : tie.Need-tick-requires
 tick-requires c κs = search needs
@@ -26,25 +26,26 @@ receive-requires : tie.Need-receive-requires
 receive-requires c κs = search needs
 
 store-requires : tie.Need-store-requires
-store-requires c κs = lies _ _ (c .before .before .before .before .before .before .before .before .pre)
+unfolding advanced
+store-requires c κs = may-store advanced (now (c .before .before .before .before .before .before .before .before .args .table)) (c .before .before .before .before .before .before .before .before .args .i) (c .before .before .before .before .before .before .before .before .pre) (λ j. (c .before .before .before .before .before .before .before .slice-known .given) j .fits) (advanced-ranged _) (c .before .before .before .load .ensures) (c .receive .ensures ∙ ap receiveRun (c .before .tick .ensures))
 
 enum-told-2 : tie.Need-enum-told-2
 enum-told-2 c = search needs
 
 load-requires-2 : tie.Need-load-requires-2
-load-requires-2 c κs = lies _ _ (c .before .before .before .before .pre)
+load-requires-2 c κs = c .before .before .before .before .pre
 
 periodic-requires : tie.Need-periodic-requires
 periodic-requires c κs = search needs
 
 store-requires-2 : tie.Need-store-requires-2
-store-requires-2 c κs = lies _ _ (c .before .before .before .before .before .before .before .pre)
+store-requires-2 c κs = may-store periodicRun (now (c .before .before .before .before .before .before .before .args .table)) (c .before .before .before .before .before .before .before .args .i) (c .before .before .before .before .before .before .before .pre) (λ j. (c .before .before .before .before .before .before .slice-known .given) j .fits) (periodic-ranged _) (c .before .before .load2 .ensures) (c .periodic .ensures)
 
 enum-told-3 : tie.Need-enum-told-3
 enum-told-3 c = search needs
 
 load-requires-3 : tie.Need-load-requires-3
-load-requires-3 c κs = lies _ _ (c .before .before .before .before .pre)
+load-requires-3 c κs = c .before .before .before .before .pre
 
 mux-requires : tie.Need-mux-requires
 mux-requires c κs = search needs
@@ -53,7 +54,8 @@ quiet-requires : tie.Need-quiet-requires
 quiet-requires c κs = search needs
 
 store-requires-3 : tie.Need-store-requires-3
-store-requires-3 c κs = lies _ _ (c .before .before .before .before .before .before .before .before .pre)
+unfolding climbed
+store-requires-3 c κs = may-store climbed (now (c .before .before .before .before .before .before .before .before .args .table)) (c .before .before .before .before .before .before .before .before .args .i) (c .before .before .before .before .before .before .before .before .pre) (λ j. (c .before .before .before .before .before .before .before .slice-known .given) j .fits) (climbed-ranged _) (c .before .before .before .load3 .ensures) (c .quiet .ensures ∙ ap quieted (c .before .mux .ensures))
 
 enum-known-step : tie.Need-enum-known-step
 enum-known-step c = search needs
@@ -68,8 +70,7 @@ returns : tie.Need-returns
 unfolding advanced
 returns c =
     rw (c .before .before .before .before .before .before .before .before .enum-told .given .1)
-    (changed-at advanced (c .before .before .before .before .before .before .before .before .before .before .before .pre) (λ j. (c .before .before .before .before .before .before .before .before .before .before .slice-known .given) j .fits) (advanced-ranged _)
-    (c .before .before .before .before .before .before .load .ensures) (c .before .before .before .receive .ensures ∙ ap receiveRun (c .before .before .before .before .tick .ensures)) (c .before .before .store .ensures))
+    (changed-at advanced (now (c .before .before .before .before .before .before .before .before .before .before .before .args .table)) (c .before .before .before .before .before .before .before .before .before .before .before .args .i) (c .before .before .before .before .before .before .load .ensures) (c .before .before .before .receive .ensures ∙ ap receiveRun (c .before .before .before .before .tick .ensures)) (c .before .before .store .ensures))
 
 same-length-2 : tie.Need-same-length-2
 same-length-2 c = search needs
@@ -77,8 +78,7 @@ same-length-2 c = search needs
 returns-2 : tie.Need-returns-2
 returns-2 c =
     rw (c .before .before .before .before .before .before .before .enum-told2 .given .1)
-    (changed-at periodicRun (c .before .before .before .before .before .before .before .before .before .before .pre) (λ j. (c .before .before .before .before .before .before .before .before .before .slice-known .given) j .fits) (periodic-ranged _)
-    (c .before .before .before .before .before .load2 .ensures) (c .before .before .before .periodic .ensures) (c .before .before .store2 .ensures))
+    (changed-at periodicRun (now (c .before .before .before .before .before .before .before .before .before .before .args .table)) (c .before .before .before .before .before .before .before .before .before .before .args .i) (c .before .before .before .before .before .load2 .ensures) (c .before .before .before .periodic .ensures) (c .before .before .store2 .ensures))
 
 same-length-3 : tie.Need-same-length-3
 same-length-3 c = search needs
@@ -87,8 +87,7 @@ returns-3 : tie.Need-returns-3
 unfolding climbed
 returns-3 c =
     rw (c .before .before .before .before .before .before .before .before .enum-told3 .given .1)
-    (changed-at climbed (c .before .before .before .before .before .before .before .before .before .before .before .pre) (λ j. (c .before .before .before .before .before .before .before .before .before .before .slice-known .given) j .fits) (climbed-ranged _)
-    (c .before .before .before .before .before .before .load3 .ensures) (c .before .before .before .quiet .ensures ∙ ap quieted (c .before .before .before .before .mux .ensures)) (c .before .before .store3 .ensures))
+    (changed-at climbed (now (c .before .before .before .before .before .before .before .before .before .before .before .args .table)) (c .before .before .before .before .before .before .before .before .before .before .before .args .i) (c .before .before .before .before .before .before .load3 .ensures) (c .before .before .before .quiet .ensures ∙ ap quieted (c .before .before .before .before .mux .ensures)) (c .before .before .store3 .ensures))
 
 same-length-4 : tie.Need-same-length-4
 same-length-4 c = search needs

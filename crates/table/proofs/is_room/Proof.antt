@@ -1,9 +1,9 @@
--- `control::tests::is_room` meets its contract: the count first, and then the size for it. Assumes nothing.
+-- `is_room` meets its contract: the count first, and then the size for it. Assumes nothing.
 use Rattle.table.specs.Layout.{mostPorts}
 use borrow.Author.Tests.{lt-leb, le-leb}
 use borrow.Author.Needs.{needs}
-use Rattle.control.proofs.tests.is_room.Statement.{statement}
-use Rattle.control.proofs.tests.is_room.Tie as tie
+use Rattle.table.proofs.is_room.Statement.{statement}
+use Rattle.table.proofs.is_room.Tie as tie
 
 returns : tie.Need-returns
 returns c = rw (lt-leb 1 _ (c .if1 .taken))

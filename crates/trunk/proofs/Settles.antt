@@ -8,6 +8,7 @@ use lib.ListN.{length, getD, set, length-map, length-set}
 use lib.Seq.{ext-getD, getD-set-same, getD-set-other, map-set-same}
 use lib.Dec.{eqb}
 use borrow.Author.Tests.{eqb-true, eqb-false}
+use Rattle.octets.proofs.ListLaws.{map-at}
 use Rattle.machine.specs.declared.mux.MuxStep.the-variants.{Stay}
 use Rattle.machine.specs.Mux.{waits}
 use Rattle.port.specs.declared.record.Port.{Port}
@@ -19,13 +20,12 @@ use Rattle.port.proofs.MuxLaws.{mux-idle}
 use Rattle.port.proofs.TransmitLaws.{quieted-keeps, quieted-twice, besideSends}
 use Rattle.table.specs.declared.layout.Header.{Header}
 use Rattle.table.specs.Record.{decoded}
 use Rattle.trunk.specs.Selection.{ruleOf}
 use Rattle.trunk.specs.Ready.{waitsFor, hasWaiting, holdsBack, heldBack, ready}
 use Rattle.trunk.specs.Settled.{selectedAll, attachedAll, climbed, settled, Chosen}
-use Rattle.trunk.proofs.TableWork.{map-at}
 use Rattle.trunk.proofs.ReadyLaws.{attached-other, attached-stays}
 use Rattle.trunk.proofs.SettledLaws.{chosen-kept, reselected-stays, attached-holds, attached-length, attached-at, selected-length, selected-at, settled-at, settled-chosen, settled-rule}
 use Rattle.trunk.proofs.RestLaws.{rest-chooses, chosen-rests, climbed-twice, none-ready}
 
 -- ---- one port in step 6
 

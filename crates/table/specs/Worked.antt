@@ -1,13 +1,17 @@
 -- What a piece of work on a table in range leaves: the same header and size, again in range, and these records. With the law that
--- header and records fix a table's octets, this fixes every octet.
+-- header and records fix a table's octets, this fixes every octet. Before that, the same of memory that was no table.
 use mathlib.Core.Path.{_≡_}
 use mathlib.Core.Bool.{true}
 use mathlib.Core.List.{List}
 use Prim.Native.Nat.{ℕ}
 use lib.ListN.{length, set}
 use Rattle.port.specs.declared.record.Port.{Port}
+use Rattle.table.specs.declared.layout.Header.{Header}
 use Rattle.table.specs.Layout.{headerOf}
 use Rattle.table.specs.Table.{tableInRange, ports}
+
+abbrev pub Holds : List ℕ → Header → List Port → Type 0
+Holds t h ps = (headerOf t ≡ h) × (tableInRange t ≡ true) × (ports t ≡ ps)
 
 pub record Worked (t u : List ℕ) (qs : List Port) : Type 0 where
   pub header : headerOf u ≡ headerOf t

@@ -6,15 +6,31 @@ use mathlib.Core.Bool.{true}
 use mathlib.Core.List.{List}
 use native.Mathlib.Omega.{arith}
 use lib.ListN.{length, replicate, length-replicate, getD-replicate, replicate-append-replicate}
-use Rattle.octets.specs.Octets.{putAt}
+use lib.Dec.{eqb}
+use borrow.Author.Tests.{eqb-true}
+use Rattle.octets.specs.Octets.{putAt, within}
 use Rattle.port.specs.declared.record.Port.{Port}
 use Rattle.table.specs.declared.layout.Header.{Header}
 use Rattle.table.specs.Layout.{headerOf, headerOctets, place, tableSize, mostPorts}
 use Rattle.table.specs.Record.{encoded}
-use Rattle.table.specs.Range.{portInRange, portsInRange}
-use Rattle.table.specs.Table.{tableInRange, ports, tableOctets}
+use Rattle.port.specs.Range.{portInRange, portsInRange}
+use Rattle.table.specs.Table.{tableInRange, isRoom, ports, tableOctets}
+use Rattle.table.specs.Worked.{Holds}
+use Rattle.octets.proofs.RangeLaws.{both, within-true}
 use Rattle.table.proofs.TableLaws.{in-range-is}
 use Rattle.table.proofs.MadeLaws.{begun, begun-header, begun-record, begun-all, ports-ranged, made-header, made-ports, made-in-range}
+
+-- memory of the size of a table of `count` ports
+pub record Room (t : List ℕ) (count : ℕ) : Type 0 where
+  pub some : 1 ≤ count
+  pub few : count ≤ mostPorts
+  pub size : length t ≡ tableSize count
+
+pub room-is : (t : List ℕ) (count : ℕ) → isRoom t count ≡ true → Room t count
+room-is t count e =
+    let e₀ = both (within 1 count mostPorts) (eqb (length t) (tableSize count)) e in
+    let bounds = within-true 1 count mostPorts (e₀ .0) in
+    record { some = bounds .0; few = bounds .1; size = eqb-true (length t) (tableSize count) (e₀ .1) }
 
 -- the first i records are p
 unfoldable pub filled : ℕ → Port → List ℕ → List ℕ
@@ -54,22 +70,14 @@ module _ (h : Header) (p : Port) (t : List ℕ) where
       rw n (ports-ranged (h .count) (replicate (h .count) p) p
       (λ i k. let less : i < h .count = rw n at k in ap (portInRange (h .count)) (getD-replicate (h .count) i p p less) ∙ r))
 
-  module _ (some : 1 ≤ h .count) (few : h .count ≤ mostPorts) (size : length t ≡ tableSize (h .count)) (r : portInRange (h .count) p ≡ true)
-      (u : List ℕ) (e : u ≡ filled (h .count) p (putAt 0 (headerOctets h) t)) where
-    n : length (replicate (h .count) p) ≡ h .count
-    n = length-replicate (h .count) p
-
-    made : u ≡ tableOctets h (replicate (h .count) p)
-    made = e ∙ filled-all size
-
-    pub filled-header : headerOf u ≡ h
-    filled-header = ap headerOf made ∙ made-header h (replicate (h .count) p)
-
-    pub filled-ranged : tableInRange u ≡ true
-    filled-ranged =
-        ap tableInRange made
-        ∙ in-range-is (tableOctets h (replicate (h .count) p))
-        (made-in-range h (replicate (h .count) p) (sym n) (alike-ranged r) (rw n some) (rw n few))
-
-    pub filled-ports : ports u ≡ replicate (h .count) p
-    filled-ports = ap ports made ∙ made-ports h (replicate (h .count) p) (sym n) (alike-ranged r)
+  -- in the end, a table in range with this header and these records
+  pub filled-holds : Room t (h .count) → portInRange (h .count) p ≡ true → (u : List ℕ) → u ≡ filled (h .count) p (putAt 0 (headerOctets h) t)
+      → Holds u h (replicate (h .count) p)
+  filled-holds room r u e =
+      let ps = replicate (h .count) p in
+      let n : length ps ≡ h .count = length-replicate (h .count) p in
+      let made : u ≡ tableOctets h ps = e ∙ filled-all (room .size) in (
+        ap headerOf made ∙ made-header h ps,
+        ap tableInRange made ∙ in-range-is (tableOctets h ps) (made-in-range h ps (sym n) (alike-ranged r) (rw n (room .some)) (rw n (room .few))),
+        ap ports made ∙ made-ports h ps (sym n) (alike-ranged r),
+      )

@@ -3,7 +3,6 @@
 use Prim.Native.Nat.{ℕ}
 use mathlib.Core.Path.{_≡_, refl, sym, ap, _∙_, subst}
 use mathlib.Core.Bool.{Bool, true, false, cond, not, _&&_, _||_, true≢false, false≢true}
-use native.Mathlib.Omega.{arith}
 use lib.Dec.{eqb}
 use borrow.Author.Tests.{not-true}
 use Rattle.frame.specs.declared.block.Block.{Block}
@@ -20,30 +19,25 @@ use Rattle.machine.specs.Ages.{agesTicked}
 use Rattle.machine.specs.Compare.{sameParty, sameView}
 use Rattle.machine.specs.Receive.{receiveNext}
 use Rattle.machine.specs.Time.{slowPeriodicTime, ranOut, timeoutTime}
 use Rattle.port.specs.declared.record.Port.{Port}
-use Rattle.port.specs.Record.{withLine, withNtt, withActor, withOwn, actorBlock}
-use Rattle.port.specs.Receive.{recordDefault, recordPdu, updateSelected, updateDefaultSelected, updateNtt, unselected, initialized, portDisabled, expired, lacpDisabled, defaulted, heard, current}
-use Rattle.port.specs.Receive.{receiveEntered, receiveTaken, receiveChoice, receiveStep, receiveRun, moved, received, down, lined}
+use Rattle.port.specs.Record.{withLine, withNtt, actorBlock}
+use Rattle.port.specs.Receive.{recordDefault, recordPdu, updateSelected, updateDefaultSelected, updateNtt, unselected, initialized, portDisabled, expired, lacpDisabled, defaulted, heard, current, receiveEntered, receiveTaken, receiveChoice, receiveStep, receiveRun, moved, received, down, lined}
+use Rattle.port.specs.Rest.{goesWith, Resting}
 use Rattle.port.specs.Timing.{Timed, usesPace, CurrentTimed}
 use Rattle.port.specs.Transmit.{sent, ticked}
 use Rattle.port.proofs.TimerLaws.{disabled-timed, expired-timed, off-timed, defaulted-timed, current-timed, ticked-timed}
-use Rattle.settings.specs.declared.Settings.{Settings}
-use Rattle.settings.specs.Settings.{ownOf, ownBits, sameGrouping, regrouped, configured, blank, started}
-use Rattle.trunk.specs.Advanced.{advanced}
-use Rattle.trunk.specs.Displaced.{isDisabled}
-use Rattle.claims.specs.AtRest.{goesWith, Resting}
-use Rattle.claims.proofs.Parts.{receivePart, periodicPart, MuxPart, muxPart, ReceiveRests, MuxAgrees, calmPart, Standing, resting-is, standing, calm-rests, rests-calm}
+use Rattle.port.proofs.RestParts.{receivePart, MuxPart, muxPart, ReceiveRests, MuxAgrees, Standing, resting-is, standing, calm-rests, rests-calm}
 
 -- ---- what the receive machine leaves alone
 
 -- the mux part, the periodic machine's state and timer, and the ages of sends
-record AsidePart : Type 0 where
-  mux : MuxPart
-  state : Periodic
-  timer : Ticks
-  ages : Ages
+pub record AsidePart : Type 0 where
+  pub mux : MuxPart
+  pub state : Periodic
+  pub timer : Ticks
+  pub ages : Ages
 
-abbrev aside : Port → AsidePart
+abbrev pub aside : Port → AsidePart
 aside p = record { mux = muxPart p; state = p .phase .periodic; timer = p .timers .periodic; ages = p .ages }
 
 default-aside : (b : Bool) (p : Port) → aside (recordDefault (cond b p (unselected p))) ≡ aside p
@@ -68,18 +62,18 @@ unfolding receiveRun receiveStep
 run-aside p = taken-aside (receiveChoice (receiveStep p)) (receiveStep p) ∙ taken-aside (receiveChoice p) p
 
 -- the rest of a port whose receive machine is at rest
-Steady : AsidePart → Type 0
+unfoldable pub Steady : AsidePart → Type 0
 Steady v = MuxAgrees (v .mux) × Timed (usesPace (v .state)) slowPeriodicTime (v .timer)
 
 steady : (p : Port) → Standing p → Steady (aside p)
 unfolding Steady
 steady p s = (s .mux, s .timed)
 
-standing-is : (q : Port) → ReceiveRests (receivePart q) → Steady (aside q) → Standing q
+pub standing-is : (q : Port) → ReceiveRests (receivePart q) → Steady (aside q) → Standing q
 unfolding Steady
 standing-is q r s = record { receive = r; timed = s .1; mux = s .0 }
 
-aside-standing : (p q : Port) → aside q ≡ aside p → Standing p → ReceiveRests (receivePart q) → Standing q
+pub aside-standing : (p q : Port) → aside q ≡ aside p → Standing p → ReceiveRests (receivePart q) → Standing q
 aside-standing p q a s r = standing-is q r (subst Steady (sym a) (steady p s))
 
 -- ---- the states that the receive machine enters
@@ -212,19 +206,11 @@ ticked-leads p r = leads-rest p r
 ticked-steady : (p : Port) → CurrentTimed p → Standing p → Steady (aside (ticked p))
 unfolding Steady ticked
 ticked-steady p c s =
-    let t = ticked-timed p (c, s .timed, s .mux .timed) in (
-      record {
-        synchronization = s .mux .synchronization;
-        collecting = s .mux .collecting;
-        distributing = s .mux .distributing;
-        timed = t .2;
-      },
-      t .1,
-    )
+    let t = ticked-timed p (c, s .timed, s .mux .timed) in
+    (record { says = s .mux .says; timed = t .2 }, t .1)
 
-pub advanced-standing : (p : Port) → Standing p → Standing (advanced p)
-unfolding advanced
-advanced-standing p s =
+pub tick-standing : (p : Port) → Standing p → Standing (receiveRun (ticked p))
+tick-standing p s =
     run-standing (ticked p) (ticked-steady p (s .receive .timed) s) (ticked-leads p (s .receive)) (ticked-timed p (s .receive .timed, s .timed, s .mux .timed) .0)
 
 -- ---- an accepted LACPDU
@@ -283,7 +269,7 @@ received-standing system n a b p u f s =
 
 -- ---- a moved partner
 
-moved-aside : (p : Port) → aside (moved p) ≡ aside p
+pub moved-aside : (p : Port) → aside (moved p) ≡ aside p
 unfolding moved portDisabled initialized recordDefault
 moved-aside p = refl
 
@@ -291,26 +277,18 @@ initialized-line : (p : Port) → initialized p .line ≡ p .line
 unfolding initialized recordDefault
 initialized-line p = refl
 
-moved-rests : (p : Port) → p .line .up ≡ false → ReceiveRests (receivePart (moved p))
+pub moved-rests : (p : Port) → p .line .up ≡ false → ReceiveRests (receivePart (moved p))
 unfolding moved
 moved-rests p u = disabled-rests (initialized p) (ap (λ (l : Line). l .up) (initialized-line p) ∙ u)
 
 pub moved-standing : (p : Port) → p .line .up ≡ false → Standing p → Standing (moved p)
 moved-standing p u s = aside-standing p (moved p) (moved-aside p) s (moved-rests p u)
 
--- a port at rest is in PORT_DISABLED with its link down
-pub disabled-down : (l : Line) (s : Receive) → goesWith l s ≡ true → isDisabled s ≡ true → l .up ≡ false
-disabled-down l Initialize g e = absurd (false≢true e)
-disabled-down l PortDisabled g e = not-true (l .up) g
-disabled-down l Expired g e = absurd (false≢true e)
-disabled-down l LacpDisabled g e = absurd (false≢true e)
-disabled-down l Defaulted g e = absurd (false≢true e)
-disabled-down l Current g e = absurd (false≢true e)
-
 both-up : (up other : Bool) → up && other ≡ true → up ≡ false → ⊥
 both-up true other e u = true≢false u
 both-up false other e u = false≢true e
 
+-- a port at rest with its link down is in PORT_DISABLED
 pub down-disabled : (l : Line) (s : Receive) → goesWith l s ≡ true → l .up ≡ false → s ≡ PortDisabled
 down-disabled l Initialize g u = absurd (false≢true g)
 down-disabled l PortDisabled g u = refl
@@ -377,23 +355,6 @@ module _ (p : Port) (s : Standing p) where
   unfolding lined fell
   lined-standing l = rises l
 
--- ---- settings
-
-configured-aside : (b : Bool) (s : Settings) (p : Port) → aside (withNtt (withActor (withOwn (cond b p (unselected p)) (ownOf s)) (ownBits s (p .actor))) true) ≡ aside p
-configured-aside true s p = refl
-configured-aside false s p = refl
-
-configured-receive : (b : Bool) (s : Settings) (p : Port)
-    → receivePart (withNtt (withActor (withOwn (cond b p (unselected p)) (ownOf s)) (ownBits s (p .actor))) true) ≡ receivePart p
-configured-receive true s p = refl
-configured-receive false s p = refl
-
-pub configured-standing : (s : Settings) (p : Port) → Standing p → Standing (configured s p)
-unfolding configured regrouped
-configured-standing s p h =
-    aside-standing p (configured s p) (configured-aside (sameGrouping s p) s p) h
-    (subst ReceiveRests (sym (configured-receive (sameGrouping s p) s p)) (h .receive))
-
 -- ---- a send
 
 pub sent-resting : (p : Port) → Resting p → Resting (sent p)
@@ -402,42 +363,17 @@ sent-resting p r =
     let s = standing p r in
     resting-is (sent p) (record { receive = s .receive; timed = s .timed; mux = s .mux }) (calm-rests (sent p) (rests-calm p (r .periodic)))
 
--- ---- the record with which a port begins
-
-blank-steady : (s : Settings) → Steady (aside (blank s))
-unfolding Steady blank
-blank-steady s = (
-  record { synchronization = refl; collecting = refl; distributing = refl; timed = record { within = omega arith; stopped = λ e. refl } },
-  record { within = omega arith; stopped = λ e. refl },
-)
-
-blank-down : (s : Settings) → blank s .line .up ≡ false
-unfolding blank
-blank-down s = refl
-
-blank-calm : (s : Settings) → calmPart (periodicPart (moved (blank s))) ≡ true
-unfolding moved portDisabled initialized recordDefault blank
-blank-calm s = refl
-
-pub started-resting : (s : Settings) → Resting (started s)
-unfolding started
-started-resting s =
-    resting-is (moved (blank s))
-    (standing-is (moved (blank s)) (moved-rests (blank s) (blank-down s)) (subst Steady (sym (moved-aside (blank s))) (blank-steady s)))
-    (calm-rests (moved (blank s)) (blank-calm s))
-
 -- ---- the ages of sends: a tick makes them older, and nothing else in steps 1 and 2 touches them
 
-aside-ages : (p q : Port) → aside q ≡ aside p → q .ages ≡ p .ages
+pub aside-ages : (p q : Port) → aside q ≡ aside p → q .ages ≡ p .ages
 aside-ages p q e = ap (λ (v : AsidePart). v .ages) e
 
 ticked-ages : (p : Port) → ticked p .ages ≡ agesTicked (p .ages)
 unfolding ticked
 ticked-ages p = refl
 
-pub advanced-ages : (p : Port) → advanced p .ages ≡ agesTicked (p .ages)
-unfolding advanced
-advanced-ages p = aside-ages (ticked p) (receiveRun (ticked p)) (run-aside (ticked p)) ∙ ticked-ages p
+pub tick-ages : (p : Port) → receiveRun (ticked p) .ages ≡ agesTicked (p .ages)
+tick-ages p = aside-ages (ticked p) (receiveRun (ticked p)) (run-aside (ticked p)) ∙ ticked-ages p
 
 pub received-ages : (system : SystemId) (n : ℕ) (a b : Block) (p : Port) → received system n a b p .ages ≡ p .ages
 unfolding received
@@ -451,7 +387,3 @@ unfolding lined
 lined-ages l p =
     let low = receiveRun (withLine p (down (p .line))) in
     aside-ages low (receiveRun (withLine low l)) (run-aside (withLine low l)) ∙ aside-ages p low (run-aside (withLine p (down (p .line))))
-
-pub configured-ages : (s : Settings) (p : Port) → configured s p .ages ≡ p .ages
-unfolding configured regrouped
-configured-ages s p = aside-ages p (configured s p) (configured-aside (sameGrouping s p) s p)

@@ -1,8 +1,7 @@
 -- What rest of one port looks at: the receive machine's part of a record, the periodic machine's, and the mux's. A step that leaves a
--- part as it was leaves its rest; a step of the periodic machine or of steps 3 to 6 leaves the parts of the others. Assumes nothing.
-use Prim.Native.Nat.{ℕ}
+-- part as it was leaves its rest; a step of the periodic machine leaves the parts of the others, and one of the mux keeps its own. Assumes nothing.
 use mathlib.Core.Path.{_≡_, refl, sym, ap, _∙_, subst}
-use mathlib.Core.Bool.{Bool, true, false, cond, not, _&&_, true≢false, false≢true}
+use mathlib.Core.Bool.{Bool, true, false, not, _&&_, true≢false, false≢true}
 use borrow.Author.Tests.{eqb-true}
 use Rattle.machine.specs.declared.states.Line.{Line}
 use Rattle.machine.specs.declared.states.Ticks.{Ticks}
@@ -10,25 +9,21 @@ use Rattle.machine.specs.declared.states.Receive.{Receive}
 use Rattle.machine.specs.declared.states.Periodic.{Periodic}
 use Rattle.machine.specs.declared.states.Periodic.the-variants.{NoPeriodic, FastPeriodic, SlowPeriodic, PeriodicTx}
 use Rattle.machine.specs.declared.states.Mux.{Mux}
-use Rattle.machine.specs.declared.states.Selection.the-variants.{Unselected, Selected}
 use Rattle.machine.specs.declared.receive.ReceiveStep.the-variants as receive
 use Rattle.machine.specs.Receive.{receiveNext}
 use Rattle.machine.specs.Periodic.{periodicNext}
-use Rattle.machine.specs.Mux.{isAttached, collects, distributes, waits}
+use Rattle.machine.specs.Mux.{waits}
 use Rattle.machine.specs.States.{quietOn, ticks}
 use Rattle.machine.specs.Time.{ranOut, longTimeoutTime, slowPeriodicTime, aggregateWaitTime}
 use Rattle.port.specs.declared.record.Port.{Port}
-use Rattle.port.specs.Record.{withAggregator, withSelected}
 use Rattle.port.specs.Receive.{receiveChoice}
 use Rattle.port.specs.Periodic.{quiet, periodicTaken, periodicEntered, periodicChoice, periodicStep, periodicRun}
-use Rattle.port.specs.Mux.{muxStep, muxRun, detached, placed, attachedIf}
-use Rattle.port.specs.Timing.{Timed, WaitTimed, usesCurrent, usesPace}
+use Rattle.port.specs.Mux.{muxStep, BitsAgree}
+use Rattle.port.specs.Rest.{goesWith, Resting}
+use Rattle.port.specs.Timing.{Timed, usesCurrent, usesPace}
 use Rattle.port.proofs.PeriodicLaws.{periodic-rests, periodic-keeps}
-use Rattle.port.proofs.MuxLaws.{besideMux, mux-keeps, detached-keeps, placed-keeps, attached-keeps, BitsAgree, bits-kept}
-use Rattle.port.proofs.TransmitLaws.{quieted-keeps}
+use Rattle.port.proofs.MuxLaws.{bits-kept}
 use Rattle.port.proofs.TimerLaws.{pace-run, wait-step}
-use Rattle.trunk.specs.Settled.{mustMove, reselected, climbed}
-use Rattle.claims.specs.AtRest.{goesWith, Resting}
 
 -- ---- the three parts
 
@@ -87,9 +82,7 @@ abbrev pub PeriodicTimed : PeriodicPart → Type 0
 PeriodicTimed v = Timed (usesPace (v .state)) slowPeriodicTime (v .timer)
 
 pub record MuxAgrees (v : MuxPart) : Type 0 where
-  pub synchronization : v .synchronization ≡ isAttached (v .state)
-  pub collecting : v .collecting ≡ collects (v .state)
-  pub distributing : v .distributing ≡ distributes (v .state)
+  pub says : BitsAgree (v .state) (v .synchronization) (v .collecting) (v .distributing)
   pub timed : Timed (waits (v .state)) aggregateWaitTime (v .timer)
 
 -- where the periodic machine is at rest: by its state, whether it is to be quiet, whether its timer has run out, the partner's Timeout
@@ -174,7 +167,7 @@ resting-is p s e = record {
   unheard = s .receive .unheard;
   receive = s .receive .stays;
   periodic = e;
-  says = record { synchronization = s .mux .synchronization; collecting = s .mux .collecting; distributing = s .mux .distributing };
+  says = s .mux .says;
   current = s .receive .timed;
   pace = s .timed;
   wait = s .mux .timed;
@@ -185,12 +178,7 @@ unfolding receiveChoice
 standing p r = record {
   receive = record { state = r .state; unheard = r .unheard; stays = r .receive; timed = r .current };
   timed = r .pace;
-  mux = record {
-    synchronization = r .says .synchronization;
-    collecting = r .says .collecting;
-    distributing = r .says .distributing;
-    timed = r .wait;
-  };
+  mux = record { says = r .says; timed = r .wait };
 }
 
 -- ---- the periodic machine leaves the other parts
@@ -205,86 +193,7 @@ periodic-standing p s =
     })
     (periodic-rests p)
 
--- ---- steps 3 to 6 leave all but the mux part, Selected, the aggregator held and NTT
-
-abbrev pub besideSettled : Port → Port
-besideSettled p = withAggregator (withSelected (besideMux p) Unselected) 0
-
-abbrev aside : Port → Port
-aside p = withAggregator (withSelected p Unselected) 0
-
-pub reselected-beside : (k : ℕ) (p : Port) → besideSettled (reselected k p) ≡ besideSettled p
-unfolding reselected
-reselected-beside k p = by (mustMove k p)
-  where
-    by : (b : Bool) → besideSettled (cond b (placed k (detached p)) p) ≡ besideSettled p
-    by true = ap (λ (x : Port). aside x) (placed-keeps k (detached p)) ∙ ap (λ (x : Port). aside x) (detached-keeps p)
-    by false = refl
-
-pub attached-beside : (r : Bool) (p : Port) → besideSettled (attachedIf r p) ≡ besideSettled p
-attached-beside r p = ap (λ (x : Port). aside x) (attached-keeps r p)
-
-pub climbed-beside : (p : Port) → besideSettled (climbed p) ≡ besideSettled p
-unfolding climbed
-climbed-beside p = ap (λ (x : Port). besideSettled x) (quieted-keeps (muxRun p)) ∙ ap (λ (x : Port). aside x) (mux-keeps p)
-
--- ---- and keep the mux part's bits and timer
-
-agrees : (p : Port) → MuxAgrees (muxPart p) → BitsAgree p
-agrees p h = record { synchronization = h .synchronization; collecting = h .collecting; distributing = h .distributing }
-
-mux-agrees : (p : Port) → BitsAgree p → WaitTimed p → MuxAgrees (muxPart p)
-mux-agrees p b t = record { synchronization = b .synchronization; collecting = b .collecting; distributing = b .distributing; timed = t }
+-- ---- a step of the mux keeps its part's bits and timer
 
 pub step-agrees : (r : Bool) (p : Port) → MuxAgrees (muxPart p) → MuxAgrees (muxPart (muxStep r p))
-step-agrees r p h = mux-agrees (muxStep r p) (bits-kept r p (agrees p h)) (wait-step r p (h .timed))
-
-reselected-agrees : (k : ℕ) (p : Port) → MuxAgrees (muxPart p) → MuxAgrees (muxPart (reselected k p))
-unfolding reselected placed detached
-reselected-agrees k p h = by (mustMove k p)
-  where
-    q : Port
-    q = withSelected p Unselected
-
-    by : (b : Bool) → MuxAgrees (muxPart (cond b (placed k (detached p)) p))
-    by true =
-        step-agrees false (withSelected (withAggregator (detached p) k) Selected)
-        (step-agrees false (muxStep false (muxStep false q)) (step-agrees false (muxStep false q) (step-agrees false q h)))
-    by false = h
-
-attached-agrees : (r : Bool) (p : Port) → MuxAgrees (muxPart p) → MuxAgrees (muxPart (attachedIf r p))
-unfolding attachedIf
-attached-agrees r p h = by (waits (p .phase .mux))
-  where
-    by : (b : Bool) → MuxAgrees (muxPart (cond b (muxStep r p) p))
-    by true = step-agrees r p h
-    by false = h
-
-climbed-agrees : (p : Port) → MuxAgrees (muxPart p) → MuxAgrees (muxPart (climbed p))
-unfolding climbed muxRun
-climbed-agrees p h =
-    let q = muxStep false (muxStep false p) in
-    subst MuxAgrees (sym (ap (λ (x : Port). muxPart x) (quieted-keeps q))) (step-agrees false (muxStep false p) (step-agrees false p h))
-
--- ---- so they keep a port's rest
-
-beside-resting : (p q : Port) → besideSettled q ≡ besideSettled p → MuxAgrees (muxPart q) → Resting p → Resting q
-beside-resting p q e m r =
-    let s = standing p r in
-    let f = sym e in
-    resting-is q
-    (record {
-      receive = subst ReceiveRests (ap (λ (x : Port). receivePart x) f) (s .receive);
-      timed = subst PeriodicTimed (ap (λ (x : Port). periodicPart x) f) (s .timed);
-      mux = m;
-    })
-    (calm-rests q (ap (λ (x : Port). calmPart (periodicPart x)) e ∙ rests-calm p (r .periodic)))
-
-pub reselected-resting : (k : ℕ) (p : Port) → Resting p → Resting (reselected k p)
-reselected-resting k p r = beside-resting p (reselected k p) (reselected-beside k p) (reselected-agrees k p (standing p r .mux)) r
-
-pub attached-resting : (b : Bool) (p : Port) → Resting p → Resting (attachedIf b p)
-attached-resting b p r = beside-resting p (attachedIf b p) (attached-beside b p) (attached-agrees b p (standing p r .mux)) r
-
-pub climbed-resting : (p : Port) → Resting p → Resting (climbed p)
-climbed-resting p r = beside-resting p (climbed p) (climbed-beside p) (climbed-agrees p (standing p r .mux)) r
+step-agrees r p h = record { says = bits-kept r p (h .says); timed = wait-step r p (h .timed) }

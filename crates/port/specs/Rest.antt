@@ -1,0 +1,34 @@
+-- A port at rest, as every call leaves each: its machines rest in the states that go with its link and duplex.
+use mathlib.Core.Path.{_≡_}
+use mathlib.Core.Bool.{Bool, true, false, not, _&&_}
+use Rattle.machine.specs.declared.states.Line.{Line}
+use Rattle.machine.specs.declared.states.Receive.{Receive}
+use Rattle.machine.specs.declared.states.Receive.the-variants.{Initialize, PortDisabled, Expired, LacpDisabled, Defaulted, Current}
+use Rattle.machine.specs.declared.receive.ReceiveStep.the-variants.{Stay}
+use Rattle.port.specs.declared.record.Port.{Port}
+use Rattle.port.specs.Receive.{receiveChoice}
+use Rattle.port.specs.Periodic.{periodicStep}
+use Rattle.port.specs.Mux.{SaysMux}
+use Rattle.port.specs.Timing.{CurrentTimed, PaceTimed, WaitTimed}
+
+-- PORT_DISABLED exactly if the link is down, LACP_DISABLED exactly if it is up at half duplex, and never INITIALIZE
+abbrev pub goesWith : Line → Receive → Bool
+goesWith l Initialize = false
+goesWith l PortDisabled = not (l .up)
+goesWith l Expired = l .up && l .full
+goesWith l LacpDisabled = l .up && not (l .full)
+goesWith l Defaulted = l .up && l .full
+goesWith l Current = l .up && l .full
+
+pub record Resting (p : Port) : Type 0 where
+  pub state : goesWith (p .line) (p .phase .receive) ≡ true
+  -- where the link is down, the partner's Synchronization is clear
+  pub unheard : p .line .up ≡ false → p .partner .state .synchronization ≡ false
+  -- no step of the receive machine applies, and none of the periodic machine changes anything
+  pub receive : receiveChoice p ≡ Stay
+  pub periodic : periodicStep p ≡ p
+  pub says : SaysMux p
+  -- a timer that its state does not use holds 0, and one that it uses is within its time
+  pub current : CurrentTimed p
+  pub pace : PaceTimed p
+  pub wait : WaitTimed p
