@@ -253,17 +253,17 @@ MUTANTS = [
     Mutant("2 one group", "own keys not compared", ("two-groups",), "trunk::select::same_group", (
         ("trunk/specs/Selection.antt", "sameKeys c d = eqb (c .key) (d .key) &&", "sameKeys c d = eqb (c .key) (c .key) &&"),
         ("trunk/src/select.rt", "(p.own.key == q.own.key)", "(p.own.key == p.own.key)"))),
-    Mutant("3 locality", "SLOW_PERIODIC that never rests, so that each call moves every port's pace", ("locality-heard", "locality-fallen"),
+    Mutant("3 locality", "SLOW_PERIODIC that never rests, so that each call moves every port's pace", ("locality-received", "locality-fallen"),
            "machine::periodic::next", (
         ("machine/specs/Periodic.antt", "periodicNext SlowPeriodic false false false = Stay", "periodicNext SlowPeriodic false false false = Enter NoPeriodic"),
         ("machine/src/periodic.rt", "            PeriodicStep::Stay\n        }\n        Periodic::PeriodicTx",
          "            PeriodicStep::Enter(Periodic::NoPeriodic)\n        }\n        Periodic::PeriodicTx"),
         ("machine/proofs/periodic/next/Proof.antt", "returns-9 c = search needs",
          "returns-9 c = simp (c .if5 .left, c .before .if4 .left, c .before .before .enum-told3 .given .1, c .before .before .before .before .if1 .left)"))),
-    Mutant("3 locality", "a port displaced though its partner has not moved", ("locality-heard",), "", (
+    Mutant("3 locality", "a port displaced though its partner has not moved", ("locality-received",), "", (
         ("trunk/specs/Displaced.antt", "displacedIf r a i p = cond (not (eqb i r) && isDisplaced a p) (moved p) p",
          "displacedIf r a i p = cond (not (eqb i r) && not (isDisplaced a p)) (moved p) p"),)),
-    Mutant("3 locality", "every call ages every port", ("locality-heard", "locality-fallen"), "", (
+    Mutant("3 locality", "every call ages every port", ("locality-received", "locality-fallen"), "", (
         ("work/specs/Work.antt", "worked h ps = settled h (map periodicRun ps)",
          "worked h ps = settled h (map (λ (p : Port). periodicRun (Rattle.port.specs.Transmit.ticked p)) ps)"),)),
     Mutant("3 a group's own timers", "a Ready that another group's timer holds back", ("distributing",), "trunk::ready::holds_back", (
@@ -357,8 +357,8 @@ MUTANTS = [
         ("port/specs/Receive.antt", "down l = record { up = false; full = l .full }", "down l = record { up = l .up; full = l .full }"),
         ("port/src/receive.rt", "        self.line.up = false;", "        let old = self.line;\n        self.line.up = old.up;"))),
     Mutant("case 123, 124, 125", "124 octets refused", ("octets-124",), "frame::class::is_illegal", (
-        ("frame/specs/Class.antt", "short l = ltb (length l) 124", "short l = ltb (length l) 125"),
-        ("frame/src/class.rt", "    if s.len() < 124 {", "    if s.len() < 125 {"))),
+        ("frame/specs/Class.antt", "short l = ltb (length l) frameSize", "short l = ltb (length l) 125"),
+        ("frame/src/class.rt", "    if s.len() < FRAME {", "    if s.len() < 125 {"))),
     Mutant("case subtypes", "subtype 10 illegal", ("subtype-10",), "frame::class::is_unknown", (
         ("frame/specs/Class.antt", "(leb 3 (octet l 14) && leb (octet l 14) 10)", "(leb 3 (octet l 14) && leb (octet l 14) 9)"),
         ("frame/specs/Class.antt", "oddSubtype l = eqb (octet l 14) 0 || leb 11 (octet l 14)", "oddSubtype l = eqb (octet l 14) 0 || leb 10 (octet l 14)"),

@@ -102,7 +102,7 @@ fn settle(p: Port) -> Port {
 }
 
 fn climb(p: Port) -> Port {
-    p.attach(p.timers.wait.0 == 0).mux().quiet()
+    p.attach(p.timers.wait.0 == 0).mux().clear_ntt()
 }
 
 fn ticks(p: Port, n: u32) -> Port {

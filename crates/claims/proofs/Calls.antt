@@ -10,7 +10,7 @@ use Rattle.octets.specs.Octets.{Octets, within}
 use Rattle.octets.proofs.RangeLaws.{both, within-true}
 use Rattle.frame.specs.declared.class.Class.{Class}
 use Rattle.frame.specs.declared.class.Class.the-variants as class
-use Rattle.frame.specs.Class.{classOf}
+use Rattle.frame.specs.Class.{classOf, frameSize}
 use Rattle.machine.specs.declared.states.Line.{Line}
 use Rattle.machine.specs.declared.states.Mux.{Mux}
 use Rattle.machine.specs.Mux.{collects, distributes}
@@ -23,7 +23,7 @@ use Rattle.settings.specs.declared.Settings.{Settings}
 use Rattle.settings.specs.Settings.{lawful}
 use Rattle.table.specs.Layout.{mostPorts, tableSize}
 use Rattle.table.proofs.FillLaws.{room-is}
-use Rattle.table.specs.Table.{isRoom, tableInRange, portAt, on}
+use Rattle.table.specs.Table.{isRoom, tableInRange, portAt, onOctets}
 use Rattle.control.specs.declared.answer.Answer.{Answer}
 use Rattle.control.specs.declared.answer.Answer.the-variants.{Done, Lacpdu, Marker, Refused}
 use Rattle.control.specs.declared.answer.Reason.{Reason}
@@ -33,19 +33,19 @@ use Rattle.control.specs.Call.{Call, start, receive, tick, line, configure, fet
 use Rattle.control.specs.After.{answer, afterFrame, changedBy, unless, after, effect}
 use Rattle.control.specs.Accepted.{accepted}
 use Rattle.claims.specs.Run.{Takes, AllTake, run, Made}
-use Rattle.control.proofs.CallLaws.{if-accepted, named, heard-on, after-accepted, refused-table, refused-buffer}
+use Rattle.control.proofs.CallLaws.{if-accepted, named, received-on, after-accepted, refused-table, refused-buffer}
 use Rattle.claims.specs.AtRest.{Sound}
 use Rattle.claims.specs.Claims.{isStart, NeverStuck, NoAnswerOne, RefusalsSilent}
-use Rattle.claims.proofs.Sound.{unmoved, send-sound, line-sound, settings-sound, heard-sound, tick-sound, start-sound}
+use Rattle.claims.proofs.Sound.{unmoved, send-sound, line-sound, settings-sound, received-sound, tick-sound, start-sound}
 
 -- ---- each call keeps a table sound
 
 frame-sound : (t : List ℕ) (s : Sound t) (n : ℕ) (frame out : List ℕ) → Octets frame → (a : Answer) → answer (receive n frame out) t ≡ a
-    → Sound (on (afterFrame a (n - 1) frame) t)
+    → Sound (onOctets (afterFrame a (n - 1) frame) t)
 frame-sound t s n frame out o Done e = unmoved Sound t s s
 frame-sound t s n frame out o Lacpdu e =
-    let h = heard-on t n frame out e in
-    heard-sound t s (n - 1) (h .below) frame o (h .up) (h .full)
+    let h = received-on t n frame out e in
+    received-sound t s (n - 1) (h .below) frame o (h .up) (h .full)
 frame-sound t s n frame out o Marker e = unmoved Sound t s s
 frame-sound t s n frame out o (Refused r) e = unmoved Sound t s s
 
@@ -183,13 +183,13 @@ not-one t r (receive n frame out) s =
     let l = portAt t (n - 1) .line in
     let m = portAt t (n - 1) .phase .mux in
     let a = frameAnswer (classOf frame) l m in
-    port-not-one t r n (withRoom out a) (neither (ltb (length out) 124) (Refused reason.Buffer) a refl (frame-not-one (classOf frame) l m))
+    port-not-one t r n (withRoom out a) (neither (ltb (length out) frameSize) (Refused reason.Buffer) a refl (frame-not-one (classOf frame) l m))
 not-one t r tick s = ap (λ (b : Bool). answersOne (cond b Done (Refused reason.Table))) r
 not-one t r (line n l) s = port-not-one t r n Done refl
 not-one t r (configure n x) s = port-not-one t r n (withDefault x Done) (neither (lawful x) Done (Refused reason.Default) refl refl)
 not-one t r (fetch n out) s =
     let a = dueAnswer (dueOf (portAt t (n - 1))) in
-    port-not-one t r n (withRoom out a) (neither (ltb (length out) 124) (Refused reason.Buffer) a refl (due-not-one (dueOf (portAt t (n - 1)))))
+    port-not-one t r n (withRoom out a) (neither (ltb (length out) frameSize) (Refused reason.Buffer) a refl (due-not-one (dueOf (portAt t (n - 1)))))
 not-one t r (report n) s = port-not-one t r n Done refl
 not-one t r (aggregator n) s = port-not-one t r n Done refl
 

@@ -23,12 +23,12 @@ use Rattle.settings.specs.declared.Settings.{Settings}
 use Rattle.settings.specs.Settings.{configured, sameSettings, started}
 use Rattle.table.specs.declared.layout.Header.{Header}
 use Rattle.table.specs.Layout.{headerOf, mostPorts, tableSize}
-use Rattle.table.specs.Table.{countIn, portAt, ports, isRoom, ours, again, on, stateOf}
+use Rattle.table.specs.Table.{countIn, portAt, ports, isRoom, ours, again, onOctets, stateOf}
 use Rattle.table.proofs.TableLaws.{in-range}
 use Rattle.table.proofs.MadeLaws.{made-count}
 use Rattle.trunk.specs.Displaced.{displaced}
 use Rattle.trunk.specs.Settled.{settled}
-use Rattle.work.specs.Work.{worked, afterOne, afterStart, heardAt, afterHeard, afterTick, afterLine, afterSettings, afterSend}
+use Rattle.work.specs.Work.{worked, afterOne, afterStart, receivedAt, afterReceived, afterTick, afterLine, afterSettings, afterSend}
 use Rattle.control.specs.declared.answer.Answer.{Answer}
 use Rattle.control.specs.declared.answer.Answer.the-variants.{Done, Lacpdu, Marker, Refused}
 use Rattle.control.specs.declared.answer.Reason.the-variants as reason
@@ -74,18 +74,18 @@ same-count a b e = omega arith
 
 -- ---- each call
 
-frame-count : (t : List ℕ) (i : ℕ) (frame : List ℕ) (a : Answer) → countIn (on (afterFrame a i frame) t) ≡ countIn t
+frame-count : (t : List ℕ) (i : ℕ) (frame : List ℕ) (a : Answer) → countIn (onOctets (afterFrame a i frame) t) ≡ countIn t
 frame-count t i frame Done = again-count t (ports t)
 frame-count t i frame Lacpdu =
-    unfold afterHeard in again-count t (worked (ours t) (displaced i (blockOf (actorPart frame)) (set (ports t) i (heardAt i frame (stateOf t)))))
+    unfold afterReceived in again-count t (worked (ours t) (displaced i (blockOf (actorPart frame)) (set (ports t) i (receivedAt i frame (stateOf t)))))
 frame-count t i frame Marker = again-count t (ports t)
 frame-count t i frame (Refused r) = again-count t (ports t)
 
-line-count : (t : List ℕ) (i : ℕ) (l : Line) → countIn (on (afterLine i l) t) ≡ countIn t
+line-count : (t : List ℕ) (i : ℕ) (l : Line) → countIn (onOctets (afterLine i l) t) ≡ countIn t
 unfolding afterLine afterOne
 line-count t i l = unless-count (sameLine l (portAt t i .line)) t (worked (ours t) (set (ports t) i (lined l (portAt t i))))
 
-settings-count : (t : List ℕ) (i : ℕ) (x : Settings) → countIn (on (afterSettings i x) t) ≡ countIn t
+settings-count : (t : List ℕ) (i : ℕ) (x : Settings) → countIn (onOctets (afterSettings i x) t) ≡ countIn t
 unfolding afterSettings afterOne
 settings-count t i x = unless-count (sameSettings x (portAt t i)) t (worked (ours t) (set (ports t) i (configured x (portAt t i))))
 

@@ -22,16 +22,16 @@ use Rattle.port.specs.declared.transmit.Due.{Due}
 use Rattle.port.specs.declared.transmit.Due.the-variants.{Nothing}
 use Rattle.port.specs.Record.{withLine, withNtt, withActor, withOwn, actorBlock}
 use Rattle.port.specs.Receive.{recordDefault, unselected, initialized, portDisabled, current, receiveRun, moved, received, down, lined}
-use Rattle.port.specs.Transmit.{due, sent, silent, quieted, ticked, advanced}
-use Rattle.port.proofs.RestKept.{heard-line, run-line}
+use Rattle.port.specs.Transmit.{due, sent, silent, nttCleared, ticked, advanced}
+use Rattle.port.proofs.RestKept.{pdu-line, run-line}
 use Rattle.port.specs.Range.{ownFits}
 use Rattle.settings.specs.declared.Settings.{Settings}
 use Rattle.settings.specs.Settings.{ownOf, ownBits, sameGrouping, sameSettings, regrouped, configured}
 use Rattle.table.specs.Record.{decoded}
-use Rattle.table.specs.Table.{countIn, portAt, ports, ours, again, on, stateOf, octetsOf}
+use Rattle.table.specs.Table.{countIn, portAt, ports, ours, again, onOctets, stateOf, octetsOf}
 use Rattle.table.proofs.StoreLaws.{ports-length, ports-at}
 use Rattle.trunk.specs.Displaced.{isDisplaced, displacedIf, displaced}
-use Rattle.work.specs.Work.{worked, afterOne, heardAt, afterHeard, afterTick, afterLine, afterSettings, afterSend}
+use Rattle.work.specs.Work.{worked, afterOne, receivedAt, afterReceived, afterTick, afterLine, afterSettings, afterSend}
 use Rattle.control.specs.declared.answer.Answer.{Answer}
 use Rattle.control.specs.declared.answer.Answer.the-variants.{Done, Lacpdu, Marker, Refused}
 use Rattle.control.specs.declared.answer.Reason.the-variants as reason
@@ -41,10 +41,10 @@ use Rattle.control.specs.After.{answer, afterFrame, changedBy, unless, after, e
 use Rattle.control.specs.Accepted.{accepted}
 use Rattle.table.proofs.TableLaws.{octets-back}
 use Rattle.claims.specs.Run.{Takes, AllTake, run}
-use Rattle.control.proofs.CallLaws.{named, numbered, heard-on, after-accepted, in-table}
+use Rattle.control.proofs.CallLaws.{named, numbered, received-on, after-accepted, in-table}
 use Rattle.claims.specs.AtRest.{Sound}
 use Rattle.claims.specs.LineCall.{LineTaken, LineRepeated, Silent, HalfSilent, relines, NoneRelines, StaysSilent}
-use Rattle.claims.proofs.Sound.{Before, in-ports, tick-before, line-before, settings-before, heard-before, send-ports, keptIf, sound-back}
+use Rattle.claims.proofs.Sound.{Before, in-ports, tick-before, line-before, settings-before, received-before, send-ports, keptIf, sound-back}
 use Rattle.claims.proofs.Calls.{call-sound, run-sound, never-stuck}
 use Rattle.claims.proofs.Rule.{port-firm}
 use Rattle.claims.proofs.Counts.{call-count, run-count}
@@ -73,8 +73,8 @@ half-off : (p : Port) → p .line .full ≡ false → silent p ≡ true
 unfolding silent
 half-off p f = rw f
 
-half-clear : (p : Port) → p .line .full ≡ false → quieted p ≡ p → p .ntt ≡ false
-unfolding quieted
+half-clear : (p : Port) → p .line .full ≡ false → nttCleared p ≡ p → p .ntt ≡ false
+unfolding nttCleared
 half-clear p f e = ap (λ (q : Port). q .ntt) (sym e) ∙ ap (λ (b : Bool). cond b (withNtt p false) p .ntt) (half-off p f)
 
 nothing-due : (p : Port) → p .ntt ≡ false → due p ≡ Nothing
@@ -123,10 +123,10 @@ sent-line : (p : Port) → sent p .line ≡ p .line
 unfolding sent
 sent-line p = refl
 
-heard-at-line : (t : List ℕ) (i : ℕ) (frame : List ℕ) → heardAt i frame (stateOf t) .line ≡ portAt t i .line
-unfolding heardAt received current
-heard-at-line t i frame =
-    heard-line (actorBlock (ours t .system) (i + 1) (portAt t i)) (blockOf (actorPart frame)) (blockOf (partnerPart frame)) (portAt t i)
+received-at-line : (t : List ℕ) (i : ℕ) (frame : List ℕ) → receivedAt i frame (stateOf t) .line ≡ portAt t i .line
+unfolding receivedAt received current
+received-at-line t i frame =
+    pdu-line (actorBlock (ours t .system) (i + 1) (portAt t i)) (blockOf (actorPart frame)) (blockOf (partnerPart frame)) (portAt t i)
 
 moved-line : (b : Bool) (p : Port) → cond b (moved p) p .line ≡ p .line
 unfolding moved portDisabled initialized recordDefault
@@ -155,7 +155,7 @@ module _ (t : List ℕ) (s : Sound t) (i : ℕ) (h : i < countIn t) where
       set-view (λ p. p .line) t s i h m q (portAt t i .line) (λ is. f is ∙ ap (λ (k : ℕ). portAt t k .line) (sym (eqb-true i m is))) (λ other. refl)
 
   -- the call itself
-  given : (l : Line) → portAt (on (afterLine i l) t) i .line ≡ l
+  given : (l : Line) → portAt (onOctets (afterLine i l) t) i .line ≡ l
   unfolding afterLine afterOne
   given l = by (sameLine l (portAt t i .line)) refl
     where
@@ -168,7 +168,7 @@ module _ (t : List ℕ) (s : Sound t) (i : ℕ) (h : i < countIn t) where
           work-line (set (ports t) i q) (line-before t s i h l)
           ∙ set-view (λ p. p .line) t s i h i q l (λ is. lined-line l (portAt t i)) (λ other. absurd (true≢false (sym (eq-eqb i i refl) ∙ other)))
 
-  other-line : (m : ℕ) → m < countIn t → (l : Line) → eqb i m ≡ false → portAt (on (afterLine m l) t) i .line ≡ portAt t i .line
+  other-line : (m : ℕ) → m < countIn t → (l : Line) → eqb i m ≡ false → portAt (onOctets (afterLine m l) t) i .line ≡ portAt t i .line
   unfolding afterLine afterOne
   other-line m g l f = by (sameLine l (portAt t m .line))
     where
@@ -179,7 +179,7 @@ module _ (t : List ℕ) (s : Sound t) (i : ℕ) (h : i < countIn t) where
       by true = same-line
       by false = work-line (set (ports t) m q) (line-before t s m g l) ∙ set-line m q (λ e. absurd (true≢false (sym e ∙ f)))
 
-  settings-line : (m : ℕ) → m < countIn t → (x : Settings) → ownFits (ownOf x) ≡ true → portAt (on (afterSettings m x) t) i .line ≡ portAt t i .line
+  settings-line : (m : ℕ) → m < countIn t → (x : Settings) → ownFits (ownOf x) ≡ true → portAt (onOctets (afterSettings m x) t) i .line ≡ portAt t i .line
   unfolding afterSettings afterOne
   settings-line m g x o = by (sameSettings x (portAt t m))
     where
@@ -190,13 +190,13 @@ module _ (t : List ℕ) (s : Sound t) (i : ℕ) (h : i < countIn t) where
       by true = same-line
       by false = work-line (set (ports t) m q) (settings-before t s m g x o) ∙ set-line m q (λ e. configured-line x (portAt t m))
 
-  send-line : (m : ℕ) → m < countIn t → portAt (on (afterSend m) t) i .line ≡ portAt t i .line
+  send-line : (m : ℕ) → m < countIn t → portAt (onOctets (afterSend m) t) i .line ≡ portAt t i .line
   unfolding afterSend
   send-line m g =
       let q = sent (portAt t m) in
       ap (λ (p : Port). p .line) (again-at t (set (ports t) m q) (send-ports t s m g) i (decoded []) h) ∙ set-line m q (λ e. sent-line (portAt t m))
 
-  tick-line : portAt (on afterTick t) i .line ≡ portAt t i .line
+  tick-line : portAt (onOctets afterTick t) i .line ≡ portAt t i .line
   unfolding afterTick
   tick-line =
       work-line (map advanced (ports t)) (tick-before t s)
@@ -204,15 +204,15 @@ module _ (t : List ℕ) (s : Sound t) (i : ℕ) (h : i < countIn t) where
       ∙ advanced-line (getD (ports t) i (decoded [])) ∙ ap (λ (p : Port). p .line) (ports-at t i (decoded []) h)
 
   frame-line : (n : ℕ) (frame out : List ℕ) → Octets frame → (a : Answer) → answer (receive n frame out) t ≡ a
-      → portAt (on (afterFrame a (n - 1) frame) t) i .line ≡ portAt t i .line
+      → portAt (onOctets (afterFrame a (n - 1) frame) t) i .line ≡ portAt t i .line
   frame-line n frame out o Done e = same-line
-  frame-line n frame out o Lacpdu e = unfold afterHeard in
-      let x = heard-on t n frame out e in
+  frame-line n frame out o Lacpdu e = unfold afterReceived in
+      let x = received-on t n frame out e in
       let a = blockOf (actorPart frame) in
-      let q = heardAt (n - 1) frame (stateOf t) in
+      let q = receivedAt (n - 1) frame (stateOf t) in
       let here : i < length (set (ports t) (n - 1) q) = rw (length-set (ports t) (n - 1) q, ports-length) h in
-      work-line (displaced (n - 1) a (set (ports t) (n - 1) q)) (heard-before t s (n - 1) (x .below) frame o (x .up) (x .full))
-      ∙ displaced-line (n - 1) a (set (ports t) (n - 1) q) i (decoded []) here ∙ set-line (n - 1) q (λ y. heard-at-line t (n - 1) frame)
+      work-line (displaced (n - 1) a (set (ports t) (n - 1) q)) (received-before t s (n - 1) (x .below) frame o (x .up) (x .full))
+      ∙ displaced-line (n - 1) a (set (ports t) (n - 1) q) i (decoded []) here ∙ set-line (n - 1) q (λ y. received-at-line t (n - 1) frame)
   frame-line n frame out o Marker e = same-line
   frame-line n frame out o (Refused r) e = same-line
 

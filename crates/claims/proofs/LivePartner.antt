@@ -25,7 +25,7 @@ use Rattle.machine.specs.States.{sameLine}
 use Rattle.machine.specs.Time.{ranOut}
 use Rattle.port.specs.declared.record.Port.{Port}
 use Rattle.port.specs.Record.{withLine, withNtt, withActor, withOwn}
-use Rattle.port.specs.Receive.{recordPdu, unselected, portDisabled, expired, heard, current, receiveChoice, receiveStep, receiveRun, received, down, lined}
+use Rattle.port.specs.Receive.{recordPdu, unselected, portDisabled, expired, pduRecorded, current, receiveChoice, receiveStep, receiveRun, received, down, lined}
 use Rattle.port.specs.Transmit.{sent, due, ticked, advanced}
 use Rattle.port.specs.Rest.{goesWith}
 use Rattle.port.proofs.RestParts.{Standing, receivePart, ReceiveRests}
@@ -34,10 +34,10 @@ use Rattle.port.specs.Range.{ownFits}
 use Rattle.settings.specs.declared.Settings.{Settings}
 use Rattle.settings.specs.Settings.{ownOf, ownBits, sameGrouping, sameSettings, regrouped, configured}
 use Rattle.table.specs.Record.{decoded}
-use Rattle.table.specs.Table.{countIn, portAt, ports, ours, again, on, stateOf, octetsOf}
+use Rattle.table.specs.Table.{countIn, portAt, ports, ours, again, onOctets, stateOf, octetsOf}
 use Rattle.table.proofs.StoreLaws.{ports-length, ports-at}
 use Rattle.trunk.specs.Displaced.{isDisplaced, displacedIf, displaced}
-use Rattle.work.specs.Work.{worked, afterOne, heardAt, afterHeard, afterTick, afterLine, afterSettings, afterSend}
+use Rattle.work.specs.Work.{worked, afterOne, receivedAt, afterReceived, afterTick, afterLine, afterSettings, afterSend}
 use Rattle.control.specs.declared.answer.Answer.{Answer}
 use Rattle.control.specs.declared.answer.Answer.the-variants.{Done, Lacpdu, Marker, Refused}
 use Rattle.control.specs.Answer.{withRoom, withDefault, dueAnswer}
@@ -45,10 +45,10 @@ use Rattle.control.specs.Call.{Call, start, receive, tick, line, configure, fet
 use Rattle.control.specs.After.{answer, afterFrame, changedBy, unless, after, effect}
 use Rattle.control.specs.Accepted.{isLacpdu, accepted}
 use Rattle.claims.specs.Run.{Takes, AllTake, run}
-use Rattle.control.proofs.CallLaws.{named, heard-on, after-accepted}
+use Rattle.control.proofs.CallLaws.{named, received-on, after-accepted}
 use Rattle.claims.specs.AtRest.{Sound}
 use Rattle.claims.specs.LivePartner.{lasting, Live, isExpired, toHalf, ends, NoneEnds, LivePartner}
-use Rattle.claims.proofs.Sound.{Before, in-ports, port-standing, tick-before, line-before, settings-before, heard-before, send-ports, keptIf, unmoved}
+use Rattle.claims.proofs.Sound.{Before, in-ports, port-standing, tick-before, line-before, settings-before, received-before, send-ports, keptIf, unmoved}
 use Rattle.claims.proofs.Calls.{call-sound, never-stuck}
 use Rattle.claims.proofs.Counts.{again-count}
 use Rattle.claims.proofs.Locality.{again-at, displaced-kept}
@@ -255,9 +255,9 @@ sent-lasting : (p : Port) → lastingOf (sent p) ≡ lastingOf p
 unfolding sent
 sent-lasting p = refl
 
-heard-live : (t : List ℕ) (i : ℕ) (frame : List ℕ) → Live frame (heardAt i frame (stateOf t))
-unfolding heardAt received current heard recordPdu
-heard-live t i frame = record { partner = refl; defaulted = refl }
+received-live : (t : List ℕ) (i : ℕ) (frame : List ℕ) → Live frame (receivedAt i frame (stateOf t))
+unfolding receivedAt received current pduRecorded recordPdu
+received-live t i frame = record { partner = refl; defaulted = refl }
 
 -- ---- each call, from t to u
 
@@ -288,7 +288,7 @@ module _ (t : List ℕ) (s : Sound t) (i : ℕ) (h : i < countIn t) where
   at-same : (m : ℕ) → eqb i m ≡ true → portAt t m ≡ portAt t i
   at-same m e = ap (portAt t) (sym (eqb-true i m e))
 
-  line-goes : (m : ℕ) → m < countIn t → (l : Line) → (eqb i m ≡ true → toHalf (portAt t m .line) l ≡ false) → Goes t (on (afterLine m l) t) i
+  line-goes : (m : ℕ) → m < countIn t → (l : Line) → (eqb i m ≡ true → toHalf (portAt t m .line) l ≡ false) → Goes t (onOctets (afterLine m l) t) i
   unfolding afterLine afterOne
   line-goes m g l f = by (sameLine l (portAt t m .line)) f
     where
@@ -300,7 +300,7 @@ module _ (t : List ℕ) (s : Sound t) (i : ℕ) (h : i < countIn t) where
           (set-lasting m (lined l (portAt t m)) (λ e.
           lined-lasting (portAt t m) (port-standing t s m g) l (k e) ∙ ap (λ (x : Port). lastingOf x) (at-same m e)))
 
-  settings-goes : (m : ℕ) → m < countIn t → (x : Settings) → ownFits (ownOf x) ≡ true → Goes t (on (afterSettings m x) t) i
+  settings-goes : (m : ℕ) → m < countIn t → (x : Settings) → ownFits (ownOf x) ≡ true → Goes t (onOctets (afterSettings m x) t) i
   unfolding afterSettings afterOne
   settings-goes m g x o = by (sameSettings x (portAt t m))
     where
@@ -310,7 +310,7 @@ module _ (t : List ℕ) (s : Sound t) (i : ℕ) (h : i < countIn t) where
           work-goes (set (ports t) m (configured x (portAt t m))) (settings-before t s m g x o)
           (set-lasting m (configured x (portAt t m)) (λ e. configured-lasting x (portAt t m) ∙ ap (λ (y : Port). lastingOf y) (at-same m e)))
 
-  send-goes : (m : ℕ) → m < countIn t → Goes t (on (afterSend m) t) i
+  send-goes : (m : ℕ) → m < countIn t → Goes t (onOctets (afterSend m) t) i
   unfolding afterSend
   send-goes m g = record {
     count = again-count t (set (ports t) m (sent (portAt t m)));
@@ -319,7 +319,7 @@ module _ (t : List ℕ) (s : Sound t) (i : ℕ) (h : i < countIn t) where
         ∙ set-lasting m (sent (portAt t m)) (λ e. sent-lasting (portAt t m) ∙ ap (λ (y : Port). lastingOf y) (at-same m e));
   }
 
-  tick-goes : isExpired (portAt t i .phase .receive) && eqb (portAt t i .timers .current .0) 1 ≡ false → Goes t (on afterTick t) i
+  tick-goes : isExpired (portAt t i .phase .receive) && eqb (portAt t i .timers .current .0) 1 ≡ false → Goes t (onOctets afterTick t) i
   unfolding afterTick
   tick-goes e =
       work-goes (map advanced (ports t)) (tick-before t s)
@@ -328,13 +328,13 @@ module _ (t : List ℕ) (s : Sound t) (i : ℕ) (h : i < countIn t) where
       ∙ advanced-lasting (portAt t i) (port-standing t s i h .receive) e)
 
   frame-goes : (n : ℕ) (frame out : List ℕ) → Octets frame → (a : Answer) → answer (receive n frame out) t ≡ a
-      → isLacpdu a && (eqb i (n - 1) || isDisplaced (blockOf (actorPart frame)) (portAt t i)) ≡ false → Goes t (on (afterFrame a (n - 1) frame) t) i
+      → isLacpdu a && (eqb i (n - 1) || isDisplaced (blockOf (actorPart frame)) (portAt t i)) ≡ false → Goes t (onOctets (afterFrame a (n - 1) frame) t) i
   frame-goes n frame out o Done e f = same-goes
-  frame-goes n frame out o Lacpdu e f = unfold afterHeard in
-      let x = heard-on t n frame out e in
+  frame-goes n frame out o Lacpdu e f = unfold afterReceived in
+      let x = received-on t n frame out e in
       let a = blockOf (actorPart frame) in
-      work-goes (displaced (n - 1) a (set (ports t) (n - 1) (heardAt (n - 1) frame (stateOf t)))) (heard-before t s (n - 1) (x .below) frame o (x .up) (x .full))
-      (ap (λ (y : Port). lastingOf y) (displaced-kept t s i h (n - 1) (heardAt (n - 1) frame (stateOf t)) a i h f))
+      work-goes (displaced (n - 1) a (set (ports t) (n - 1) (receivedAt (n - 1) frame (stateOf t)))) (received-before t s (n - 1) (x .below) frame o (x .up) (x .full))
+      (ap (λ (y : Port). lastingOf y) (displaced-kept t s i h (n - 1) (receivedAt (n - 1) frame (stateOf t)) a i h f))
   frame-goes n frame out o Marker e f = same-goes
   frame-goes n frame out o (Refused r) e f = same-goes
 
@@ -379,11 +379,11 @@ run-live frame i t (c ∷ cs) s h l k f =
 
 -- the frame itself, on the port that hears it
 module _ (t : List ℕ) (s : Sound t) (i : ℕ) (h : i < countIn t) (frame : List ℕ) where
-  own-kept : getD (displaced i (blockOf (actorPart frame)) (set (ports t) i (heardAt i frame (stateOf t)))) i (decoded []) ≡ heardAt i frame (stateOf t)
+  own-kept : getD (displaced i (blockOf (actorPart frame)) (set (ports t) i (receivedAt i frame (stateOf t)))) i (decoded []) ≡ receivedAt i frame (stateOf t)
   unfolding displaced displacedIf
   own-kept =
       let a = blockOf (actorPart frame) in
-      let q = heardAt i frame (stateOf t) in
+      let q = receivedAt i frame (stateOf t) in
       let here : i < length (set (ports t) i q) = rw (length-set (ports t) i q, ports-length) h in
       let z : 0 + i ≡ i = omega arith in
       sweep-at (displacedIf i a) 0 (set (ports t) i q) i (decoded []) here
@@ -391,29 +391,29 @@ module _ (t : List ℕ) (s : Sound t) (i : ℕ) (h : i < countIn t) (frame : Lis
       ∙ ap (λ (p : Port). displacedIf i a i p) (getD-set-same (ports t) i q (decoded []) (in-ports t s i h))
       ∙ rw (eq-eqb i i refl)
 
-  begins : Octets frame → portAt t i .line .up ≡ true → portAt t i .line .full ≡ true → Live frame (portAt (on (afterHeard i frame) t) i)
-  unfolding afterHeard
+  begins : Octets frame → portAt t i .line .up ≡ true → portAt t i .line .full ≡ true → Live frame (portAt (onOctets (afterReceived i frame) t) i)
+  unfolding afterReceived
   begins o u f =
-      let ps = displaced i (blockOf (actorPart frame)) (set (ports t) i (heardAt i frame (stateOf t))) in
-      live-is frame (heardAt i frame (stateOf t)) (portAt (again t (worked (ours t) ps)) i)
-      (work-lasting t s i h ps (heard-before t s i h frame o u f) ∙ ap (λ (x : Port). lastingOf x) own-kept) (heard-live t i frame)
+      let ps = displaced i (blockOf (actorPart frame)) (set (ports t) i (receivedAt i frame (stateOf t))) in
+      live-is frame (receivedAt i frame (stateOf t)) (portAt (again t (worked (ours t) ps)) i)
+      (work-lasting t s i h ps (received-before t s i h frame o u f) ∙ ap (λ (x : Port). lastingOf x) own-kept) (received-live t i frame)
 
-  heard-count : countIn (on (afterHeard i frame) t) ≡ countIn t
-  unfolding afterHeard
-  heard-count = again-count t (worked (ours t) (displaced i (blockOf (actorPart frame)) (set (ports t) i (heardAt i frame (stateOf t)))))
+  received-count : countIn (onOctets (afterReceived i frame) t) ≡ countIn t
+  unfolding afterReceived
+  received-count = again-count t (worked (ours t) (displaced i (blockOf (actorPart frame)) (set (ports t) i (receivedAt i frame (stateOf t)))))
 
 -- what an accepted LACPDU leaves
-after-heard : (t : List ℕ) (n : ℕ) (frame out : List ℕ) → answer (receive n frame out) t ≡ Lacpdu → after (receive n frame out) t ≡ on (afterHeard (n - 1) frame) t
+after-received : (t : List ℕ) (n : ℕ) (frame out : List ℕ) → answer (receive n frame out) t ≡ Lacpdu → after (receive n frame out) t ≡ onOctets (afterReceived (n - 1) frame) t
 unfolding effect
-after-heard t n frame out e =
-    after-accepted t (receive n frame out) (ap accepted e) ∙ ap (λ (a : Answer). on (afterFrame a (n - 1) frame) t) e
+after-received t n frame out e =
+    after-accepted t (receive n frame out) (ap accepted e) ∙ ap (λ (a : Answer). onOctets (afterFrame a (n - 1) frame) t) e
 
 pub live-partner : LivePartner
 live-partner t m n frame out k e cs takes none =
     let s = never-stuck t m in
-    let x = heard-on t n frame out e in
+    let x = received-on t n frame out e in
     let u = after (receive n frame out) t in
-    let is : u ≡ on (afterHeard (n - 1) frame) t = after-heard t n frame out e in
-    let count : countIn u ≡ countIn t = ap (λ (l : List ℕ). countIn l) is ∙ heard-count t s (n - 1) (x .below) frame in
+    let is : u ≡ onOctets (afterReceived (n - 1) frame) t = after-received t n frame out e in
+    let count : countIn u ≡ countIn t = ap (λ (l : List ℕ). countIn l) is ∙ received-count t s (n - 1) (x .below) frame in
     let first : Live frame (portAt u (n - 1)) = rw is (begins t s (n - 1) (x .below) frame (k .0) (x .up) (x .full)) in
     run-live frame (n - 1) u cs (call-sound t s (receive n frame out) k) (rw count (x .below)) first takes none

@@ -26,14 +26,14 @@ use Rattle.port.proofs.PeriodicLaws.{periodic-idle}
 use Rattle.settings.specs.declared.Settings.{Settings}
 use Rattle.settings.specs.Settings.{configured, sameSettings, ownOf}
 use Rattle.table.specs.Record.{decoded}
-use Rattle.table.specs.Table.{countIn, portAt, ports, ours, again, on, stateOf, octetsOf}
+use Rattle.table.specs.Table.{countIn, portAt, ports, ours, again, onOctets, stateOf, octetsOf}
 use Rattle.table.proofs.StoreLaws.{ports-length, ports-at}
 use Rattle.trunk.specs.Selection.{sharesGroup}
 use Rattle.trunk.specs.Displaced.{isDisplaced, displacedIf, displaced}
 use Rattle.trunk.proofs.GroupLaws.{shares-refl}
 use Rattle.trunk.proofs.SettledLaws.{settled-compares}
 use Rattle.trunk.proofs.DependLaws.{settled-reach}
-use Rattle.work.specs.Work.{worked, afterOne, heardAt, afterHeard, afterLine, afterSettings, afterSend}
+use Rattle.work.specs.Work.{worked, afterOne, receivedAt, afterReceived, afterLine, afterSettings, afterSend}
 use Rattle.control.specs.declared.answer.Answer.{Answer}
 use Rattle.control.specs.declared.answer.Answer.the-variants.{Done, Lacpdu, Marker, Refused}
 use Rattle.control.specs.Answer.{withRoom, withDefault, dueAnswer}
@@ -41,10 +41,10 @@ use Rattle.control.specs.Call.{Call, start, receive, tick, line, configure, fet
 use Rattle.control.specs.After.{answer, afterFrame, changedBy, unless, after, effect}
 use Rattle.control.specs.Accepted.{accepted, isLacpdu}
 use Rattle.claims.specs.Run.{Takes}
-use Rattle.control.proofs.CallLaws.{named, heard-on, after-accepted}
+use Rattle.control.proofs.CallLaws.{named, received-on, after-accepted}
 use Rattle.claims.specs.AtRest.{Sound}
 use Rattle.claims.specs.Locality.{touches, Apart, Locality}
-use Rattle.claims.proofs.Sound.{Before, in-ports, port-resting, work-ports, line-before, settings-before, heard-before, send-ports, keptIf, sound-back}
+use Rattle.claims.proofs.Sound.{Before, in-ports, port-resting, work-ports, line-before, settings-before, received-before, send-ports, keptIf, sound-back}
 use Rattle.claims.proofs.Calls.{never-stuck}
 use Rattle.claims.proofs.Counts.{again-count}
 
@@ -133,8 +133,8 @@ module _ (t : List ℕ) (s : Sound t) (j : ℕ) (h : j < countIn t) where
       work-local t s (set (ports t) i q) b (λ k. eqb k i) (λ k g e. set-kept t i q k g e) j h
       (λ k g e. f k g e .before) (λ k g e. f k g e .then)
 
-  line-local : (i : ℕ) → i < countIn t → (l : Line) → ((k : ℕ) → k < countIn t → eqb k i ≡ true → ApartIn t (on (afterLine i l) t) j k)
-      → portAt (on (afterLine i l) t) j ≡ portAt t j
+  line-local : (i : ℕ) → i < countIn t → (l : Line) → ((k : ℕ) → k < countIn t → eqb k i ≡ true → ApartIn t (onOctets (afterLine i l) t) j k)
+      → portAt (onOctets (afterLine i l) t) j ≡ portAt t j
   unfolding afterLine afterOne
   line-local i g l f = by (sameLine l (portAt t i .line)) f
     where
@@ -146,7 +146,7 @@ module _ (t : List ℕ) (s : Sound t) (j : ℕ) (h : j < countIn t) where
       by false f = one-local i (lined l (portAt t i)) (line-before t s i g l) f
 
   settings-local : (i : ℕ) → i < countIn t → (x : Settings) → ownFits (ownOf x) ≡ true
-      → ((k : ℕ) → k < countIn t → eqb k i ≡ true → ApartIn t (on (afterSettings i x) t) j k) → portAt (on (afterSettings i x) t) j ≡ portAt t j
+      → ((k : ℕ) → k < countIn t → eqb k i ≡ true → ApartIn t (onOctets (afterSettings i x) t) j k) → portAt (onOctets (afterSettings i x) t) j ≡ portAt t j
   unfolding afterSettings afterOne
   settings-local i g x o f = by (sameSettings x (portAt t i)) f
     where
@@ -157,12 +157,12 @@ module _ (t : List ℕ) (s : Sound t) (j : ℕ) (h : j < countIn t) where
       by true f = same-port
       by false f = one-local i (configured x (portAt t i)) (settings-before t s i g x o) f
 
-  send-local : (i : ℕ) → i < countIn t → ((k : ℕ) → k < countIn t → eqb k i ≡ true → ApartIn t (on (afterSend i) t) j k)
-      → portAt (on (afterSend i) t) j ≡ portAt t j
+  send-local : (i : ℕ) → i < countIn t → ((k : ℕ) → k < countIn t → eqb k i ≡ true → ApartIn t (onOctets (afterSend i) t) j k)
+      → portAt (onOctets (afterSend i) t) j ≡ portAt t j
   send-local i g f = by (eqb j i) refl
     where
-      by : (b : Bool) → eqb j i ≡ b → portAt (on (afterSend i) t) j ≡ portAt t j
-      by true e = absurd (not-itself (on (afterSend i) t) (f j h e))
+      by : (b : Bool) → eqb j i ≡ b → portAt (onOctets (afterSend i) t) j ≡ portAt t j
+      by true e = absurd (not-itself (onOctets (afterSend i) t) (f j h e))
       by false e =
           unfold afterSend in
           again-at t (set (ports t) i (sent (portAt t i))) (send-ports t s i g) j (decoded []) h ∙ set-kept t i (sent (portAt t i)) j h e
@@ -191,14 +191,14 @@ module _ (t : List ℕ) (s : Sound t) (j : ℕ) (h : j < countIn t) where
 
   frame-local : (n : ℕ) (frame out : List ℕ) → Octets frame → (a : Answer) → answer (receive n frame out) t ≡ a
       → ((k : ℕ) → k < countIn t → eqb k (n - 1) || (isLacpdu a && isDisplaced (blockOf (actorPart frame)) (portAt t k)) ≡ true
-      → ApartIn t (on (afterFrame a (n - 1) frame) t) j k) → portAt (on (afterFrame a (n - 1) frame) t) j ≡ portAt t j
+      → ApartIn t (onOctets (afterFrame a (n - 1) frame) t) j k) → portAt (onOctets (afterFrame a (n - 1) frame) t) j ≡ portAt t j
   frame-local n frame out o Done e f = same-port
-  frame-local n frame out o Lacpdu e f = unfold afterHeard in
-      let x = heard-on t n frame out e in
+  frame-local n frame out o Lacpdu e f = unfold afterReceived in
+      let x = received-on t n frame out e in
       let a = blockOf (actorPart frame) in
       let i = n - 1 in
-      work-local t s (displaced i a (set (ports t) i (heardAt i frame (stateOf t)))) (heard-before t s i (x .below) frame o (x .up) (x .full))
-      (λ k. eqb k i || isDisplaced a (portAt t k)) (λ k g y. displaced-kept i (heardAt i frame (stateOf t)) a k g y) j h
+      work-local t s (displaced i a (set (ports t) i (receivedAt i frame (stateOf t)))) (received-before t s i (x .below) frame o (x .up) (x .full))
+      (λ k. eqb k i || isDisplaced a (portAt t k)) (λ k g y. displaced-kept i (receivedAt i frame (stateOf t)) a k g y) j h
       (λ k g y. f k g y .before) (λ k g y. f k g y .then)
   frame-local n frame out o Marker e f = same-port
   frame-local n frame out o (Refused r) e f = same-port

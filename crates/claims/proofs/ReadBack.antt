@@ -5,12 +5,13 @@ use mathlib.Core.Path.{_≡_, ap, _∙_}
 use mathlib.Core.List.{List}
 use native.Mathlib.Omega.{arith}
 use lib.ListN.{drop}
-use Rattle.frame.proofs.WireLaws.{actor-back, partner-back, lacpdu-heard}
+use Rattle.frame.specs.Class.{frameSize}
+use Rattle.frame.proofs.WireLaws.{actor-back, partner-back, lacpdu-passes}
 use Rattle.port.specs.Record.{actorBlock}
 use Rattle.port.specs.Transmit.{due}
 use Rattle.table.specs.Layout.{headerOf}
 use Rattle.table.specs.Table.{portAt, ours, stateOf}
-use Rattle.work.specs.Work.{lacpduOf, over}
+use Rattle.work.specs.Work.{lacpduOf, writtenOver}
 use Rattle.control.specs.declared.answer.Answer.{Answer}
 use Rattle.control.specs.declared.answer.Answer.the-variants.{Done}
 use Rattle.control.specs.Answer.{withRoom, dueAnswer}
@@ -25,21 +26,21 @@ module _ (t : List ℕ) (n : ℕ) (out : List ℕ) (e : answer (fetch n out) t �
   unfolding answer
   number = let some : 1 ≤ n = on-port t n (withRoom out (dueAnswer (due (portAt t (n - 1))))) (ap accepted e) .0 .some in omega arith
 
-  sent : outgoing (fetch n out) t ≡ over (lacpduOf (stateOf t) (n - 1)) out
+  sent : outgoing (fetch n out) t ≡ writtenOver (lacpduOf (stateOf t) (n - 1)) out
   unfolding outgoing writtenBy
-  sent = ap (λ (a : Answer). unless a out (over (lacpduOf (stateOf t) (n - 1)) out)) e
+  sent = ap (λ (a : Answer). unless a out (writtenOver (lacpduOf (stateOf t) (n - 1)) out)) e
 
-  reads : Reads t n (over (lacpduOf (stateOf t) (n - 1)) out)
+  reads : Reads t n (writtenOver (lacpduOf (stateOf t) (n - 1)) out)
   unfolding lacpduOf
   reads =
       let p = portAt t (n - 1) in
       let us = actorBlock (ours t .system) ((n - 1) + 1) p in
       record {
-        kind = lacpdu-heard (p .own .address) us (p .partner) (headerOf t .delay) (drop 124 out);
+        kind = lacpdu-passes (p .own .address) us (p .partner) (headerOf t .delay) (drop frameSize out);
         actor =
-            actor-back (p .own .address) us (p .partner) (headerOf t .delay) (drop 124 out)
+            actor-back (p .own .address) us (p .partner) (headerOf t .delay) (drop frameSize out)
             ∙ ap (λ (m : ℕ). actorBlock (ours t .system) m p) number;
-        partner = partner-back (p .own .address) us (p .partner) (headerOf t .delay) (drop 124 out);
+        partner = partner-back (p .own .address) us (p .partner) (headerOf t .delay) (drop frameSize out);
       }
 
 pub read-back : ReadBack

@@ -7,9 +7,9 @@ use mathlib.Core.List.{List, []}
 use native.Mathlib.Omega.{arith}
 use lib.ListN.{length}
 use Rattle.port.specs.declared.record.Port.{Port}
-use Rattle.report.specs.declared.Standing.the-variants.{Holds, Attached, Distributes}
+use Rattle.report.specs.declared.Role.the-variants.{Holds, Attached, Distributes}
 use Rattle.report.specs.Sets.{stands, setOf, setsOf, member}
-use Rattle.report.proofs.SetLaws.{set-member, set-member-beyond, set-count, lowest-none, lowest-least}
+use Rattle.report.proofs.SetLaws.{set-member, set-member-beyond, set-count, none-lowest, lowest-least}
 use Rattle.table.specs.Layout.{mostPorts}
 use Rattle.table.specs.Record.{decoded}
 use Rattle.table.specs.Table.{tableInRange, countIn, ports, portAt}
@@ -49,7 +49,7 @@ module _ (t : List ℕ) (ranged : tableInRange t ≡ true) (k : ℕ) where
     distributing = λ i h. at (stands Distributes k) i h;
     nobody = λ i h. (beyond (stands Holds k) i h, beyond (stands Attached k) i h, beyond (stands Distributes k) i h);
     count = set-count (stands Distributes k) (ports t);
-    none = λ f. lowest-none (stands Distributes k) (ports t) (decoded [])
+    none = λ f. none-lowest (stands Distributes k) (ports t) (decoded [])
         (λ i h. let below : i < countIn t = rw ports-length at h in ap (stands Distributes k) (ports-at t i (decoded []) below) ∙ f i below);
     least = λ i h e f. lowest-least (stands Distributes k) (ports t) i (decoded []) few (in-list i h)
         (ap (stands Distributes k) (ports-at t i (decoded []) h) ∙ e)

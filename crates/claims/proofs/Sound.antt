@@ -30,7 +30,7 @@ use Rattle.table.specs.Layout.{headerOf, mostPorts}
 use Rattle.table.specs.Record.{decoded}
 use Rattle.table.specs.Range.{headerFits}
 use Rattle.table.specs.State.{withPorts}
-use Rattle.table.specs.Table.{countIn, portAt, ports, tableOctets, ours, again, on, octetsOf, stateOf}
+use Rattle.table.specs.Table.{countIn, portAt, ports, tableOctets, ours, again, onOctets, octetsOf, stateOf}
 use Rattle.table.proofs.TableLaws.{in-range, in-range-is, octets-back}
 use Rattle.table.proofs.StoreLaws.{ports-length, ports-at}
 use Rattle.table.proofs.MadeLaws.{ports-ranged-at, ports-ranged, table-ports-ranged, header-fits, made-ports, made-header, made-in-range, made-octets}
@@ -41,7 +41,7 @@ use Rattle.trunk.proofs.SettledLaws.{settled-length}
 use Rattle.trunk.proofs.RestLaws.{settled-twice}
 use Rattle.trunk.proofs.RestingLaws.{advanced-standing, displaced-standing, settled-resting}
 use Rattle.trunk.proofs.RangeKept.{displaced-ranged}
-use Rattle.work.specs.Work.{worked, afterOne, afterStart, heardAt, afterHeard, afterTick, afterLine, afterSettings, afterSend}
+use Rattle.work.specs.Work.{worked, afterOne, afterStart, receivedAt, afterReceived, afterTick, afterLine, afterSettings, afterSend}
 use Rattle.settings.proofs.RangeLaws.{configured-ranged, started-ranged}
 use Rattle.trunk.proofs.Settles.{Settles, settles, settles-is, sent-settles}
 use Rattle.work.proofs.WorkLaws.{worked-length, worked-fits}
@@ -168,25 +168,25 @@ module _ (t : List ℕ) (s : Sound t) where
         (configured-standing c (portAt t i) (port-standing t s i h))
 
     module _ (frame : List ℕ) (o : Octets frame) (u : portAt t i .line .up ≡ true) (f : portAt t i .line .full ≡ true) where
-      heard-one : Before t (set (ports t) i (heardAt i frame (stateOf t)))
-      unfolding heardAt
-      heard-one =
+      received-one : Before t (set (ports t) i (receivedAt i frame (stateOf t)))
+      unfolding receivedAt
+      received-one =
           let a = blockOf (actorPart frame) in
           let b = blockOf (partnerPart frame) in
-          one-before i (heardAt i frame (stateOf t)) (received-ranged (countIn t) (ours t .system) (i + 1) a b (portAt t i) (part-fits 18 33 frame o) (port-fits t s i h))
+          one-before i (receivedAt i frame (stateOf t)) (received-ranged (countIn t) (ours t .system) (i + 1) a b (portAt t i) (part-fits 18 33 frame o) (port-fits t s i h))
           (received-standing (ours t .system) (i + 1) a b (portAt t i) u f (port-standing t s i h))
 
-      pub heard-before : Before t (displaced i (blockOf (actorPart frame)) (set (ports t) i (heardAt i frame (stateOf t))))
+      pub received-before : Before t (displaced i (blockOf (actorPart frame)) (set (ports t) i (receivedAt i frame (stateOf t))))
       unfolding displaced
-      heard-before =
+      received-before =
           let a = blockOf (actorPart frame) in
-          let ps = set (ports t) i (heardAt i frame (stateOf t)) in
+          let ps = set (ports t) i (receivedAt i frame (stateOf t)) in
           record {
-            size = sweep-length (displacedIf i a) 0 ps ∙ heard-one .size;
+            size = sweep-length (displacedIf i a) 0 ps ∙ received-one .size;
             fits =
                 each-sweep (Fits (countIn t)) (Fits (countIn t)) (displacedIf i a) ps
-                (λ j p k e. displaced-ranged (countIn t) i a j p e) (heard-one .fits);
-            stands = each-sweep Standing Standing (displacedIf i a) ps (λ j p k e. displaced-standing i a j p e) (heard-one .stands);
+                (λ j p k e. displaced-ranged (countIn t) i a j p e) (received-one .fits);
+            stands = each-sweep Standing Standing (displacedIf i a) ps (λ j p k e. displaced-standing i a j p e) (received-one .stands);
           }
 
     -- a send
@@ -208,15 +208,15 @@ module _ (t : List ℕ) (s : Sound t) where
           (subst (Settles (ours t)) sent-same (sent-settles (ours t) (ports t) i (decoded []) (settles (ours t) (ports t) (s .rest .together))));
     }
 
-    pub send-ports : ports (on (afterSend i) t) ≡ set (ports t) i (sent (portAt t i))
+    pub send-ports : ports (onOctets (afterSend i) t) ≡ set (ports t) i (sent (portAt t i))
     unfolding afterSend
     send-ports = again-ports t s (set (ports t) i (sent (portAt t i))) sent-size sent-fits
 
-    pub send-sound : Sound (on (afterSend i) t)
+    pub send-sound : Sound (onOctets (afterSend i) t)
     unfolding afterSend
     send-sound = again-sound t s (set (ports t) i (sent (portAt t i))) sent-size sent-fits sent-at-rest
 
-    pub line-sound : (l : Line) → Sound (on (afterLine i l) t)
+    pub line-sound : (l : Line) → Sound (onOctets (afterLine i l) t)
     unfolding afterLine afterOne
     line-sound l = by (sameLine l (portAt t i .line))
       where
@@ -224,7 +224,7 @@ module _ (t : List ℕ) (s : Sound t) where
         by true = unmoved Sound t s s
         by false = work-sound t s (set (ports t) i (lined l (portAt t i))) (line-before l)
 
-    pub settings-sound : (c : Settings) → ownFits (ownOf c) ≡ true → Sound (on (afterSettings i c) t)
+    pub settings-sound : (c : Settings) → ownFits (ownOf c) ≡ true → Sound (onOctets (afterSettings i c) t)
     unfolding afterSettings afterOne
     settings-sound c f = by (sameSettings c (portAt t i))
       where
@@ -232,12 +232,12 @@ module _ (t : List ℕ) (s : Sound t) where
         by true = unmoved Sound t s s
         by false = work-sound t s (set (ports t) i (configured c (portAt t i))) (settings-before c f)
 
-    pub heard-sound : (frame : List ℕ) → Octets frame → portAt t i .line .up ≡ true → portAt t i .line .full ≡ true → Sound (on (afterHeard i frame) t)
-    unfolding afterHeard
-    heard-sound frame o u f =
-        work-sound t s (displaced i (blockOf (actorPart frame)) (set (ports t) i (heardAt i frame (stateOf t)))) (heard-before frame o u f)
+    pub received-sound : (frame : List ℕ) → Octets frame → portAt t i .line .up ≡ true → portAt t i .line .full ≡ true → Sound (onOctets (afterReceived i frame) t)
+    unfolding afterReceived
+    received-sound frame o u f =
+        work-sound t s (displaced i (blockOf (actorPart frame)) (set (ports t) i (receivedAt i frame (stateOf t)))) (received-before frame o u f)
 
-  pub tick-sound : Sound (on afterTick t)
+  pub tick-sound : Sound (onOctets afterTick t)
   unfolding afterTick
   tick-sound = work-sound t s (map advanced (ports t)) tick-before
 

@@ -10,6 +10,7 @@ use native.Mathlib.Nat.{zero-add}
 use lib.Seq.{getD-append-seam}
 use lib.Dec.{eqb, ltb, leb}
 use borrow.Author.Tests.{eqb-true, eqb-false, eq-eqb, leb-true, leb-false, le-ltb}
+use Rattle.frame.specs.Class.{frameSize}
 use Rattle.octets.proofs.ListLaws.{map-at, sweep-at, each-alike}
 use Rattle.octets.specs.Octets.{Octets}
 use Rattle.octets.proofs.RangeLaws.{within-true, within-is}
@@ -35,11 +36,11 @@ use Rattle.settings.proofs.StandingLaws.{configured-ages}
 use Rattle.table.specs.declared.layout.Header.{Header}
 use Rattle.table.specs.Layout.{mostPorts}
 use Rattle.table.specs.Record.{decoded}
-use Rattle.table.specs.Table.{tableInRange, countIn, portAt, ports, ours, again, on, octetsOf, stateOf}
+use Rattle.table.specs.Table.{tableInRange, countIn, portAt, ports, ours, again, onOctets, octetsOf, stateOf}
 use Rattle.table.proofs.StoreLaws.{ports-length, ports-at}
 use Rattle.trunk.specs.Displaced.{isDisplaced, displacedIf, displaced}
 use Rattle.trunk.proofs.RestingLaws.{advanced-ages}
-use Rattle.work.specs.Work.{worked, afterOne, afterStart, heardAt, afterHeard, afterTick, afterLine, afterSettings, afterSend}
+use Rattle.work.specs.Work.{worked, afterOne, afterStart, receivedAt, afterReceived, afterTick, afterLine, afterSettings, afterSend}
 use Rattle.control.specs.declared.answer.Answer.{Answer}
 use Rattle.control.specs.declared.answer.Answer.the-variants.{Done, Lacpdu, Marker, Refused}
 use Rattle.control.specs.declared.answer.Reason.the-variants as reason
@@ -48,10 +49,10 @@ use Rattle.control.specs.Call.{Call, start, receive, tick, line, configure, fet
 use Rattle.control.specs.After.{answer, afterFrame, changedBy, unless, after, effect}
 use Rattle.control.specs.Accepted.{accepted}
 use Rattle.claims.specs.Run.{Takes, AllTake, run, Made}
-use Rattle.control.proofs.CallLaws.{OnPort, on-port, named, heard-on, after-accepted}
+use Rattle.control.proofs.CallLaws.{OnPort, on-port, named, received-on, after-accepted}
 use Rattle.claims.specs.AtRest.{Sound}
 use Rattle.claims.specs.ThreeSends.{sendsBy, sends, sendsOf, recent, ThreeSends, ticksIn, NoneStarts, FourSendsApart}
-use Rattle.claims.proofs.Sound.{Before, in-ports, tick-before, line-before, settings-before, heard-before, send-ports, start-ports, keptIf, sound-back}
+use Rattle.claims.proofs.Sound.{Before, in-ports, tick-before, line-before, settings-before, received-before, send-ports, start-ports, keptIf, sound-back}
 use Rattle.claims.proofs.Calls.{started-sound, call-sound, never-stuck}
 use Rattle.claims.proofs.Counts.{start-room, started-count, call-count, run-count}
 use Rattle.claims.proofs.Locality.{again-at}
@@ -73,7 +74,7 @@ module _ (t : List ℕ) (s : Sound t) (i : ℕ) (h : i < countIn t) where
   set-ages m q e =
       set-view (λ p. p .ages) t s i h m q (portAt t i .ages) (λ is. e ∙ ap (λ (k : ℕ). portAt t k .ages) (sym (eqb-true i m is))) (λ other. refl)
 
-  line-ages : (m : ℕ) → m < countIn t → (l : Line) → portAt (on (afterLine m l) t) i .ages ≡ portAt t i .ages
+  line-ages : (m : ℕ) → m < countIn t → (l : Line) → portAt (onOctets (afterLine m l) t) i .ages ≡ portAt t i .ages
   unfolding afterLine afterOne
   line-ages m g l = by (sameLine l (portAt t m .line))
     where
@@ -84,7 +85,7 @@ module _ (t : List ℕ) (s : Sound t) (i : ℕ) (h : i < countIn t) where
       by true = same-ages
       by false = work-ages (set (ports t) m q) (line-before t s m g l) ∙ set-ages m q (lined-ages l (portAt t m))
 
-  settings-ages : (m : ℕ) → m < countIn t → (x : Settings) → ownFits (ownOf x) ≡ true → portAt (on (afterSettings m x) t) i .ages ≡ portAt t i .ages
+  settings-ages : (m : ℕ) → m < countIn t → (x : Settings) → ownFits (ownOf x) ≡ true → portAt (onOctets (afterSettings m x) t) i .ages ≡ portAt t i .ages
   unfolding afterSettings afterOne
   settings-ages m g x o = by (sameSettings x (portAt t m))
     where
@@ -106,21 +107,21 @@ module _ (t : List ℕ) (s : Sound t) (i : ℕ) (h : i < countIn t) where
       by p false = refl
 
   frame-ages : (n : ℕ) (frame out : List ℕ) → Octets frame → (a : Answer) → answer (receive n frame out) t ≡ a
-      → portAt (on (afterFrame a (n - 1) frame) t) i .ages ≡ portAt t i .ages
+      → portAt (onOctets (afterFrame a (n - 1) frame) t) i .ages ≡ portAt t i .ages
   frame-ages n frame out o Done e = same-ages
-  frame-ages n frame out o Lacpdu e = unfold afterHeard heardAt in
-      let x = heard-on t n frame out e in
+  frame-ages n frame out o Lacpdu e = unfold afterReceived receivedAt in
+      let x = received-on t n frame out e in
       let a = blockOf (actorPart frame) in
       let b = blockOf (partnerPart frame) in
-      let q = heardAt (n - 1) frame (stateOf t) in
+      let q = receivedAt (n - 1) frame (stateOf t) in
       let here : i < length (set (ports t) (n - 1) q) = rw (length-set (ports t) (n - 1) q, ports-length) h in
-      work-ages (displaced (n - 1) a (set (ports t) (n - 1) q)) (heard-before t s (n - 1) (x .below) frame o (x .up) (x .full))
+      work-ages (displaced (n - 1) a (set (ports t) (n - 1) q)) (received-before t s (n - 1) (x .below) frame o (x .up) (x .full))
       ∙ displaced-ages (n - 1) a (set (ports t) (n - 1) q) here
       ∙ set-ages (n - 1) q (received-ages (ours t .system) (n - 1 + 1) a b (portAt t (n - 1)))
   frame-ages n frame out o Marker e = same-ages
   frame-ages n frame out o (Refused r) e = same-ages
 
-  tick-ages : portAt (on afterTick t) i .ages ≡ agesTicked (portAt t i .ages)
+  tick-ages : portAt (onOctets afterTick t) i .ages ≡ agesTicked (portAt t i .ages)
   unfolding afterTick
   tick-ages =
       work-ages (map advanced (ports t)) (tick-before t s)
@@ -129,7 +130,7 @@ module _ (t : List ℕ) (s : Sound t) (i : ℕ) (h : i < countIn t) where
 
   -- a send on port m: x, if that is what remembering it gives where i is m, and as before where it is not
   send-ages : (m : ℕ) → m < countIn t → (x : Ages) → (eqb i m ≡ true → sentAges (portAt t m .ages) ≡ x) → (eqb i m ≡ false → portAt t i .ages ≡ x)
-      → portAt (on (afterSend m) t) i .ages ≡ x
+      → portAt (onOctets (afterSend m) t) i .ages ≡ x
   unfolding afterSend
   send-ages m g x f k =
       let q = sent (portAt t m) in
@@ -174,7 +175,7 @@ fetch-free t n out e =
     let p = portAt t (n - 1) in
     let rest = dueAnswer (dueOf p) in
     due-free (not (p .ntt) || (not (p .line .up) || not (p .line .full))) (barred (p .ages))
-    (unless-room (ltb (length out) 124) rest (on-port t n (withRoom out rest) e .1))
+    (unless-room (ltb (length out) frameSize) rest (on-port t n (withRoom out rest) e .1))
 
 -- ---- each call
 
@@ -221,23 +222,23 @@ module _ (t : List ℕ) (s : Sound t) (n : ℕ) (some : 1 ≤ n) (h : n - 1 < co
       by true e = subst (At m) (sym (after-accepted t c e)) (then e)
       by false e = subst (At m) (sym (after-refused t c e)) (subst (λ (x : List ℕ). At x t) (else e) (kept t refl))
 
-  fetch-at : (m : ℕ) (out : List ℕ) → accepted (answer (fetch m out) t) ≡ true → At (cond (eqb n m) (0 ∷ l) l) (on (afterSend (m - 1)) t)
+  fetch-at : (m : ℕ) (out : List ℕ) → accepted (answer (fetch m out) t) ≡ true → At (cond (eqb n m) (0 ∷ l) l) (onOctets (afterSend (m - 1)) t)
   unfolding At
   fetch-at m out e = by (eqb n m) refl
     where
       number : (1 ≤ m) × (m - 1 < countIn t)
       number = unfold answer in let o = on-port t m (withRoom out (dueAnswer (dueOf (portAt t (m - 1))))) e .0 in (o .some, o .below)
 
-      by : (b : Bool) → eqb n m ≡ b → Keeps (cond b (0 ∷ l) l) (portAt (on (afterSend (m - 1)) t) (n - 1) .ages)
+      by : (b : Bool) → eqb n m ≡ b → Keeps (cond b (0 ∷ l) l) (portAt (onOctets (afterSend (m - 1)) t) (n - 1) .ages)
       by true is =
           let same : m - 1 ≡ n - 1 = ap (λ (x : ℕ). x - 1) (sym (eqb-true n m is)) in
           let here : portAt t (m - 1) .ages ≡ portAt t (n - 1) .ages = ap (λ (x : ℕ). portAt t x .ages) same in
-          let it : portAt (on (afterSend (m - 1)) t) (n - 1) .ages ≡ sentAges (portAt t (n - 1) .ages) =
+          let it : portAt (onOctets (afterSend (m - 1)) t) (n - 1) .ages ≡ sentAges (portAt t (n - 1) .ages) =
           send-ages t s (n - 1) h (m - 1) (number .1) (sentAges (portAt t (n - 1) .ages)) (λ f. ap sentAges here)
           (λ f. absurd (true≢false (sym (eq-eqb (n - 1) (m - 1) (sym same)) ∙ f))) in
           subst (Keeps (0 ∷ l)) (sym it) (keeps-sent l (portAt t (n - 1) .ages) k (ap barred (sym here) ∙ fetch-free t m out e))
       by false other =
-          kept (on (afterSend (m - 1)) t)
+          kept (onOctets (afterSend (m - 1)) t)
           (send-ages t s (n - 1) h (m - 1) (number .1) (portAt t (n - 1) .ages) (λ f. absurd (same-number n m some (number .0) other f)) (λ f. refl))
 
   start-at : (count : ℕ) (system : SystemId) (delay : TensOfMicroseconds) (x : Settings) → Takes (start count system delay x)
@@ -332,12 +333,12 @@ due-number true true true false = refl
 due-number true true true true = refl
 
 -- with room for its frame, on a port of the table
-fetch-is : (t : List ℕ) → tableInRange t ≡ true → (n : ℕ) → 1 ≤ n → n ≤ countIn t → (out : List ℕ) → 124 ≤ length out
+fetch-is : (t : List ℕ) → tableInRange t ≡ true → (n : ℕ) → 1 ≤ n → n ≤ countIn t → (out : List ℕ) → frameSize ≤ length out
     → answer (fetch n out) t ≡ dueAnswer (dueOf (portAt t (n - 1)))
 unfolding answer
 fetch-is t r n some below out g =
     let one : isNumber t n ≡ true = within-is 1 n (countIn t) some below in
-    let big : ltb (length out) 124 ≡ false = le-ltb (length out) 124 g in
+    let big : ltb (length out) frameSize ≡ false = le-ltb (length out) frameSize g in
     rw (r, one, big)
 
 pub three-sends : ThreeSends
@@ -407,9 +408,9 @@ pub four-sends-apart : FourSendsApart
 four-sends-apart t m n first last k e cs takes none two f =
     let s = never-stuck t m in
     let c = fetch n first in
-    let on : OnPort t n = unfold answer in on-port t n (withRoom first (dueAnswer (dueOf (portAt t (n - 1))))) (ap accepted e) .0 in
-    let some : 1 ≤ n = on .some in
-    let here : n - 1 < countIn t = on .below in
+    let onOctets : OnPort t n = unfold answer in on-port t n (withRoom first (dueAnswer (dueOf (portAt t (n - 1))))) (ap accepted e) .0 in
+    let some : 1 ≤ n = onOctets .some in
+    let here : n - 1 < countIn t = onOctets .below in
     let before = made-keeps t m n some (omega (arith, some, here)) in
     let u = after c t in
     let us : Sound u = call-sound t s c k in

@@ -10,25 +10,25 @@ use borrow.Author.Tests.{ltb-true}
 use Rattle.octets.specs.Lists.{mapFrom}
 use Rattle.frame.specs.Block.{blockFits}
 use Rattle.machine.specs.Compare.{sameAddress, sameSystem, sameNumbers, sameParty, sameView, maintained, inSync, sameState, sameBlock}
-use Rattle.port.specs.Receive.{recordDefault, recordPdu, updateSelected, updateDefaultSelected, updateNtt, initialized, portDisabled, expired, lacpDisabled, defaulted, heard, current, moved, received, receiveChoice, receiveStep, receiveRun, lined}
+use Rattle.port.specs.Receive.{recordDefault, recordPdu, updateSelected, updateDefaultSelected, updateNtt, initialized, portDisabled, expired, lacpDisabled, defaulted, pduRecorded, current, moved, received, receiveChoice, receiveStep, receiveRun, lined}
 use Rattle.port.specs.Periodic.{periodicChoice, periodicStep, periodicRun}
-use Rattle.port.specs.Transmit.{due, sent, silent as Port·silent, quieted, ticked, advanced}
+use Rattle.port.specs.Transmit.{due, sent, silent as Port·silent, nttCleared, ticked, advanced}
 use Rattle.port.specs.Mux.{muxChoice, muxStep, detached, placed, attachedIf, muxRun}
 use Rattle.settings.specs.Settings.{sameGrouping, sameSettings, regrouped, configured, lawful, blank, started}
 use Rattle.port.specs.Range.{timersInRange, agesInRange, valuesInRange, ownFits}
 use Rattle.trunk.specs.Selection.{individual, sameKeys, sameGroup, joins, sharesGroup, firstFrom, lowest, ruleOf}
 use Rattle.trunk.specs.Ready.{waitsFor, hasWaiting, holdsBack, heldBack, ready}
-use Rattle.trunk.specs.Settled.{mustMove, reselected, selectedAll, attachedAll, climbed, settled}
+use Rattle.trunk.specs.Settled.{mustMove, reselected, selectedAll, attachedAll, muxed, settled}
 use Rattle.trunk.specs.Displaced.{isDisplaced, displacedIf, displaced}
 use Rattle.octets.specs.Octets.{Octets, sameOctets}
-use Rattle.frame.specs.Class.{foreign, unknown, wrongLength, wrongMarkerType, illegal, classOf}
+use Rattle.frame.specs.Class.{foreign, unknown, wrongLength, wrongMarkerType, illegal, classOf, frameSize}
 use Rattle.frame.specs.Wire.{zeros}
 use Rattle.report.specs.Sets.{stands, setOf, setsOf}
 use Rattle.table.specs.Range.{codesInRange, recordInRange, headerFits}
 use Rattle.table.specs.Record.{encoded, decoded}
 use Rattle.table.specs.State.{portIn}
 use Rattle.table.specs.Table.{recordAt, portsFrom, ports, recordsOctets, tableOctets, firstInRange, tableInRange, decodedAt}
-use Rattle.work.specs.Work.{worked, afterOne, afterStart, heardAt, afterHeard, afterTick, afterLine, afterSettings, afterSend, lacpduOf}
+use Rattle.work.specs.Work.{worked, afterOne, afterStart, receivedAt, afterReceived, afterTick, afterLine, afterSettings, afterSend, lacpduOf}
 use Rattle.control.specs.Answer.{found}
 use Rattle.control.specs.After.{answer, after, writtenBy, outgoing, effect}
 use Rattle.control.specs.Report.{portReport, aggregatorReport}
@@ -47,9 +47,9 @@ octets [] h i = omega arith
 octets (x ∷ xs) h zero = ltb-true x 256 (and-eq-true-iff (isOctet x) (every isOctet xs) .0 h .0)
 octets (x ∷ xs) h (suc i) = octets xs (and-eq-true-iff (isOctet x) (every isOctet xs) .0 h .1) i
 
-heard-takes : (k n o : ℕ) → every isOctet (said k n o) ≡ true → Takes (hears k n o)
+received-takes : (k n o : ℕ) → every isOctet (said k n o) ≡ true → Takes (hears k n o)
 unfolding every
-heard-takes k n o h = (octets (said k n o) h, octets (zeros 124) refl)
+received-takes k n o h = (octets (said k n o) h, octets (zeros frameSize) refl)
 
 ticks-take : (n : ℕ) (cs : List Call) → AllTake cs → AllTake (ticks n cs)
 unfolding ticks
@@ -59,11 +59,11 @@ ticks-take (suc n) cs a = (tt, ticks-take n cs a)
 takes : AllTake calls
 unfolding every ownFits blockFits
 takes =
-    let then : AllTake later = (heard-takes 2 3 0x05 refl, ticks-take 10 [] tt) in
-    (tt, (tt, (tt, (refl, (heard-takes 1 1 0x3F refl, (heard-takes 1 2 0x3F refl, ticks-take 10 later then))))))
+    let then : AllTake later = (received-takes 2 3 0x05 refl, ticks-take 10 [] tt) in
+    (tt, (tt, (tt, (refl, (received-takes 1 1 0x3F refl, (received-takes 1 2 0x3F refl, ticks-take 10 later then))))))
 
 pub witness : Witness
-unfolding sameAddress sameSystem sameNumbers sameParty sameView maintained inSync sameState sameBlock recordDefault recordPdu updateSelected updateDefaultSelected updateNtt initialized portDisabled expired lacpDisabled defaulted heard current moved received receiveChoice receiveStep receiveRun lined periodicChoice periodicStep periodicRun due sent Port·silent quieted ticked muxChoice muxStep detached placed attachedIf muxRun sameGrouping sameSettings regrouped configured lawful blank started advanced individual sameKeys sameGroup joins sharesGroup firstFrom lowest ruleOf waitsFor hasWaiting holdsBack heldBack ready mapFrom mustMove reselected selectedAll attachedAll climbed settled isDisplaced displacedIf displaced sameOctets foreign unknown wrongLength wrongMarkerType illegal classOf stands setOf setsOf codesInRange timersInRange agesInRange valuesInRange recordInRange blockFits ownFits headerFits encoded decoded recordAt decodedAt portIn portsFrom ports recordsOctets tableOctets firstInRange tableInRange worked afterOne afterStart heardAt afterHeard afterTick afterLine afterSettings afterSend lacpduOf found answer effect after writtenBy outgoing portReport aggregatorReport ones onesIn trailingZeros run ticks tables begun trunk parted narrowed fallen halved dropped rekeyed silent every fourth sends
+unfolding sameAddress sameSystem sameNumbers sameParty sameView maintained inSync sameState sameBlock recordDefault recordPdu updateSelected updateDefaultSelected updateNtt initialized portDisabled expired lacpDisabled defaulted pduRecorded current moved received receiveChoice receiveStep receiveRun lined periodicChoice periodicStep periodicRun due sent Port·silent nttCleared ticked muxChoice muxStep detached placed attachedIf muxRun sameGrouping sameSettings regrouped configured lawful blank started advanced individual sameKeys sameGroup joins sharesGroup firstFrom lowest ruleOf waitsFor hasWaiting holdsBack heldBack ready mapFrom mustMove reselected selectedAll attachedAll muxed settled isDisplaced displacedIf displaced sameOctets foreign unknown wrongLength wrongMarkerType illegal classOf stands setOf setsOf codesInRange timersInRange agesInRange valuesInRange recordInRange blockFits ownFits headerFits encoded decoded recordAt decodedAt portIn portsFrom ports recordsOctets tableOctets firstInRange tableInRange worked afterOne afterStart receivedAt afterReceived afterTick afterLine afterSettings afterSend lacpduOf found answer effect after writtenBy outgoing portReport aggregatorReport ones onesIn trailingZeros run ticks tables begun trunk parted narrowed fallen halved dropped rekeyed silent every fourth sends
 witness = record {
   made = record {
     memory = memory;
@@ -87,7 +87,7 @@ witness = record {
   bits-true = refl;
   one-group = refl;
   two-groups = refl;
-  locality-heard = refl;
+  locality-received = refl;
   locality-fallen = refl;
   at-rest = refl;
   read-back = refl;

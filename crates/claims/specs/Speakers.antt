@@ -7,7 +7,7 @@ use Rattle.frame.specs.declared.block.Address.{Address}
 use Rattle.frame.specs.declared.block.Block.{Block}
 use Rattle.frame.specs.declared.block.SystemId.{SystemId}
 use Rattle.frame.specs.declared.wire.TensOfMicroseconds.{TensOfMicroseconds}
-use Rattle.frame.specs.State.{stateOf}
+use Rattle.frame.specs.State.{portStateOf}
 use Rattle.frame.specs.Wire.{lacpdu}
 use Rattle.machine.specs.declared.states.Line.{Line}
 use Rattle.settings.specs.declared.Settings.{Settings}
@@ -24,7 +24,7 @@ noDelay = record { 0 = 0 }
 
 -- port `q` of system `s`, with key `k` and the state octet `o`
 abbrev pub keyedBlock : ℕ → ℕ → ℕ → ℕ → Block
-keyedBlock s k q o = record { system = system s; key = k; port = record { priority = 1; number = q }; state = stateOf o }
+keyedBlock s k q o = record { system = system s; key = k; port = record { priority = 1; number = q }; state = portStateOf o }
 
 abbrev pub block : ℕ → ℕ → ℕ → Block
 block s q o = keyedBlock s 1 q o
@@ -42,7 +42,7 @@ keyedSettings k short o = record {
     system = record { priority = 0; address = address 0 };
     key = 0;
     port = record { priority = 0; number = 0 };
-    state = stateOf o;
+    state = portStateOf o;
   };
 }
 

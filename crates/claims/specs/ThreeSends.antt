@@ -5,6 +5,7 @@ use mathlib.Core.Bool.{Bool, true, false, cond, _&&_}
 use mathlib.Core.List.{List, [], _∷_, map}
 use lib.ListN.{length, getD}
 use lib.Dec.{eqb, leb}
+use Rattle.frame.specs.Class.{frameSize}
 use Rattle.machine.specs.declared.states.Ages.{Ages}
 use Rattle.machine.specs.Ages.{ages, noSend}
 use Rattle.machine.specs.Time.{fastPeriodicTime}
@@ -56,7 +57,7 @@ inPlaces l = ages (getD l 0 noSend) (getD l 1 noSend) (getD l 2 noSend)
 pub record Remembers (sent : List ℕ) (n : ℕ) (t : List ℕ) : Type 0 where
   pub few : length (recent sent) ≤ 3
   pub remembered : portAt t (n - 1) .ages ≡ inPlaces (recent sent)
-  pub barred : (out : List ℕ) → 124 ≤ length out
+  pub barred : (out : List ℕ) → frameSize ≤ length out
       → eqb (answerNumber (answer (fetch n out) t)) 11
       ≡ portAt t (n - 1) .ntt && (portAt t (n - 1) .line .up && (portAt t (n - 1) .line .full && leb 3 (length (recent sent))))
 

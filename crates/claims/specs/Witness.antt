@@ -11,7 +11,7 @@ use Rattle.frame.specs.declared.block.Block.{Block}
 use Rattle.frame.specs.declared.class.Class.{Class}
 use Rattle.frame.specs.declared.class.Class.the-variants as class
 use Rattle.frame.specs.Block.{blockOf, blockOctets}
-use Rattle.frame.specs.Class.{classOf}
+use Rattle.frame.specs.Class.{classOf, frameSize}
 use Rattle.frame.specs.Wire.{zeros, actorPart, partnerPart}
 use Rattle.machine.specs.Ages.{ages}
 use Rattle.machine.specs.Bits.{alike}
@@ -44,7 +44,7 @@ abbrev pub said : ℕ → ℕ → ℕ → List ℕ
 said k n o = frameOf (keyedBlock 5 k n o) n 0x07
 
 abbrev pub hears : ℕ → ℕ → ℕ → Call
-hears k n o = receive n (said k n o) (zeros 124)
+hears k n o = receive n (said k n o) (zeros frameSize)
 
 abbrev pub memory : List ℕ
 memory = zeros (tableSize 3)
@@ -79,7 +79,7 @@ trunk = run begun calls
 
 -- port 1 hears system 6
 unfoldable pub parted : List ℕ
-parted = after (receive 1 (frameOf (keyedBlock 6 1 1 0x3F) 1 0x07) (zeros 124)) trunk
+parted = after (receive 1 (frameOf (keyedBlock 6 1 1 0x3F) 1 0x07) (zeros frameSize)) trunk
 
 -- the partner of port 2 collects no longer
 unfoldable pub narrowed : List ℕ
@@ -170,7 +170,7 @@ abbrev pub setsAre : Sets → ℕ → ℕ → ℕ → ℕ → ℕ → Bool
 setsAre s h a d n l = eqb (s .holding) h && (eqb (s .attached) a && (eqb (s .distributing) d && (eqb (s .count) n && eqb (s .lowest) l)))
 
 abbrev pub lent : List ℕ
-lent = replicate 124 7
+lent = replicate frameSize 7
 
 -- nothing is due on port 1
 abbrev pub quiet : List ℕ → Bool
@@ -206,7 +206,7 @@ pub record Witness : Type 0 where
   -- ports 1 and 2 have different keys then, and so different LAG IDs
   pub two-groups : sharesGroup (ours rekeyed) (map compared (ports rekeyed)) 0 1 ≡ false
   -- 3: port 3 shares no group with port 1, though it has a partner of the same system
-  pub locality-heard : keeps 2 (after (hears 1 1 0x3F) trunk) trunk ≡ true
+  pub locality-received : keeps 2 (after (hears 1 1 0x3F) trunk) trunk ≡ true
   pub locality-fallen : keeps 2 fallen trunk ≡ true
   -- 4
   pub at-rest : every rests seen ≡ true

@@ -10,8 +10,8 @@ use Rattle.octets.proofs.RangeLaws.{within-true, both}
 use lib.Dec.{ltb}
 use Rattle.frame.specs.declared.class.Class.{Class}
 use Rattle.frame.specs.declared.class.Class.the-variants as class
-use Rattle.frame.specs.Class.{classOf}
-use Rattle.frame.proofs.ClassLaws.{heard, heard-whole}
+use Rattle.frame.specs.Class.{classOf, frameSize}
+use Rattle.frame.proofs.ClassLaws.{passes, passed-whole}
 use Rattle.machine.specs.declared.states.Line.{Line}
 use Rattle.machine.specs.declared.states.Mux.{Mux}
 use Rattle.table.specs.State.{State}
@@ -22,8 +22,8 @@ use Rattle.control.specs.declared.answer.Answer.{Answer}
 use Rattle.control.specs.declared.answer.Answer.the-variants.{Done, Lacpdu, Marker, Refused}
 use Rattle.control.specs.declared.answer.Reason.{Reason}
 use Rattle.control.specs.declared.answer.Reason.the-variants as reason
-use Rattle.control.specs.declared.tests.Found.{Found}
-use Rattle.control.specs.declared.tests.Found.the-variants as place
+use Rattle.control.specs.declared.checks.Found.{Found}
+use Rattle.control.specs.declared.checks.Found.the-variants as place
 use Rattle.control.specs.Answer.{isNumber, onPort, found, frameAnswer, withRoom}
 use Rattle.control.specs.Call.{Call, receive}
 use Rattle.control.specs.After.{answer, unless, sentFor, changedBy, after, bufferOf, writtenBy, outgoing}
@@ -124,17 +124,17 @@ isDone Lacpdu = true
 isDone Marker = true
 isDone (Refused r) = false
 
-done-heard : (k : Class) (line : Line) (m : Mux) → isDone (frameAnswer k line m) ≡ true → heard k ≡ true
-done-heard class.Lacpdu line m h = refl
-done-heard class.Marker line m h = refl
-done-heard class.Response line m h = refl
-done-heard (class.Refused r) line m h = h
+done-passes : (k : Class) (line : Line) (m : Mux) → isDone (frameAnswer k line m) ≡ true → passes k ≡ true
+done-passes class.Lacpdu line m h = refl
+done-passes class.Marker line m h = refl
+done-passes class.Response line m h = refl
+done-passes (class.Refused r) line m h = h
 
-pub lacpdu-whole : (l : List ℕ) (line : Line) (m : Mux) → frameAnswer (classOf l) line m ≡ Lacpdu → 124 ≤ length l
-lacpdu-whole l line m e = heard-whole l (done-heard (classOf l) line m (ap isDone e))
+pub lacpdu-whole : (l : List ℕ) (line : Line) (m : Mux) → frameAnswer (classOf l) line m ≡ Lacpdu → frameSize ≤ length l
+lacpdu-whole l line m e = passed-whole l (done-passes (classOf l) line m (ap isDone e))
 
-pub marker-whole : (l : List ℕ) (line : Line) (m : Mux) → frameAnswer (classOf l) line m ≡ Marker → 124 ≤ length l
-marker-whole l line m e = heard-whole l (done-heard (classOf l) line m (ap isDone e))
+pub marker-whole : (l : List ℕ) (line : Line) (m : Mux) → frameAnswer (classOf l) line m ≡ Marker → frameSize ≤ length l
+marker-whole l line m e = passed-whole l (done-passes (classOf l) line m (ap isDone e))
 
 -- ---- a received frame sends what its answer says, refused or not
 
@@ -198,19 +198,19 @@ frame-up class.Response l m e = absurd (false≢true e)
 frame-up (class.Refused r) l m e = absurd (false≢true e)
 
 -- an accepted LACPDU: the port is up at full duplex
-pub record Heard (t : List ℕ) (n : ℕ) : Type 0 where
+pub record Received (t : List ℕ) (n : ℕ) : Type 0 where
   pub below : n - 1 < countIn t
   pub up : portAt t (n - 1) .line .up ≡ true
   pub full : portAt t (n - 1) .line .full ≡ true
 
-pub heard-on : (t : List ℕ) (n : ℕ) (frame out : List ℕ) → answer (receive n frame out) t ≡ Lacpdu → Heard t n
+pub received-on : (t : List ℕ) (n : ℕ) (frame out : List ℕ) → answer (receive n frame out) t ≡ Lacpdu → Received t n
 unfolding answer
-heard-on t n frame out e =
+received-on t n frame out e =
     let p = portAt t (n - 1) in
     let rest = withRoom out (frameAnswer (classOf frame) (p .line) (p .phase .mux)) in
     let a = if-lacpdu (tableInRange t) (cond (isNumber t n) rest (Refused reason.Number)) reason.Table (ap isLacpdu e) in
     let b = if-lacpdu (isNumber t n) rest reason.Number (a .1) in
-    let c = unless-lacpdu (ltb (length out) 124) (frameAnswer (classOf frame) (p .line) (p .phase .mux)) reason.Buffer (b .1) in
+    let c = unless-lacpdu (ltb (length out) frameSize) (frameAnswer (classOf frame) (p .line) (p .phase .mux)) reason.Buffer (b .1) in
     let w = frame-up (classOf frame) (p .line) (p .phase .mux) c in
     record { below = named t n rest (ap accepted e); up = w .0; full = w .1 }
 

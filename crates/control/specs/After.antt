@@ -5,8 +5,8 @@ use mathlib.Core.List.{List, []}
 use Rattle.frame.specs.Class.{classOf}
 use Rattle.port.specs.Transmit.{due}
 use Rattle.table.specs.State.{State}
-use Rattle.table.specs.Table.{tableInRange, portAt, stateOf, on}
-use Rattle.work.specs.Work.{afterStart, afterHeard, afterTick, afterLine, afterSettings, afterSend, lacpduOf, responseOf, over}
+use Rattle.table.specs.Table.{tableInRange, portAt, stateOf, onOctets}
+use Rattle.work.specs.Work.{afterStart, afterReceived, afterTick, afterLine, afterSettings, afterSend, lacpduOf, responseOf, writtenOver}
 use Rattle.control.specs.declared.answer.Answer.{Answer}
 use Rattle.control.specs.declared.answer.Answer.the-variants.{Done, Lacpdu, Marker, Refused}
 use Rattle.control.specs.declared.answer.Reason.the-variants as reason
@@ -34,7 +34,7 @@ answer (aggregator k) t = onPort t k Done
 -- a received frame: an accepted LACPDU changes records, and nothing else does
 abbrev pub afterFrame : Answer → ℕ → List ℕ → State → State
 afterFrame Done i frame s = s
-afterFrame Lacpdu i frame s = afterHeard i frame s
+afterFrame Lacpdu i frame s = afterReceived i frame s
 afterFrame Marker i frame s = s
 afterFrame (Refused r) i frame s = s
 
@@ -51,7 +51,7 @@ effect (aggregator k) a s = s
 
 -- and of its octets
 abbrev pub changedBy : Call → List ℕ → List ℕ
-changedBy c t = on (effect c (answer c t)) t
+changedBy c t = onOctets (effect c (answer c t)) t
 
 -- R2.16: after a refusal the table is what it was
 unfoldable pub after : Call → List ℕ → List ℕ
@@ -74,7 +74,7 @@ bufferOf (aggregator k) = []
 abbrev pub sentFor : Answer → State → ℕ → List ℕ → List ℕ → List ℕ
 sentFor Done s i frame out = out
 sentFor Lacpdu s i frame out = out
-sentFor Marker s i frame out = over (responseOf s i frame) out
+sentFor Marker s i frame out = writtenOver (responseOf s i frame) out
 sentFor (Refused r) s i frame out = out
 
 unfoldable pub writtenBy : Call → List ℕ → List ℕ
@@ -83,7 +83,7 @@ writtenBy (receive n frame out) t = sentFor (answer (receive n frame out) t) (st
 writtenBy tick t = []
 writtenBy (line n l) t = []
 writtenBy (configure n s) t = []
-writtenBy (fetch n out) t = over (lacpduOf (stateOf t) (n - 1)) out
+writtenBy (fetch n out) t = writtenOver (lacpduOf (stateOf t) (n - 1)) out
 writtenBy (report n) t = []
 writtenBy (aggregator k) t = []
 

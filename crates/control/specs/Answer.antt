@@ -7,7 +7,7 @@ use lib.Dec.{ltb}
 use Rattle.octets.specs.Octets.{within}
 use Rattle.frame.specs.declared.class.Class.{Class}
 use Rattle.frame.specs.declared.class.Class.the-variants as class
-use Rattle.frame.specs.Class.{refusalNumber}
+use Rattle.frame.specs.Class.{refusalNumber, frameSize}
 use Rattle.machine.specs.declared.states.Line.{Line}
 use Rattle.machine.specs.declared.states.Mux.{Mux}
 use Rattle.machine.specs.Mux.{collects, distributes}
@@ -20,8 +20,8 @@ use Rattle.control.specs.declared.answer.Answer.{Answer}
 use Rattle.control.specs.declared.answer.Answer.the-variants.{Done, Lacpdu, Marker, Refused}
 use Rattle.control.specs.declared.answer.Reason.{Reason}
 use Rattle.control.specs.declared.answer.Reason.the-variants as reason
-use Rattle.control.specs.declared.tests.Found.{Found}
-use Rattle.control.specs.declared.tests.Found.the-variants as place
+use Rattle.control.specs.declared.checks.Found.{Found}
+use Rattle.control.specs.declared.checks.Found.the-variants as place
 
 -- ---- what each answer is on paper
 
@@ -48,7 +48,7 @@ answerNumber (Refused r) = reasonNumber r
 abbrev pub lengthSent : Answer → ℕ
 lengthSent Done = 0
 lengthSent Lacpdu = 0
-lengthSent Marker = 124
+lengthSent Marker = frameSize
 lengthSent (Refused r) = 0
 
 -- ---- the tests
@@ -67,7 +67,7 @@ found t n = cond (tableInRange t) (cond (isNumber t n) (place.Port (n - 1)) (pla
 
 -- R2.3: `rest` is the answer where there is room for a frame
 abbrev pub withRoom : List ℕ → Answer → Answer
-withRoom out rest = cond (ltb (length out) 124) (Refused reason.Buffer) rest
+withRoom out rest = cond (ltb (length out) frameSize) (Refused reason.Buffer) rest
 
 -- R2.4: `rest` is the answer where the default block is lawful
 abbrev pub withDefault : Settings → Answer → Answer

@@ -5,8 +5,8 @@ use mathlib.Core.List.{List}
 use Rattle.frame.specs.Class.{classOf}
 use Rattle.port.specs.Transmit.{due}
 use Rattle.table.specs.Record.{encoded}
-use Rattle.table.specs.Table.{portAt, stateOf, on}
-use Rattle.work.specs.Work.{afterSend, lacpduOf, over}
+use Rattle.table.specs.Table.{portAt, stateOf, onOctets}
+use Rattle.work.specs.Work.{afterSend, lacpduOf, writtenOver}
 use Rattle.control.specs.declared.answer.Answer.{Answer}
 use Rattle.control.specs.Answer.{answerNumber, lengthSent, withRoom, frameAnswer, dueAnswer}
 use Rattle.control.specs.Call.{Call}
@@ -26,12 +26,12 @@ MeetsOut c t a u o = (a ≡ answer c t) × (u ≡ after c t) × (o ≡ outgoing 
 abbrev pub MeetsReceive : List ℕ → ℕ → List ℕ → List ℕ → Answer → List ℕ → List ℕ → Type 0
 MeetsReceive t i frame out a u o =
     (a ≡ withRoom out (frameAnswer (classOf frame) (portAt t i .line) (portAt t i .phase .mux)))
-    × (u ≡ unless a t (on (afterFrame a i frame) t))
+    × (u ≡ unless a t (onOctets (afterFrame a i frame) t))
     × (o ≡ sentFor a (stateOf t) i frame out)
 
 abbrev pub MeetsFetch : List ℕ → ℕ → List ℕ → Answer → List ℕ → List ℕ → Type 0
 MeetsFetch t i out a u o =
-    (a ≡ withRoom out (dueAnswer (due (portAt t i)))) × (u ≡ unless a t (on (afterSend i) t)) × (o ≡ unless a out (over (lacpduOf (stateOf t) i) out))
+    (a ≡ withRoom out (dueAnswer (due (portAt t i)))) × (u ≡ unless a t (onOctets (afterSend i) t)) × (o ≡ unless a out (writtenOver (lacpduOf (stateOf t) i) out))
 
 -- ---- a C function: the answer's number n
 

@@ -1,6 +1,7 @@
 // What a call answers.
 ghost use mathlib.Core.Path.{_≡_};
 ghost use Rattle.control.specs.Answer.{reasonNumber, answerNumber, lengthSent};
+use frame::class::FRAME;
 use frame::class::Refusal;
 use port::record::Port;
 use report::Sets;
@@ -79,7 +80,7 @@ impl Answer {
         match self {
             Answer::Done => 0,
             Answer::Lacpdu => 0,
-            Answer::Marker => 124,
+            Answer::Marker => FRAME as u8,
             Answer::Refused(_) => 0,
         }
     }

@@ -10,8 +10,9 @@ use crate::answer::Answer;
 use crate::answer::PortReport;
 use crate::answer::Reason;
 use crate::constants::no_sets;
-use crate::tests::Found;
+use crate::checks::Found;
 use frame::block::SystemId;
+use frame::class::FRAME;
 use frame::wire::TensOfMicroseconds;
 use machine::states::Line;
 use port::transmit::Due;
@@ -20,7 +21,7 @@ use table::layout::Header;
 
 pub mod answer;
 mod constants;
-mod tests;
+mod checks;
 
 // Starts a table of `count` ports in memory of any content; every port begins with these settings.
 pub fn start(
@@ -51,7 +52,7 @@ pub fn start(
 pub fn receive(table: &mut [u8], n: u32, frame: &[u8], out: &mut [u8]) -> Answer
     ensures { λ r. ⌜ MeetsOut (Call·receive n (now (frame .entry)) (now (out .entry))) (now (table .entry)) r (now (table .exit)) (now (out .exit)) ⌝ }
 {
-    match tests::find(table, n) {
+    match checks::find(table, n) {
         Found::Refused(why) => Answer::Refused(why),
         Found::Port(i) => receive_at(table, i, frame, out),
     }
@@ -61,17 +62,17 @@ fn receive_at(table: &mut [u8], i: usize, frame: &[u8], out: &mut [u8]) -> Answe
     requires { ⌜ InTable (now table) i ⌝ }
     ensures { λ r. ⌜ MeetsReceive (now (table .entry)) i (now (frame .entry)) (now (out .entry)) r (now (table .exit)) (now (out .exit)) ⌝ }
 {
-    if out.len() < 124 {
+    if out.len() < FRAME {
         return Answer::Refused(Reason::Buffer);
     }
     let p = table::load(table, i);
     let line = p.line;
     let phase = p.phase;
     let mux = phase.mux;
-    match tests::judge(frame::class::classify(frame), line, mux) {
+    match checks::judge(frame::class::classify(frame), line, mux) {
         Answer::Done => Answer::Done,
         Answer::Lacpdu => {
-            work::hear(table, i, p, frame);
+            work::receive(table, i, p, frame);
             Answer::Lacpdu
         }
         Answer::Marker => {
@@ -97,7 +98,7 @@ pub fn tick(table: &mut [u8]) -> Answer
 pub fn line(table: &mut [u8], n: u32, up: bool, full: bool) -> Answer
     ensures { λ r. ⌜ Meets (Call·line n (record { up = up; full = full })) (now (table .entry)) r (now (table .exit)) ⌝ }
 {
-    match tests::find(table, n) {
+    match checks::find(table, n) {
         Found::Refused(why) => Answer::Refused(why),
         Found::Port(i) => {
             work::set_line(table, i, Line { up, full });
@@ -110,7 +111,7 @@ pub fn line(table: &mut [u8], n: u32, up: bool, full: bool) -> Answer
 pub fn configure(table: &mut [u8], n: u32, settings: Settings) -> Answer
     ensures { λ r. ⌜ Meets (Call·configure n settings) (now (table .entry)) r (now (table .exit)) ⌝ }
 {
-    match tests::find(table, n) {
+    match checks::find(table, n) {
         Found::Refused(why) => Answer::Refused(why),
         Found::Port(i) => {
             if !settings.is_lawful() {
@@ -126,7 +127,7 @@ pub fn configure(table: &mut [u8], n: u32, settings: Settings) -> Answer
 pub fn fetch(table: &mut [u8], n: u32, out: &mut [u8]) -> Answer
     ensures { λ r. ⌜ MeetsOut (Call·fetch n (now (out .entry))) (now (table .entry)) r (now (table .exit)) (now (out .exit)) ⌝ }
 {
-    match tests::find(table, n) {
+    match checks::find(table, n) {
         Found::Refused(why) => Answer::Refused(why),
         Found::Port(i) => fetch_at(table, i, out),
     }
@@ -136,7 +137,7 @@ fn fetch_at(table: &mut [u8], i: usize, out: &mut [u8]) -> Answer
     requires { ⌜ InTable (now table) i ⌝ }
     ensures { λ r. ⌜ MeetsFetch (now (table .entry)) i (now (out .entry)) r (now (table .exit)) (now (out .exit)) ⌝ }
 {
-    if out.len() < 124 {
+    if out.len() < FRAME {
         return Answer::Refused(Reason::Buffer);
     }
     let p = table::load(table, i);
@@ -154,7 +155,7 @@ fn fetch_at(table: &mut [u8], i: usize, out: &mut [u8]) -> Answer
 pub fn report_port(table: &[u8], n: u32) -> PortReport
     ensures { λ r. ⌜ r ≡ portReport n (now (table .entry)) ⌝ }
 {
-    match tests::find(table, n) {
+    match checks::find(table, n) {
         Found::Refused(why) => PortReport {
             answer: Answer::Refused(why),
             port: table::record::absent(),
@@ -170,7 +171,7 @@ pub fn report_port(table: &[u8], n: u32) -> PortReport
 pub fn report_aggregator(table: &[u8], n: u32) -> AggregatorReport
     ensures { λ r. ⌜ r ≡ aggregatorReport n (now (table .entry)) ⌝ }
 {
-    match tests::find(table, n) {
+    match checks::find(table, n) {
         Found::Refused(why) => AggregatorReport {
             answer: Answer::Refused(why),
             sets: no_sets(),

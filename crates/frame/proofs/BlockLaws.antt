@@ -12,7 +12,7 @@ use Rattle.octets.proofs.Laws.{number-back, spread-all}
 use Rattle.octets.proofs.OctetLists.{first-back, second-back}
 use Rattle.frame.specs.declared.state.PortState.{PortState}
 use Rattle.frame.specs.declared.block.Block.{Block}
-use Rattle.frame.specs.State.{weighed, stateOctet, stateOf}
+use Rattle.frame.specs.State.{weighed, stateOctet, portStateOf}
 use Rattle.frame.specs.Block.{blockOf, blockOctets}
 
 -- ---- the state octet
@@ -66,8 +66,8 @@ octet-digits s =
     )
 
 -- an octet's bits are those of the state that it was made of
-pub state-back : (s : PortState) → stateOf (stateOctet s) ≡ s
-state-back s =
+pub port-state-back : (s : PortState) → portStateOf (stateOctet s) ≡ s
+port-state-back s =
     let ds = digits-back (digit (s .activity)) (digit (s .timeout)) (digit (s .aggregation)) (digit (s .synchronization))
     (digit (s .collecting)) (digit (s .distributing)) (digit (s .defaulted)) (digit (s .expired))
     (digit-le (s .activity)) (digit-le (s .timeout)) (digit-le (s .aggregation)) (digit-le (s .synchronization))
@@ -99,7 +99,7 @@ set-weight : (n : ℕ) {d : ℕ} → d < 2 → weighed (eqb d 1) n ≡ n * d
 set-weight n {d} k = weighed-digit (eqb d 1) n ∙ ap (λ (x : ℕ). n * x) (set-digit d k)
 
 -- an octet is made again of its bits
-pub octet-back : (o : ℕ) → o < 256 → stateOctet (stateOf o) ≡ o
+pub octet-back : (o : ℕ) → o < 256 → stateOctet (portStateOf o) ≡ o
 octet-back o h =
     let two : (n : ℕ) → n % 2 < 2 = λ n. omega arith in
     (λ i. set-weight 1 (two o) i + set-weight 2 (two (o / 2)) i + set-weight 4 (two (o / 4)) i + set-weight 8 (two (o / 8)) i
@@ -136,12 +136,12 @@ block-back b = λ i. record {
   };
   key = number-back (b .key) i;
   port = record { priority = number-back (b .port .priority) i; number = number-back (b .port .number) i };
-  state = state-back (b .state) i;
+  state = port-state-back (b .state) i;
 }
 
 -- octets to block to octets
-pub octets-back : (l : List ℕ) → length l ≡ 15 → Octets l → blockOctets (blockOf l) ≡ l
-octets-back l n o =
+pub block-octets-back : (l : List ℕ) → length l ≡ 15 → Octets l → blockOctets (blockOf l) ≡ l
+block-octets-back l n o =
     let first = first-back l o in
     let second = second-back l o in
     (λ i. first 0 i ∷ second 0 i ∷ first 2 i ∷ second 2 i ∷ first 4 i ∷ second 4 i ∷ first 6 i ∷ second 6 i

@@ -10,7 +10,7 @@ use Rattle.octets.specs.Octets.{sameOctets}
 use Rattle.frame.specs.declared.class.Class.{Class}
 use Rattle.frame.specs.declared.class.Class.the-variants.{Lacpdu, Marker, Response, Refused}
 use Rattle.frame.specs.declared.class.Refusal.the-variants.{Foreign, Unknown, Illegal}
-use Rattle.frame.specs.Class.{foreign, unknown, illegal, noSubtype, oddSubtype, short, wrongLength, wrongMarkerType, classOf, accepted, slowAddress}
+use Rattle.frame.specs.Class.{foreign, unknown, illegal, noSubtype, oddSubtype, short, wrongLength, wrongMarkerType, classOf, kindOf, slowAddress, frameSize}
 
 left-clear : (a b : Bool) → a || b ≡ false → a ≡ false
 left-clear true b e = e
@@ -25,25 +25,25 @@ pub foreign-clear : (l : List ℕ) → foreign l ≡ false → 14 ≤ length l
 unfolding foreign
 foreign-clear l e = ltb-false (length l) 14 (left-clear (ltb (length l) 14) (not (sameOctets (take 6 l) slowAddress)) e)
 
-pub illegal-clear : (l : List ℕ) → illegal l ≡ false → 124 ≤ length l
+pub illegal-clear : (l : List ℕ) → illegal l ≡ false → frameSize ≤ length l
 unfolding illegal
 illegal-clear l e =
     let upTo = noSubtype l || oddSubtype l in
-    ltb-false (length l) 124
+    ltb-false (length l) frameSize
     (right-clear upTo (short l) (left-clear (upTo || short l) (wrongLength l) (left-clear (upTo || short l || wrongLength l) (wrongMarkerType l) e)))
 
 -- a frame that is not refused has 124 octets or more, so that its blocks are there
-abbrev pub heard : Class → Bool
-heard Lacpdu = true
-heard Marker = true
-heard Response = true
-heard (Refused r) = false
+abbrev pub passes : Class → Bool
+passes Lacpdu = true
+passes Marker = true
+passes Response = true
+passes (Refused r) = false
 
-pub heard-whole : (l : List ℕ) → heard (classOf l) ≡ true → 124 ≤ length l
+pub passed-whole : (l : List ℕ) → passes (classOf l) ≡ true → frameSize ≤ length l
 unfolding classOf
-heard-whole l h = go (foreign l) (unknown l) (illegal l) refl h
+passed-whole l h = go (foreign l) (unknown l) (illegal l) refl h
   where
-    go : (f u i : Bool) → illegal l ≡ i → heard (cond f (Refused Foreign) (cond u (Refused Unknown) (cond i (Refused Illegal) (accepted l)))) ≡ true → 124 ≤ length l
+    go : (f u i : Bool) → illegal l ≡ i → passes (cond f (Refused Foreign) (cond u (Refused Unknown) (cond i (Refused Illegal) (kindOf l)))) ≡ true → frameSize ≤ length l
     go true u i e h = absurd (false≢true h)
     go false true i e h = absurd (false≢true h)
     go false false true e h = absurd (false≢true h)

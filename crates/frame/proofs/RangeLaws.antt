@@ -6,7 +6,7 @@ use mathlib.Core.List.{List, [], _∷_, _++_}
 use lib.ListN.{drop}
 use Rattle.octets.specs.Octets.{Octets, numberOctets, fits}
 use Rattle.octets.proofs.OctetLists.{octets-of, append-octets, take-octets, drop-octets}
-use Rattle.octets.proofs.RangeLaws.{both, joined, number-fits, number-octets}
+use Rattle.octets.proofs.RangeLaws.{both, both-true, number-fits, number-octets}
 use Rattle.frame.specs.declared.block.Address.{Address}
 use Rattle.frame.specs.declared.block.Block.{Block}
 use Rattle.frame.specs.State.{stateOctet}
@@ -15,12 +15,12 @@ use Rattle.frame.specs.Wire.{part}
 use Rattle.frame.proofs.BlockLaws.{octet-le}
 
 pub address-fits : (l : List ℕ) → Octets l → (i : ℕ) → addressFits (addressAt l i) ≡ true
-address-fits l o i = joined (number-fits l o i) (joined (number-fits l o (i + 2)) (number-fits l o (i + 4)))
+address-fits l o i = both-true (number-fits l o i) (both-true (number-fits l o (i + 2)) (number-fits l o (i + 4)))
 
 pub block-fits : (l : List ℕ) → Octets l → blockFits (blockOf l) ≡ true
 unfolding blockFits
 block-fits l o =
-    joined (number-fits l o 0) (joined (address-fits l o 2) (joined (number-fits l o 8) (joined (number-fits l o 10) (number-fits l o 12))))
+    both-true (number-fits l o 0) (both-true (address-fits l o 2) (both-true (number-fits l o 8) (both-true (number-fits l o 10) (number-fits l o 12))))
 
 -- a block that was read from a part of octets fits
 pub part-fits : (a e : ℕ) (l : List ℕ) → Octets l → blockFits (blockOf (part a e l)) ≡ true

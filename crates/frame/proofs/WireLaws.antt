@@ -18,7 +18,7 @@ use Rattle.frame.specs.declared.wire.MarkerType.{MarkerType}
 use Rattle.frame.specs.declared.wire.MarkerType.the-variants.{Marker, Response}
 use Rattle.frame.specs.declared.wire.TensOfMicroseconds.{TensOfMicroseconds}
 use Rattle.frame.specs.Block.{blockOf, blockOctets}
-use Rattle.frame.specs.Class.{classOf, foreign, unknown, illegal, wrongLength, wrongMarkerType}
+use Rattle.frame.specs.Class.{classOf, foreign, unknown, illegal, wrongLength, wrongMarkerType, frameSize}
 use Rattle.frame.specs.Wire.{actorPart, partnerPart, requestPart, lacpdu, marker, zeros}
 use Rattle.frame.proofs.BlockLaws.{block-back}
 
@@ -41,11 +41,11 @@ module _ (source : Address) (actor partner : Block) (delay : TensOfMicroseconds)
   partner-back = ap blockOf partner-octets ∙ block-back partner
 
   -- a written LACPDU passes the frame tests as an LACPDU
-  pub lacpdu-heard : classOf sent ≡ class.Lacpdu
+  pub lacpdu-passes : classOf sent ≡ class.Lacpdu
   unfolding classOf foreign unknown illegal wrongLength wrongMarkerType sameOctets
-  lacpdu-heard =
-      let long : (n : ℕ) → n ≤ 124 → ltb (length sent) n ≡ false = λ n h. le-ltb (length sent) n (omega arith) in
-      rw (long 14 (omega arith), long 15 (omega arith), long 124 (omega arith))
+  lacpdu-passes =
+      let long : (n : ℕ) → n ≤ frameSize → ltb (length sent) n ≡ false = λ n h. le-ltb (length sent) n (omega arith) in
+      rw (long 14 (omega arith), long 15 (omega arith), long frameSize (omega arith))
 
 abbrev pub classOfType : MarkerType → Class
 classOfType Marker = class.Marker
@@ -56,13 +56,13 @@ module _ (source : Address) (request rest : List ℕ) (twelve : length request �
   pub request-back : (kind : MarkerType) → requestPart (marker source kind request ++ rest) ≡ request
   request-back kind = rw (append-assoc request (zeros 4 ++ zeros 90) rest) (take-at request ((zeros 4 ++ zeros 90) ++ rest) 12 twelve)
 
-  long : (kind : MarkerType) (n : ℕ) → n ≤ 124 → ltb (length (marker source kind request ++ rest)) n ≡ false
+  long : (kind : MarkerType) (n : ℕ) → n ≤ frameSize → ltb (length (marker source kind request ++ rest)) n ≡ false
   long kind n h =
       let tail = request ++ (zeros 4 ++ zeros 90) in
       le-ltb (length (marker source kind request ++ rest)) n (omega (arith, length-append tail rest, length-append request (zeros 4 ++ zeros 90)))
 
   -- a written Marker passes the frame tests as a Marker, a written Response as a Response
-  pub marker-heard : (kind : MarkerType) → classOf (marker source kind request ++ rest) ≡ classOfType kind
+  pub marker-passes : (kind : MarkerType) → classOf (marker source kind request ++ rest) ≡ classOfType kind
   unfolding classOf foreign unknown illegal wrongLength wrongMarkerType sameOctets
-  marker-heard Marker = rw (long Marker 14 (omega arith), long Marker 15 (omega arith), long Marker 124 (omega arith))
-  marker-heard Response = rw (long Response 14 (omega arith), long Response 15 (omega arith), long Response 124 (omega arith))
+  marker-passes Marker = rw (long Marker 14 (omega arith), long Marker 15 (omega arith), long Marker frameSize (omega arith))
+  marker-passes Response = rw (long Response 14 (omega arith), long Response 15 (omega arith), long Response frameSize (omega arith))

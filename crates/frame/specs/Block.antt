@@ -6,7 +6,7 @@ use lib.ListN.{getD}
 use Rattle.octets.specs.Octets.{numberAt, numberOctets, fits}
 use Rattle.frame.specs.declared.block.Address.{Address}
 use Rattle.frame.specs.declared.block.Block.{Block}
-use Rattle.frame.specs.State.{stateOctet, stateOf}
+use Rattle.frame.specs.State.{stateOctet, portStateOf}
 
 abbrev pub addressAt : List ℕ → ℕ → Address
 addressAt l i = record { high = numberAt l i; middle = numberAt l (i + 2); low = numberAt l (i + 4) }
@@ -19,7 +19,7 @@ blockOf l = record {
   system = record { priority = numberAt l 0; address = addressAt l 2 };
   key = numberAt l 8;
   port = record { priority = numberAt l 10; number = numberAt l 12 };
-  state = stateOf (getD l 14 0);
+  state = portStateOf (getD l 14 0);
 }
 
 abbrev pub blockOctets : Block → List ℕ

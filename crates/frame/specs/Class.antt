@@ -41,9 +41,13 @@ unknown l = not (eqb (numberAt l 12) slowType) || (not (noSubtype l) && (leb 3 (
 abbrev pub oddSubtype : List ℕ → Bool
 oddSubtype l = eqb (octet l 14) 0 || leb 11 (octet l 14)
 
--- too short for an LACPDU, a Marker or a Response
+-- the octets of an LACPDU, a Marker or a Response, without the check sequence
+abbrev pub frameSize : ℕ
+frameSize = 124
+
+-- too short to be one
 abbrev pub short : List ℕ → Bool
-short l = ltb (length l) 124
+short l = ltb (length l) frameSize
 
 -- a length octet that is wrong: the three of an LACPDU, the one of a Marker or Response
 unfoldable pub wrongLength : List ℕ → Bool
@@ -58,8 +62,8 @@ unfoldable pub illegal : List ℕ → Bool
 illegal l = noSubtype l || oddSubtype l || short l || wrongLength l || wrongMarkerType l
 
 -- what a frame is that none of the three refuses (R5.6)
-abbrev pub accepted : List ℕ → Class
-accepted l = cond (eqb (octet l 14) 1) Lacpdu (cond (eqb (octet l 16) 1) Marker Response)
+abbrev pub kindOf : List ℕ → Class
+kindOf l = cond (eqb (octet l 14) 1) Lacpdu (cond (eqb (octet l 16) 1) Marker Response)
 
 unfoldable pub classOf : List ℕ → Class
-classOf l = cond (foreign l) (Refused Foreign) (cond (unknown l) (Refused Unknown) (cond (illegal l) (Refused Illegal) (accepted l)))
+classOf l = cond (foreign l) (Refused Foreign) (cond (unknown l) (Refused Unknown) (cond (illegal l) (Refused Illegal) (kindOf l)))

@@ -18,8 +18,8 @@ stateOctet s =
 abbrev pub bit : ℕ → ℕ → Bool
 bit o n = eqb (o / n % 2) 1
 
-abbrev pub stateOf : ℕ → PortState
-stateOf o = record {
+abbrev pub portStateOf : ℕ → PortState
+portStateOf o = record {
   activity = eqb (o % 2) 1;
   timeout = bit o 2;
   aggregation = bit o 4;

@@ -2,7 +2,7 @@
 ghost use mathlib.Core.Path.{_≡_};
 ghost use Prim.Native.Nat.{_≤_};
 ghost use lib.ListN.{length};
-ghost use Rattle.frame.specs.Class.{refusalNumber, classOf, foreign, unknown, wrongLength, wrongMarkerType, illegal};
+ghost use Rattle.frame.specs.Class.{refusalNumber, classOf, foreign, unknown, wrongLength, wrongMarkerType, illegal, frameSize};
 
 // Why the frame tests refuse a frame; the definition `refusalNumber` gives the answer number of each.
 pub enum Refusal {
@@ -34,6 +34,10 @@ pub enum Class {
     Refused(Refusal),
 }
 
+// The octets of an LACPDU, a Marker or a Response.
+pub const FRAME: usize = 124;
+// The type of the Slow Protocols.
+pub const SLOW_TYPE: u16 = 0x8809;
 pub const DESTINATION: [u8; 6] = [0x01, 0x80, 0xc2, 0x00, 0x00, 0x02];
 
 // R5.1: too short for a header, or sent to somebody else.
@@ -51,7 +55,7 @@ fn is_unknown(s: &[u8]) -> bool
     requires { ⌜ 14 ≤ length (now s) ⌝ }
     ensures { λ r. ⌜ r ≡ unknown (now (s .entry)) ⌝ }
 {
-    if octets::number(s, 12) != 0x8809 {
+    if octets::number(s, 12) != SLOW_TYPE {
         return true;
     }
     if s.len() < 15 {
@@ -62,7 +66,7 @@ fn is_unknown(s: &[u8]) -> bool
 
 // Of R5.3: a length octet that is wrong, of an LACPDU, a Marker or a Response.
 fn has_wrong_length(s: &[u8]) -> bool
-    requires { ⌜ 124 ≤ length (now s) ⌝ }
+    requires { ⌜ frameSize ≤ length (now s) ⌝ }
     ensures { λ r. ⌜ r ≡ wrongLength (now (s .entry)) ⌝ }
 {
     if s[14] == 1 {
@@ -73,7 +77,7 @@ fn has_wrong_length(s: &[u8]) -> bool
 
 // Of R5.3: subtype 2, and neither a Marker nor a Response.
 fn has_wrong_marker_type(s: &[u8]) -> bool
-    requires { ⌜ 124 ≤ length (now s) ⌝ }
+    requires { ⌜ frameSize ≤ length (now s) ⌝ }
     ensures { λ r. ⌜ r ≡ wrongMarkerType (now (s .entry)) ⌝ }
 {
     (s[14] == 2) & !((s[16] == 1) | (s[16] == 2))
@@ -89,7 +93,7 @@ fn is_illegal(s: &[u8]) -> bool
     if (s[14] == 0) | (11 <= s[14]) {
         return true;
     }
-    if s.len() < 124 {
+    if s.len() < FRAME {
         return true;
     }
     has_wrong_length(s) | has_wrong_marker_type(s)

@@ -1,7 +1,7 @@
 // The state octet of an information block (43.4.2.2): eight bits, Activity in bit 0.
 ghost use mathlib.Core.Path.{_≡_};
 ghost use Prim.Native.Nat.{_≤_};
-ghost use Rattle.frame.specs.State.{weighed, stateOctet, stateOf};
+ghost use Rattle.frame.specs.State.{weighed, stateOctet, portStateOf};
 
 pub struct PortState {
     pub activity: bool,
@@ -24,7 +24,7 @@ fn weigh(bit: bool, n: u8) -> u8
 impl PortState {
     // The bits of an octet.
     pub fn of_octet(o: u8) -> Self
-        ensures { λ r. ⌜ r ≡ stateOf o ⌝ }
+        ensures { λ r. ⌜ r ≡ portStateOf o ⌝ }
     {
         PortState {
             activity: o % 2 == 1,

@@ -3,11 +3,13 @@ ghost use mathlib.Core.Path.{_≡_};
 ghost use mathlib.Core.List.{_++_};
 ghost use Prim.Native.Nat.{_≤_};
 ghost use lib.ListN.{length, drop};
+ghost use Rattle.frame.specs.Class.{frameSize};
 ghost use Rattle.octets.specs.Octets.{putAt};
 ghost use Rattle.frame.specs.Wire.{actorPart, partnerPart, requestPart, applying, opening, markerTypeOctet, lacpdu, marker, response};
 use crate::block::Address;
 use crate::block::Block;
 use crate::class::DESTINATION;
+use crate::class::SLOW_TYPE;
 
 // CollectorMaxDelay counts tens of microseconds (43.2.3.1.1), and is never a number of ticks.
 pub struct TensOfMicroseconds(pub u16);
@@ -26,7 +28,7 @@ pub enum Source {
 
 // The actor's information block of an LACPDU, as a part of the frame itself.
 pub fn actor(frame: &[u8]) -> &[u8]
-    requires { ⌜ 124 ≤ length (now frame) ⌝ }
+    requires { ⌜ frameSize ≤ length (now frame) ⌝ }
     ensures { λ r. ⌜ (now r ≡ actorPart (now (frame .entry))) × (length (now r) ≡ 15) ⌝ }
 {
     &frame[18..33]
@@ -34,7 +36,7 @@ pub fn actor(frame: &[u8]) -> &[u8]
 
 // The partner's information block of an LACPDU, as a part of the frame itself.
 pub fn partner(frame: &[u8]) -> &[u8]
-    requires { ⌜ 124 ≤ length (now frame) ⌝ }
+    requires { ⌜ frameSize ≤ length (now frame) ⌝ }
     ensures { λ r. ⌜ (now r ≡ partnerPart (now (frame .entry))) × (length (now r) ≡ 15) ⌝ }
 {
     &frame[38..53]
@@ -42,7 +44,7 @@ pub fn partner(frame: &[u8]) -> &[u8]
 
 // Requester port, requester system and transaction of a Marker PDU, as a part of the frame itself.
 pub fn request(frame: &[u8]) -> &[u8]
-    requires { ⌜ 124 ≤ length (now frame) ⌝ }
+    requires { ⌜ frameSize ≤ length (now frame) ⌝ }
     ensures { λ r. ⌜ (now r ≡ requestPart (now (frame .entry))) × (length (now r) ≡ 12) ⌝ }
 {
     &frame[18..30]
@@ -60,12 +62,13 @@ pub fn recorded<'a>(source: Source, pdu: &'a [u8], default: &'a [u8]) -> &'a [u8
 
 // Octets 0 to 17: destination, source, type 88-09, subtype, version 1, and the type and length of the first TLV.
 fn write_opening(out: &mut [u8], source: Address, subtype: u8, first: u8, size: u8)
-    requires { ⌜ 124 ≤ length (now out) ⌝ }
+    requires { ⌜ frameSize ≤ length (now out) ⌝ }
     ensures { λ _. ⌜ now (out .exit) ≡ putAt 0 (opening source subtype first size) (now (out .entry)) ⌝ }
 {
     octets::put(out, 0, &DESTINATION);
     source.write(out, 6);
-    octets::put(out, 12, &[0x88, 0x09, subtype, 1, first, size]);
+    octets::put_number(out, 12, SLOW_TYPE);
+    octets::put(out, 14, &[subtype, 1, first, size]);
 }
 
 // Writes an LACPDU over the first 124 octets of out. A block's writer gets its own part of them (R18.1).
@@ -76,8 +79,8 @@ pub fn write_lacpdu(
     partner: Block,
     delay: TensOfMicroseconds,
 )
-    requires { ⌜ 124 ≤ length (now out) ⌝ }
-    ensures { λ _. ⌜ now (out .exit) ≡ lacpdu source actor partner delay ++ drop 124 (now (out .entry)) ⌝ }
+    requires { ⌜ frameSize ≤ length (now out) ⌝ }
+    ensures { λ _. ⌜ now (out .exit) ≡ lacpdu source actor partner delay ++ drop frameSize (now (out .entry)) ⌝ }
 {
     write_opening(out, source, 1, 1, 20);
     actor.write(&mut out[18..33]);
@@ -99,8 +102,8 @@ fn marker_type_octet(kind: MarkerType) -> u8
 
 // Writes a Marker PDU over the first 124 octets of out; `request` is its octets 18 to 29.
 pub fn write_marker(out: &mut [u8], source: Address, kind: MarkerType, request: &[u8])
-    requires { ⌜ (124 ≤ length (now out)) × (length (now request) ≡ 12) ⌝ }
-    ensures { λ _. ⌜ now (out .exit) ≡ marker source kind (now (request .entry)) ++ drop 124 (now (out .entry)) ⌝ }
+    requires { ⌜ (frameSize ≤ length (now out)) × (length (now request) ≡ 12) ⌝ }
+    ensures { λ _. ⌜ now (out .exit) ≡ marker source kind (now (request .entry)) ++ drop frameSize (now (out .entry)) ⌝ }
 {
     write_opening(out, source, 2, marker_type_octet(kind), 16);
     octets::put(out, 18, request);
@@ -109,8 +112,8 @@ pub fn write_marker(out: &mut [u8], source: Address, kind: MarkerType, request: 
 
 // Writes the Response to a received Marker over the first 124 octets of out: the Marker's request, and nothing else of it.
 pub fn write_response(out: &mut [u8], source: Address, received: &[u8])
-    requires { ⌜ (124 ≤ length (now out)) × (124 ≤ length (now received)) ⌝ }
-    ensures { λ _. ⌜ now (out .exit) ≡ response source (now (received .entry)) ++ drop 124 (now (out .entry)) ⌝ }
+    requires { ⌜ (frameSize ≤ length (now out)) × (frameSize ≤ length (now received)) ⌝ }
+    ensures { λ _. ⌜ now (out .exit) ≡ response source (now (received .entry)) ++ drop frameSize (now (out .entry)) ⌝ }
 {
     write_marker(out, source, MarkerType::Response, request(received));
 }

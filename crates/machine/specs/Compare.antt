@@ -21,7 +21,7 @@ sameNumbers x y =
     sameSystem (x .system) (y .system)
     && (eqb (x .key) (y .key) && (eqb (x .port .priority) (y .port .priority) && eqb (x .port .number) (y .port .number)))
 
--- and Aggregation: what update_Selected, update_Default_Selected and recordPDU compare
+-- and Aggregation: what update_Selected, update_Default_Selected and recordPDU compare (43.4.9)
 unfoldable pub sameParty : Block → Block → Bool
 sameParty x y = sameNumbers x y && alike (x .state .aggregation) (y .state .aggregation)
 
@@ -35,7 +35,7 @@ pub record Party : Type 0 where
 abbrev pub party : Block → Party
 party b = record { system = b .system; key = b .key; port = b .port; aggregation = b .state .aggregation }
 
--- and Activity, Timeout, Synchronization: what update_NTT compares
+-- and Activity, Timeout, Synchronization: what update_NTT compares (43.4.9)
 unfoldable pub sameView : Block → Block → Bool
 sameView x y =
     sameParty x y
@@ -46,7 +46,7 @@ sameView x y =
 unfoldable pub maintained : Block → Block → Block → Bool
 maintained us a b = a .state .activity || (us .state .activity && b .state .activity)
 
--- Partner_Oper_Port_State.Synchronization, as recordPDU sets it
+-- Partner_Oper_Port_State.Synchronization, as recordPDU sets it (43.4.9)
 unfoldable pub inSync : Block → Block → Block → Bool
 inSync us a b = a .state .synchronization && (maintained us a b && (sameParty b us || not (a .state .aggregation)))
 

@@ -14,17 +14,17 @@ use Rattle.machine.specs.Bits.{alike}
 abbrev pub phase : Receive → Periodic → Mux → Selection → Phase
 phase r q m s = record { receive = r; periodic = q; mux = m; selected = s }
 
-abbrev pub receiving : Receive → Phase → Phase
-receiving r h = phase r (h .periodic) (h .mux) (h .selected)
+abbrev pub phaseReceive : Receive → Phase → Phase
+phaseReceive r h = phase r (h .periodic) (h .mux) (h .selected)
 
-abbrev pub pacing : Periodic → Phase → Phase
-pacing q h = phase (h .receive) q (h .mux) (h .selected)
+abbrev pub phasePeriodic : Periodic → Phase → Phase
+phasePeriodic q h = phase (h .receive) q (h .mux) (h .selected)
 
-abbrev pub muxing : Mux → Phase → Phase
-muxing m h = phase (h .receive) (h .periodic) m (h .selected)
+abbrev pub phaseMux : Mux → Phase → Phase
+phaseMux m h = phase (h .receive) (h .periodic) m (h .selected)
 
-abbrev pub selecting : Selection → Phase → Phase
-selecting s h = phase (h .receive) (h .periodic) (h .mux) s
+abbrev pub phaseSelected : Selection → Phase → Phase
+phaseSelected s h = phase (h .receive) (h .periodic) (h .mux) s
 
 abbrev pub ticks : ℕ → Ticks
 ticks n = record { 0 = n }
@@ -32,14 +32,14 @@ ticks n = record { 0 = n }
 abbrev pub timers : Ticks → Ticks → Ticks → Timers
 timers c q w = record { current = c; periodic = q; wait = w }
 
-abbrev pub currently : ℕ → Timers → Timers
-currently n t = timers (ticks n) (t .periodic) (t .wait)
+abbrev pub timersCurrent : ℕ → Timers → Timers
+timersCurrent n t = timers (ticks n) (t .periodic) (t .wait)
 
-abbrev pub paced : ℕ → Timers → Timers
-paced n t = timers (t .current) (ticks n) (t .wait)
+abbrev pub timersPeriodic : ℕ → Timers → Timers
+timersPeriodic n t = timers (t .current) (ticks n) (t .wait)
 
-abbrev pub waiting : ℕ → Timers → Timers
-waiting n t = timers (t .current) (t .periodic) (ticks n)
+abbrev pub timersWait : ℕ → Timers → Timers
+timersWait n t = timers (t .current) (t .periodic) (ticks n)
 
 -- LACP is not enabled, the port is not enabled, or both ends are passive
 abbrev pub quietOn : Line → Bool → Bool

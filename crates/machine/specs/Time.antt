@@ -6,19 +6,23 @@ use Rattle.machine.specs.declared.states.Ticks.{Ticks}
 use Rattle.machine.specs.declared.states.Timers.{Timers}
 use Rattle.machine.specs.States.{ticks, timers}
 
--- Fast_Periodic_Time, Slow_Periodic_Time, Short_Timeout_Time, Long_Timeout_Time, Aggregate_Wait_Time
+-- Fast_Periodic_Time
 abbrev pub fastPeriodicTime : ℕ
 fastPeriodicTime = 10
 
+-- Slow_Periodic_Time
 abbrev pub slowPeriodicTime : ℕ
 slowPeriodicTime = 300
 
+-- Short_Timeout_Time
 abbrev pub shortTimeoutTime : ℕ
 shortTimeoutTime = 30
 
+-- Long_Timeout_Time
 abbrev pub longTimeoutTime : ℕ
 longTimeoutTime = 900
 
+-- Aggregate_Wait_Time
 abbrev pub aggregateWaitTime : ℕ
 aggregateWaitTime = 20
 

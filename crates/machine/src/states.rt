@@ -1,6 +1,6 @@
 // The states and timers of which a port's machines are made, without the record that holds them.
 ghost use mathlib.Core.Path.{_≡_};
-ghost use Rattle.machine.specs.States.{receiving, pacing, muxing, selecting, currently, paced, waiting, quietOn, silentOn, sameLine};
+ghost use Rattle.machine.specs.States.{phaseReceive, phasePeriodic, phaseMux, phaseSelected, timersCurrent, timersPeriodic, timersWait, quietOn, silentOn, sameLine};
 use crate::compare::alike;
 
 // The states of 43.4.12. The constant beside a refusal is the first of each enum.
@@ -68,7 +68,7 @@ pub struct Ages {
 
 impl Phase {
     pub fn with_receive(self, receive: Receive) -> Self
-        ensures { λ r. ⌜ r ≡ receiving receive self ⌝ }
+        ensures { λ r. ⌜ r ≡ phaseReceive receive self ⌝ }
     {
         let periodic = self.periodic;
         let mux = self.mux;
@@ -82,7 +82,7 @@ impl Phase {
     }
 
     pub fn with_periodic(self, periodic: Periodic) -> Self
-        ensures { λ r. ⌜ r ≡ pacing periodic self ⌝ }
+        ensures { λ r. ⌜ r ≡ phasePeriodic periodic self ⌝ }
     {
         let receive = self.receive;
         let mux = self.mux;
@@ -96,7 +96,7 @@ impl Phase {
     }
 
     pub fn with_mux(self, mux: Mux) -> Self
-        ensures { λ r. ⌜ r ≡ muxing mux self ⌝ }
+        ensures { λ r. ⌜ r ≡ phaseMux mux self ⌝ }
     {
         let receive = self.receive;
         let periodic = self.periodic;
@@ -110,7 +110,7 @@ impl Phase {
     }
 
     pub fn with_selected(self, selected: Selection) -> Self
-        ensures { λ r. ⌜ r ≡ selecting selected self ⌝ }
+        ensures { λ r. ⌜ r ≡ phaseSelected selected self ⌝ }
     {
         let receive = self.receive;
         let periodic = self.periodic;
@@ -127,7 +127,7 @@ impl Phase {
 // A timer is started with its time, or stopped with 0.
 impl Timers {
     pub fn with_current(mut self, n: u16) -> Self
-        ensures { λ r. ⌜ r ≡ currently n self ⌝ }
+        ensures { λ r. ⌜ r ≡ timersCurrent n self ⌝ }
     {
         let t = Ticks(n);
         self.current = t;
@@ -135,7 +135,7 @@ impl Timers {
     }
 
     pub fn with_periodic(mut self, n: u16) -> Self
-        ensures { λ r. ⌜ r ≡ paced n self ⌝ }
+        ensures { λ r. ⌜ r ≡ timersPeriodic n self ⌝ }
     {
         let t = Ticks(n);
         self.periodic = t;
@@ -143,7 +143,7 @@ impl Timers {
     }
 
     pub fn with_wait(mut self, n: u16) -> Self
-        ensures { λ r. ⌜ r ≡ waiting n self ⌝ }
+        ensures { λ r. ⌜ r ≡ timersWait n self ⌝ }
     {
         let t = Ticks(n);
         self.wait = t;

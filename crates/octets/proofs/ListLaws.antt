@@ -52,8 +52,8 @@ sweep-keeps g f keeps i [] = refl
 sweep-keeps g f keeps i (x ∷ xs) = λ k. keeps i x k ∷ sweep-keeps g f keeps (i + 1) xs k
 
 -- a sweep that does not look at the index is a map
-abbrev pub each : {A B : Type 0} → (A → B) → ℕ → A → B
-each g i x = g x
+abbrev pub pointwise : {A B : Type 0} → (A → B) → ℕ → A → B
+pointwise g i x = g x
 
 pub sweep-map : {A B : Type 0} (g : A → B) (i : ℕ) (xs : List A) → mapFrom (λ j x. g x) i xs ≡ map g xs
 unfolding mapFrom

@@ -14,8 +14,8 @@ use Rattle.octets.proofs.OctetLists.{octets-of}
 pub both : (a b : Bool) → a && b ≡ true → (a ≡ true) × (b ≡ true)
 both a b e = and-eq-true-iff a b .0 e
 
-pub joined : {a b : Bool} → a ≡ true → b ≡ true → a && b ≡ true
-joined {a} {b} p q = and-eq-true-iff a b .1 (p, q)
+pub both-true : {a b : Bool} → a ≡ true → b ≡ true → a && b ≡ true
+both-true {a} {b} p q = and-eq-true-iff a b .1 (p, q)
 
 pub within-true : (low n high : ℕ) → within low n high ≡ true → (low ≤ n) × (n ≤ high)
 within-true low n high e =
@@ -23,7 +23,7 @@ within-true low n high e =
     (leb-true low n (two .0), leb-true n high (two .1))
 
 pub within-is : (low n high : ℕ) → low ≤ n → n ≤ high → within low n high ≡ true
-within-is low n high p q = joined (le-leb low n p) (le-leb n high q)
+within-is low n high p q = both-true (le-leb low n p) (le-leb n high q)
 
 -- what is within a range of octets is an octet
 pub small : (low n high : ℕ) → within low n high ≡ true → high < 256 → n < 256

@@ -10,7 +10,7 @@ use Rattle.machine.specs.declared.periodic.PeriodicStep.the-variants.{Stay, Ent
 use Rattle.machine.specs.Periodic.{periodicNext, periodicTime}
 use Rattle.machine.specs.Time.{ranOut}
 use Rattle.port.specs.declared.record.Port.{Port}
-use Rattle.port.specs.Record.{withNtt, withPace, withPeriodic}
+use Rattle.port.specs.Record.{withNtt, withPeriodicTimer, withPeriodic}
 use Rattle.port.specs.Periodic.{quiet, periodicEntered, periodicTaken, periodicChoice, periodicStep, periodicRun}
 
 -- what the transitions look at
@@ -94,7 +94,7 @@ periodic-idle p e = ap periodicStep e ∙ e
 
 -- everything but its own state, its timer and NTT is as it was
 abbrev pub besidePeriodic : Port → Port
-besidePeriodic p = withNtt (withPace (withPeriodic p NoPeriodic) 0) false
+besidePeriodic p = withNtt (withPeriodicTimer (withPeriodic p NoPeriodic) 0) false
 
 taken-keeps : (k : PeriodicStep) (p : Port) → besidePeriodic (periodicTaken k p) ≡ besidePeriodic p
 taken-keeps Stay p = refl

@@ -7,7 +7,7 @@ use native.Mathlib.Omega.{arith}
 use lib.Dec.{leb, ltb, eqb}
 use borrow.Author.Tests.{leb-true, leb-false, le-leb, ltb-true, lt-ltb, eqb-true}
 use Rattle.octets.specs.Octets.{within, fits}
-use Rattle.octets.proofs.RangeLaws.{both, joined}
+use Rattle.octets.proofs.RangeLaws.{both, both-true}
 use Rattle.frame.specs.declared.block.Block.{Block}
 use Rattle.frame.specs.declared.block.SystemId.{SystemId}
 use Rattle.frame.specs.Block.{addressFits, blockFits}
@@ -24,14 +24,14 @@ use Rattle.machine.specs.declared.states.Ages.{Ages}
 use Rattle.machine.specs.declared.mux.MuxStep.{MuxStep}
 use Rattle.machine.specs.declared.mux.MuxStep.the-variants.{Stay, Enter}
 use Rattle.machine.specs.declared.periodic.PeriodicStep.{PeriodicStep}
-use Rattle.machine.specs.declared.periodic.PeriodicStep.the-variants as pace
+use Rattle.machine.specs.declared.periodic.PeriodicStep.the-variants as periodic
 use Rattle.machine.specs.declared.receive.ReceiveStep.{ReceiveStep}
 use Rattle.machine.specs.declared.receive.ReceiveStep.the-variants as receive
 use Rattle.machine.specs.Ages.{forgottenAge, noSend, ages, aged, agesTicked, sentAges}
 use Rattle.machine.specs.Compare.{sameParty, sameView}
 use Rattle.machine.specs.Mux.{waits, waitTime}
 use Rattle.machine.specs.Periodic.{periodicTime}
-use Rattle.machine.specs.States.{currently, paced, waiting}
+use Rattle.machine.specs.States.{timersCurrent, timersPeriodic, timersWait}
 use Rattle.machine.specs.Time.{longTimeoutTime, slowPeriodicTime, aggregateWaitTime, timersFallen, timeoutTime}
 use Rattle.port.specs.declared.record.Own.{Own}
 use Rattle.port.specs.declared.record.Port.{Port}
@@ -39,8 +39,8 @@ use Rattle.port.specs.Record.{withSelected, withAggregator, withNtt, wit
 use Rattle.port.specs.Range.{timersInRange, ageInRange, agesInRange, valuesInRange, ownFits, portInRange}
 use Rattle.port.specs.Mux.{muxEntered, muxTaken, muxChoice, muxStep, muxRun, detached, placed, attachedIf}
 use Rattle.port.specs.Periodic.{periodicEntered, periodicTaken, periodicChoice, periodicStep, periodicRun}
-use Rattle.port.specs.Receive.{recordDefault, recordPdu, updateSelected, updateDefaultSelected, updateNtt, unselected, initialized, portDisabled, expired, lacpDisabled, defaulted, heard, current, moved, received, down, lined, receiveTaken, receiveChoice, receiveStep, receiveRun}
-use Rattle.port.specs.Transmit.{sent, silent, quieted, ticked, advanced}
+use Rattle.port.specs.Receive.{recordDefault, recordPdu, updateSelected, updateDefaultSelected, updateNtt, unselected, initialized, portDisabled, expired, lacpDisabled, defaulted, pduRecorded, current, moved, received, down, lined, receiveTaken, receiveChoice, receiveStep, receiveRun}
+use Rattle.port.specs.Transmit.{sent, silent, nttCleared, ticked, advanced}
 
 -- ---- timers and ages
 
@@ -67,23 +67,23 @@ ages-fit g e =
     (age-fits (g .first) (e₀ .0), age-fits (g .second) (e₁ .0), age-fits (g .third) (e₁ .1))
 
 -- a timer anew
-paced-ranged : (n : ℕ) (t : Timers) → leb n slowPeriodicTime ≡ true → timersInRange t ≡ true → timersInRange (paced n t) ≡ true
+periodic-timer-ranged : (n : ℕ) (t : Timers) → leb n slowPeriodicTime ≡ true → timersInRange t ≡ true → timersInRange (timersPeriodic n t) ≡ true
 unfolding timersInRange
-paced-ranged n t h e =
+periodic-timer-ranged n t h e =
     let a = both (leb (t .current .0) longTimeoutTime) _ e in
     let b = both (leb (t .periodic .0) slowPeriodicTime) _ (a .1) in
-    joined (a .0) (joined h (b .1))
+    both-true (a .0) (both-true h (b .1))
 
-pub currently-ranged : (n : ℕ) (t : Timers) → leb n longTimeoutTime ≡ true → timersInRange t ≡ true → timersInRange (currently n t) ≡ true
+pub currently-ranged : (n : ℕ) (t : Timers) → leb n longTimeoutTime ≡ true → timersInRange t ≡ true → timersInRange (timersCurrent n t) ≡ true
 unfolding timersInRange
-currently-ranged n t h e = joined h (both (leb (t .current .0) longTimeoutTime) _ e .1)
+currently-ranged n t h e = both-true h (both (leb (t .current .0) longTimeoutTime) _ e .1)
 
-waiting-ranged : (n : ℕ) (t : Timers) → leb n aggregateWaitTime ≡ true → timersInRange t ≡ true → timersInRange (waiting n t) ≡ true
+waiting-ranged : (n : ℕ) (t : Timers) → leb n aggregateWaitTime ≡ true → timersInRange t ≡ true → timersInRange (timersWait n t) ≡ true
 unfolding timersInRange
 waiting-ranged n t h e =
     let a = both (leb (t .current .0) longTimeoutTime) _ e in
     let b = both (leb (t .periodic .0) slowPeriodicTime) _ (a .1) in
-    joined (a .0) (joined (b .0) h)
+    both-true (a .0) (both-true (b .0) h)
 
 -- a tick
 falls : (n most : ℕ) → leb n most ≡ true → leb (n - 1) most ≡ true
@@ -94,7 +94,7 @@ unfolding timersInRange
 fallen-ranged t e =
     let a = both (leb (t .current .0) longTimeoutTime) _ e in
     let b = both (leb (t .periodic .0) slowPeriodicTime) _ (a .1) in
-    joined (falls (t .current .0) longTimeoutTime (a .0)) (joined (falls (t .periodic .0) slowPeriodicTime (b .0)) (falls (t .wait .0) aggregateWaitTime (b .1)))
+    both-true (falls (t .current .0) longTimeoutTime (a .0)) (both-true (falls (t .periodic .0) slowPeriodicTime (b .0)) (falls (t .wait .0) aggregateWaitTime (b .1)))
 
 aged-ranged : (n : ℕ) → ageInRange (aged n) ≡ true
 aged-ranged n = by (leb (forgottenAge - 1) n) refl
@@ -105,7 +105,7 @@ aged-ranged n = by (leb (forgottenAge - 1) n) refl
 
 ages-ranged : (g : Ages) → agesInRange (agesTicked g) ≡ true
 unfolding agesInRange
-ages-ranged g = joined (aged-ranged (g .first)) (joined (aged-ranged (g .second)) (aged-ranged (g .third)))
+ages-ranged g = both-true (aged-ranged (g .first)) (both-true (aged-ranged (g .second)) (aged-ranged (g .third)))
 
 -- a send: what is remembered moves, and the new one has age 0
 sent-ages : (g : Ages) → agesInRange g ≡ true → agesInRange (sentAges g) ≡ true
@@ -115,15 +115,15 @@ sent-ages g e = by (eqb (g .first) noSend) (eqb (g .second) noSend)
     by : (a b : Bool)
         → agesInRange (cond a (ages 0 (g .second) (g .third)) (cond b (ages 0 (g .first) (g .third)) (ages 0 (g .first) (g .second)))) ≡ true
     by true b = both (ageInRange (g .first)) _ e .1
-    by false true = joined (both (ageInRange (g .first)) _ e .0) (both (ageInRange (g .second)) _ (both (ageInRange (g .first)) _ e .1) .1)
-    by false false = joined (both (ageInRange (g .first)) _ e .0) (both (ageInRange (g .second)) _ (both (ageInRange (g .first)) _ e .1) .0)
+    by false true = both-true (both (ageInRange (g .first)) _ e .0) (both (ageInRange (g .second)) _ (both (ageInRange (g .first)) _ e .1) .1)
+    by false false = both-true (both (ageInRange (g .first)) _ e .0) (both (ageInRange (g .second)) _ (both (ageInRange (g .first)) _ e .1) .0)
 
 -- the times with which the machines start them
-pace-le : (s : Periodic) → leb (periodicTime s) slowPeriodicTime ≡ true
-pace-le NoPeriodic = refl
-pace-le FastPeriodic = refl
-pace-le SlowPeriodic = refl
-pace-le PeriodicTx = refl
+periodic-time-le : (s : Periodic) → leb (periodicTime s) slowPeriodicTime ≡ true
+periodic-time-le NoPeriodic = refl
+periodic-time-le FastPeriodic = refl
+periodic-time-le SlowPeriodic = refl
+periodic-time-le PeriodicTx = refl
 
 time-le : (b : Bool) → leb (timeoutTime b) longTimeoutTime ≡ true
 time-le true = refl
@@ -162,7 +162,7 @@ ranged count p h =
 
 pub ranged-is : (count : ℕ) (p : Port) → Ranged count p → portInRange count p ≡ true
 unfolding portInRange valuesInRange
-ranged-is count p r = joined (joined (r .aggregator) (joined (r .timers) (r .ages))) (joined (r .own) (r .partner))
+ranged-is count p r = both-true (both-true (r .aggregator) (both-true (r .timers) (r .ages))) (both-true (r .own) (r .partner))
 
 pub ranged-values : (count : ℕ) (p : Port) → portInRange count p ≡ true → valuesInRange count p ≡ true
 unfolding portInRange
@@ -245,19 +245,19 @@ module _ (count : ℕ) where
   unfolding portInRange valuesInRange
   ntt-ranged b p e = e
 
-  pub quieted-ranged : (p : Port) → portInRange count p ≡ true → portInRange count (quieted p) ≡ true
-  unfolding quieted
-  quieted-ranged p e = if-ranged (silent p) (withNtt p false) p (ntt-ranged false p e) e
+  pub cleared-ranged : (p : Port) → portInRange count p ≡ true → portInRange count (nttCleared p) ≡ true
+  unfolding nttCleared
+  cleared-ranged p e = if-ranged (silent p) (withNtt p false) p (ntt-ranged false p e) e
 
   -- ---- the periodic machine
 
-  pace-taken : (k : PeriodicStep) (p : Port) → portInRange count p ≡ true → portInRange count (periodicTaken k p) ≡ true
-  pace-taken pace.Stay p e = e
-  pace-taken (pace.Enter s) p e =
+  periodic-taken-ranged : (k : PeriodicStep) (p : Port) → portInRange count p ≡ true → portInRange count (periodicTaken k p) ≡ true
+  periodic-taken-ranged periodic.Stay p e = e
+  periodic-taken-ranged (periodic.Enter s) p e =
       let r = ranged count p e in
       ranged-is count (periodicEntered s p) (record {
         aggregator = r .aggregator;
-        timers = paced-ranged (periodicTime s) (p .timers) (pace-le s) (r .timers);
+        timers = periodic-timer-ranged (periodicTime s) (p .timers) (periodic-time-le s) (r .timers);
         ages = r .ages;
         own = r .own;
         partner = r .partner;
@@ -267,7 +267,7 @@ module _ (count : ℕ) where
   unfolding periodicRun periodicStep
   periodic-ranged p e =
       let q = periodicTaken (periodicChoice p) p in
-      pace-taken (periodicChoice q) q (pace-taken (periodicChoice p) p e)
+      periodic-taken-ranged (periodicChoice q) q (periodic-taken-ranged (periodicChoice p) p e)
 
   -- ---- the receive machine
 
@@ -382,23 +382,23 @@ module _ (count : ℕ) where
 
   -- ---- an accepted LACPDU records the frame's block
 
-  heard-ranged : (us a b : Block) (p : Port) → blockFits a ≡ true → portInRange count p ≡ true → portInRange count (heard us a b p) ≡ true
-  unfolding heard recordPdu updateNtt updateSelected blockFits
-  heard-ranged us a b p h e =
+  pdu-ranged : (us a b : Block) (p : Port) → blockFits a ≡ true → portInRange count p ≡ true → portInRange count (pduRecorded us a b p) ≡ true
+  unfolding pduRecorded recordPdu updateNtt updateSelected blockFits
+  pdu-ranged us a b p h e =
       let q = cond (sameParty a (p .partner)) p (unselected p) in
       let s = if-unselected (sameParty a (p .partner)) p e in
       let r = ranged count (cond (sameView b us) q (withNtt q true)) (if-ranged (sameView b us) q (withNtt q true) s (ntt-ranged true q s)) in
-      ranged-is count (heard us a b p) (record { aggregator = r .aggregator; timers = r .timers; ages = r .ages; own = r .own; partner = h })
+      ranged-is count (pduRecorded us a b p) (record { aggregator = r .aggregator; timers = r .timers; ages = r .ages; own = r .own; partner = h })
 
   pub received-ranged : (system : SystemId) (n : ℕ) (a b : Block) (p : Port) → blockFits a ≡ true → portInRange count p ≡ true
       → portInRange count (received system n a b p) ≡ true
   unfolding received current
   received-ranged system n a b p h e =
       let us = actorBlock system n p in
-      let r = ranged count (heard us a b p) (heard-ranged us a b p h e) in
+      let r = ranged count (pduRecorded us a b p) (pdu-ranged us a b p h e) in
       ranged-is count (received system n a b p) (record {
         aggregator = r .aggregator;
-        timers = currently-ranged (timeoutTime (p .actor .timeout)) (heard us a b p .timers) (time-le (p .actor .timeout)) (r .timers);
+        timers = currently-ranged (timeoutTime (p .actor .timeout)) (pduRecorded us a b p .timers) (time-le (p .actor .timeout)) (r .timers);
         ages = r .ages;
         own = r .own;
         partner = r .partner;

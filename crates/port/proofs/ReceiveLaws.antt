@@ -18,7 +18,7 @@ use Rattle.machine.proofs.CompareLaws.{party-true}
 use Rattle.port.specs.declared.record.Port.{Port}
 use Rattle.port.specs.Record.{withReceive, withCurrent, withNtt}
 use Rattle.port.specs.Compared.{Compared, compared}
-use Rattle.port.specs.Receive.{recordDefault, recordPdu, updateSelected, updateDefaultSelected, updateNtt, unselected, withPartnerState, expiredBit, initialized, portDisabled, expired, lacpDisabled, defaulted, heard, current, receiveEntered, receiveTaken, receiveChoice, receiveStep, receiveRun}
+use Rattle.port.specs.Receive.{recordDefault, recordPdu, updateSelected, updateDefaultSelected, updateNtt, unselected, withPartnerState, expiredBit, initialized, portDisabled, expired, lacpDisabled, defaulted, pduRecorded, current, receiveEntered, receiveTaken, receiveChoice, receiveStep, receiveRun}
 
 -- ---- rest
 
@@ -172,7 +172,7 @@ defaulted-unselects p s = go (sameParty (p .own .default) (p .partner)) refl s
     go false e s = apart s
 
 pub current-unselects : (us a b : Block) (p : Port) → current us a b p .phase .selected ≡ Selected → compared (current us a b p) ≡ compared p
-unfolding current heard recordPdu updateNtt updateSelected
+unfolding current pduRecorded recordPdu updateNtt updateSelected
 current-unselects us a b p s = go (sameParty a (p .partner)) (sameView b us) refl s
   where
     go : (t v : Bool) → sameParty a (p .partner) ≡ t → cond v (cond t p (unselected p)) (withNtt (cond t p (unselected p)) true) .phase .selected ≡ Selected

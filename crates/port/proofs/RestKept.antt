@@ -21,9 +21,9 @@ use Rattle.machine.specs.Receive.{receiveNext}
 use Rattle.machine.specs.Time.{slowPeriodicTime, ranOut, timeoutTime}
 use Rattle.port.specs.declared.record.Port.{Port}
 use Rattle.port.specs.Record.{withLine, withNtt, actorBlock}
-use Rattle.port.specs.Receive.{recordDefault, recordPdu, updateSelected, updateDefaultSelected, updateNtt, unselected, initialized, portDisabled, expired, lacpDisabled, defaulted, heard, current, receiveEntered, receiveTaken, receiveChoice, receiveStep, receiveRun, moved, received, down, lined}
+use Rattle.port.specs.Receive.{recordDefault, recordPdu, updateSelected, updateDefaultSelected, updateNtt, unselected, initialized, portDisabled, expired, lacpDisabled, defaulted, pduRecorded, current, receiveEntered, receiveTaken, receiveChoice, receiveStep, receiveRun, moved, received, down, lined}
 use Rattle.port.specs.Rest.{goesWith, Resting}
-use Rattle.port.specs.Timing.{Timed, usesPace, CurrentTimed}
+use Rattle.port.specs.Timing.{Timed, usesPeriodic, CurrentTimed}
 use Rattle.port.specs.Transmit.{sent, ticked}
 use Rattle.port.proofs.TimerLaws.{disabled-timed, expired-timed, off-timed, defaulted-timed, current-timed, ticked-timed}
 use Rattle.port.proofs.RestParts.{receivePart, MuxPart, muxPart, ReceiveRests, MuxAgrees, Standing, resting-is, standing, calm-rests, rests-calm}
@@ -63,7 +63,7 @@ run-aside p = taken-aside (receiveChoice (receiveStep p)) (receiveStep p) ∙ ta
 
 -- the rest of a port whose receive machine is at rest
 unfoldable pub Steady : AsidePart → Type 0
-Steady v = MuxAgrees (v .mux) × Timed (usesPace (v .state)) slowPeriodicTime (v .timer)
+Steady v = MuxAgrees (v .mux) × Timed (usesPeriodic (v .state)) slowPeriodicTime (v .timer)
 
 steady : (p : Port) → Standing p → Steady (aside p)
 unfolding Steady
@@ -236,19 +236,19 @@ runs : (b : Bool) → eqb (timeoutTime b) 0 ≡ false
 runs true = refl
 runs false = refl
 
-heard-aside : (us a b : Block) (p : Port) → aside (heard us a b p) ≡ aside p
-unfolding heard updateNtt updateSelected
-heard-aside us a b p = recorded-aside us a b (sameParty a (p .partner)) (sameView b us) p
+pdu-aside : (us a b : Block) (p : Port) → aside (pduRecorded us a b p) ≡ aside p
+unfolding pduRecorded updateNtt updateSelected
+pdu-aside us a b p = recorded-aside us a b (sameParty a (p .partner)) (sameView b us) p
 
-pub heard-line : (us a b : Block) (p : Port) → heard us a b p .line ≡ p .line
-unfolding heard updateNtt updateSelected
-heard-line us a b p = recorded-line us a b (sameParty a (p .partner)) (sameView b us) p
+pub pdu-line : (us a b : Block) (p : Port) → pduRecorded us a b p .line ≡ p .line
+unfolding pduRecorded updateNtt updateSelected
+pdu-line us a b p = recorded-line us a b (sameParty a (p .partner)) (sameView b us) p
 
 current-rests : (us a b : Block) (p : Port) → p .line .up ≡ true → p .line .full ≡ true → ReceiveRests (receivePart (current us a b p))
 unfolding current
 current-rests us a b p u f =
-    let x : heard us a b p .line .up ≡ true = ap (λ (l : Line). l .up) (heard-line us a b p) ∙ u in
-    let y : heard us a b p .line .full ≡ true = ap (λ (l : Line). l .full) (heard-line us a b p) ∙ f in
+    let x : pduRecorded us a b p .line .up ≡ true = ap (λ (l : Line). l .up) (pdu-line us a b p) ∙ u in
+    let y : pduRecorded us a b p .line .full ≡ true = ap (λ (l : Line). l .full) (pdu-line us a b p) ∙ f in
     record {
       state = rw (x, y);
       unheard = λ e. absurd (true≢false (sym x ∙ e));
@@ -258,7 +258,7 @@ current-rests us a b p u f =
 
 current-aside : (us a b : Block) (p : Port) → aside (current us a b p) ≡ aside p
 unfolding current
-current-aside us a b p = heard-aside us a b p
+current-aside us a b p = pdu-aside us a b p
 
 pub received-standing : (system : SystemId) (n : ℕ) (a b : Block) (p : Port) → p .line .up ≡ true → p .line .full ≡ true → Standing p
     → Standing (received system n a b p)

@@ -20,10 +20,10 @@ use Rattle.port.specs.Receive.{receiveChoice}
 use Rattle.port.specs.Periodic.{quiet, periodicTaken, periodicEntered, periodicChoice, periodicStep, periodicRun}
 use Rattle.port.specs.Mux.{muxStep, BitsAgree}
 use Rattle.port.specs.Rest.{goesWith, Resting}
-use Rattle.port.specs.Timing.{Timed, usesCurrent, usesPace}
+use Rattle.port.specs.Timing.{Timed, usesCurrent, usesPeriodic}
 use Rattle.port.proofs.PeriodicLaws.{periodic-rests, periodic-keeps}
 use Rattle.port.proofs.MuxLaws.{bits-kept}
-use Rattle.port.proofs.TimerLaws.{pace-run, wait-step}
+use Rattle.port.proofs.TimerLaws.{periodic-run-timed, wait-step}
 
 -- ---- the three parts
 
@@ -78,8 +78,8 @@ pub record ReceiveRests (v : ReceivePart) : Type 0 where
   pub stays : receiveNext (v .state) (v .line .up) (v .line .full) (ranOut (v .timer)) ≡ receive.Stay
   pub timed : Timed (usesCurrent (v .state)) longTimeoutTime (v .timer)
 
-abbrev pub PeriodicTimed : PeriodicPart → Type 0
-PeriodicTimed v = Timed (usesPace (v .state)) slowPeriodicTime (v .timer)
+abbrev pub PeriodicPartTimed : PeriodicPart → Type 0
+PeriodicPartTimed v = Timed (usesPeriodic (v .state)) slowPeriodicTime (v .timer)
 
 pub record MuxAgrees (v : MuxPart) : Type 0 where
   pub says : BitsAgree (v .state) (v .synchronization) (v .collecting) (v .distributing)
@@ -98,7 +98,7 @@ calmPart v = calm (v .state) (quietOn (v .line) (not (v .active) && not (v .part
 -- all of them but for a periodic machine at rest
 pub record Standing (p : Port) : Type 0 where
   pub receive : ReceiveRests (receivePart p)
-  pub timed : PeriodicTimed (periodicPart p)
+  pub timed : PeriodicPartTimed (periodicPart p)
   pub mux : MuxAgrees (muxPart p)
 
 -- ---- the periodic machine is at rest exactly where its part is calm
@@ -188,7 +188,7 @@ periodic-standing p s =
     resting-is (periodicRun p)
     (record {
       receive = subst ReceiveRests (sym (ap (λ (x : Port). receivePart x) (periodic-keeps p))) (s .receive);
-      timed = pace-run p (s .timed);
+      timed = periodic-run-timed p (s .timed);
       mux = subst MuxAgrees (sym (ap (λ (x : Port). muxPart x) (periodic-keeps p))) (s .mux);
     })
     (periodic-rests p)

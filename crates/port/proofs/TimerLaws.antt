@@ -14,13 +14,13 @@ use Rattle.machine.specs.declared.states.Periodic.the-variants.{NoPeriodic, Fas
 use Rattle.machine.specs.declared.states.Mux.the-variants.{Detached, Waiting, Attached, Collecting, Distributing}
 use Rattle.machine.specs.declared.states.Ticks.{Ticks}
 use Rattle.machine.specs.declared.periodic.PeriodicStep.{PeriodicStep}
-use Rattle.machine.specs.declared.periodic.PeriodicStep.the-variants as pace
+use Rattle.machine.specs.declared.periodic.PeriodicStep.the-variants as periodic
 use Rattle.machine.specs.declared.mux.MuxStep.{MuxStep}
 use Rattle.machine.specs.declared.mux.MuxStep.the-variants as mux
 use Rattle.machine.specs.Time.{fallen, longTimeoutTime}
 use Rattle.machine.specs.States.{ticks}
 use Rattle.port.specs.declared.record.Port.{Port}
-use Rattle.port.specs.Timing.{Timed, CurrentTimed, PaceTimed, WaitTimed}
+use Rattle.port.specs.Timing.{Timed, CurrentTimed, PeriodicTimed, WaitTimed}
 use Rattle.port.specs.Periodic.{periodicTaken, periodicChoice, periodicStep, periodicRun}
 use Rattle.port.specs.Mux.{muxTaken, muxChoice, muxStep, muxRun}
 use Rattle.port.specs.Receive.{recordDefault, initialized, portDisabled, expired, lacpDisabled, defaulted, current, receiveTaken, receiveChoice, receiveStep, receiveRun, received, moved, down, lined}
@@ -36,20 +36,20 @@ halted used most = record { within = omega arith; stopped = λ e. refl }
 
 -- ---- the periodic timer
 
-pace-taken : (k : PeriodicStep) (p : Port) → PaceTimed p → PaceTimed (periodicTaken k p)
-pace-taken pace.Stay p h = h
-pace-taken (pace.Enter NoPeriodic) p h = halted _ _
-pace-taken (pace.Enter FastPeriodic) p h = running _ _ (omega arith)
-pace-taken (pace.Enter SlowPeriodic) p h = running _ _ (omega arith)
-pace-taken (pace.Enter PeriodicTx) p h = halted _ _
+periodic-taken-timed : (k : PeriodicStep) (p : Port) → PeriodicTimed p → PeriodicTimed (periodicTaken k p)
+periodic-taken-timed periodic.Stay p h = h
+periodic-taken-timed (periodic.Enter NoPeriodic) p h = halted _ _
+periodic-taken-timed (periodic.Enter FastPeriodic) p h = running _ _ (omega arith)
+periodic-taken-timed (periodic.Enter SlowPeriodic) p h = running _ _ (omega arith)
+periodic-taken-timed (periodic.Enter PeriodicTx) p h = halted _ _
 
-pub pace-step : (p : Port) → PaceTimed p → PaceTimed (periodicStep p)
+pub periodic-step-timed : (p : Port) → PeriodicTimed p → PeriodicTimed (periodicStep p)
 unfolding periodicStep
-pace-step p h = pace-taken (periodicChoice p) p h
+periodic-step-timed p h = periodic-taken-timed (periodicChoice p) p h
 
-pub pace-run : (p : Port) → PaceTimed p → PaceTimed (periodicRun p)
+pub periodic-run-timed : (p : Port) → PeriodicTimed p → PeriodicTimed (periodicRun p)
 unfolding periodicRun
-pace-run p h = pace-step (periodicStep p) (pace-step p h)
+periodic-run-timed p h = periodic-step-timed (periodicStep p) (periodic-step-timed p h)
 
 -- ---- the wait timer
 
@@ -142,6 +142,6 @@ falls used most t h = record { within = less (t .0) (h .within); stopped = λ e.
     zero-stays : (n : ℕ) → n ≡ 0 → n - 1 ≡ 0
     zero-stays n k = omega arith
 
-pub ticked-timed : (p : Port) → (CurrentTimed p × PaceTimed p × WaitTimed p) → (CurrentTimed (ticked p) × PaceTimed (ticked p) × WaitTimed (ticked p))
+pub ticked-timed : (p : Port) → (CurrentTimed p × PeriodicTimed p × WaitTimed p) → (CurrentTimed (ticked p) × PeriodicTimed (ticked p) × WaitTimed (ticked p))
 unfolding ticked
 ticked-timed p h = (falls _ _ _ (h .0), falls _ _ _ (h .1), falls _ _ _ (h .2))

@@ -5,7 +5,7 @@ use Rattle.machine.specs.Ages.{noSend, ages}
 use Rattle.machine.specs.States.{timers, ticks}
 use Rattle.port.specs.declared.record.Port.{Port}
 use Rattle.port.specs.Record.{withNtt, withAges, withTimers}
-use Rattle.port.specs.Transmit.{sent, silent, quieted, ticked}
+use Rattle.port.specs.Transmit.{sent, silent, nttCleared, ticked}
 
 -- a send touches NTT and the ages alone
 abbrev pub besideSends : Port → Port
@@ -28,15 +28,15 @@ if-keeps : (b : Bool) (p : Port) → withNtt (cond b (withNtt p false) p) false 
 if-keeps true p = refl
 if-keeps false p = refl
 
-pub quieted-keeps : (p : Port) → withNtt (quieted p) false ≡ withNtt p false
-unfolding quieted
-quieted-keeps p = if-keeps (silent p) p
+pub cleared-keeps : (p : Port) → withNtt (nttCleared p) false ≡ withNtt p false
+unfolding nttCleared
+cleared-keeps p = if-keeps (silent p) p
 
-if-twice : (b : Bool) (p : Port) → silent p ≡ b → quieted (cond b (withNtt p false) p) ≡ cond b (withNtt p false) p
-unfolding quieted silent
+if-twice : (b : Bool) (p : Port) → silent p ≡ b → nttCleared (cond b (withNtt p false) p) ≡ cond b (withNtt p false) p
+unfolding nttCleared silent
 if-twice true p e = rw e
 if-twice false p e = rw e
 
-pub quieted-twice : (p : Port) → quieted (quieted p) ≡ quieted p
-unfolding quieted
-quieted-twice p = if-twice (silent p) p refl
+pub cleared-twice : (p : Port) → nttCleared (nttCleared p) ≡ nttCleared p
+unfolding nttCleared
+cleared-twice p = if-twice (silent p) p refl

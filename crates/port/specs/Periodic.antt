@@ -6,19 +6,20 @@ use Rattle.machine.specs.declared.periodic.PeriodicStep.{PeriodicStep}
 use Rattle.machine.specs.declared.periodic.PeriodicStep.the-variants.{Stay, Enter}
 use Rattle.machine.specs.States.{quietOn}
 use Rattle.machine.specs.Periodic.{periodicNext, periodicTime, isTx}
-use Rattle.port.specs.Record.{withPeriodic, withPace, withNtt}
+use Rattle.port.specs.Record.{withPeriodic, withPeriodicTimer, withNtt}
 use Rattle.machine.specs.Time.{ranOut}
 
 -- Actor and Partner LACP_Activity both Passive
 abbrev pub bothPassive : Port → Bool
 bothPassive p = not (p .actor .activity) && not (p .partner .state .activity)
 
+-- the machine is to be in NO_PERIODIC (43.4.13)
 abbrev pub quiet : Port → Bool
 quiet p = quietOn (p .line) (bothPassive p)
 
 -- the actions on entry
 abbrev pub periodicEntered : Periodic → Port → Port
-periodicEntered s p = withNtt (withPace (withPeriodic p s) (periodicTime s)) (isTx s || p .ntt)
+periodicEntered s p = withNtt (withPeriodicTimer (withPeriodic p s) (periodicTime s)) (isTx s || p .ntt)
 
 abbrev pub periodicTaken : PeriodicStep → Port → Port
 periodicTaken Stay p = p

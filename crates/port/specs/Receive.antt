@@ -31,31 +31,38 @@ unselected p = withSelected p Unselected
 abbrev pub expiredBit : Port → Bool → Port
 expiredBit p b = withActor p (withExpired (p .actor) b)
 
+-- 43.4.9 recordDefault
 unfoldable pub recordDefault : Port → Port
 recordDefault p = withActor (withPartner p (p .own .default)) (withDefaulted (p .actor) true)
 
--- `us` is what we say of ourselves, the frame says `a` of its sender and `b` of us
+-- 43.4.9 recordPDU: `us` is what we say of ourselves, the frame says `a` of its sender and `b` of us
 unfoldable pub recordPdu : Block → Block → Block → Port → Port
 recordPdu us a b p =
     withActor (withPartner p (withState a (withSynchronization (a .state) (inSync us a b)))) (withDefaulted (p .actor) false)
 
+-- 43.4.9 update_Selected
 unfoldable pub updateSelected : Block → Port → Port
 updateSelected a p = cond (sameParty a (p .partner)) p (unselected p)
 
+-- 43.4.9 update_Default_Selected
 unfoldable pub updateDefaultSelected : Port → Port
 updateDefaultSelected p = updateSelected (p .own .default) p
 
+-- 43.4.9 update_NTT
 unfoldable pub updateNtt : Block → Block → Port → Port
 updateNtt us b p = cond (sameView b us) p (withNtt p true)
 
--- ---- states: the actions on entry, in the figure's order
+-- ---- states (43.4.12): the actions on entry, in the figure's order
 
+-- INITIALIZE
 unfoldable pub initialized : Port → Port
 initialized p = withReceive (withCurrent (expiredBit (recordDefault (unselected p)) false) 0) Initialize
 
+-- PORT_DISABLED
 unfoldable pub portDisabled : Port → Port
 portDisabled p = withReceive (withCurrent (withPartnerState p (withSynchronization (p .partner .state) false)) 0) PortDisabled
 
+-- EXPIRED
 unfoldable pub expired : Port → Port
 expired p =
     withReceive (expiredBit (withCurrent (withPartnerState p (withTimeout (withSynchronization (p .partner .state) false) true)) shortTimeoutTime) true) Expired
@@ -63,19 +70,22 @@ expired p =
 withoutAggregation : Port → Port
 withoutAggregation p = withPartnerState p (withAggregation (p .partner .state) false)
 
+-- LACP_DISABLED
 unfoldable pub lacpDisabled : Port → Port
 unfolding withoutAggregation
 lacpDisabled p = withReceive (withCurrent (expiredBit (withoutAggregation (recordDefault (unselected p))) false) 0) LacpDisabled
 
+-- DEFAULTED
 unfoldable pub defaulted : Port → Port
 defaulted p = withReceive (withCurrent (expiredBit (recordDefault (updateDefaultSelected p)) false) 0) Defaulted
 
-unfoldable pub heard : Block → Block → Block → Port → Port
-heard us a b p = recordPdu us a b (updateNtt us b (updateSelected a p))
+-- CURRENT: what it does with the LACPDU
+unfoldable pub pduRecorded : Block → Block → Block → Port → Port
+pduRecorded us a b p = recordPdu us a b (updateNtt us b (updateSelected a p))
 
--- our own Timeout bit sets our current-while timer
+-- CURRENT; our own Timeout bit sets our current-while timer
 unfoldable pub current : Block → Block → Block → Port → Port
-current us a b p = withReceive (expiredBit (withCurrent (heard us a b p) (timeoutTime (p .actor .timeout))) false) Current
+current us a b p = withReceive (expiredBit (withCurrent (pduRecorded us a b p) (timeoutTime (p .actor .timeout))) false) Current
 
 -- ---- the machine without an LACPDU
 

@@ -12,7 +12,7 @@ use Rattle.machine.specs.declared.states.Phase.{Phase}
 use Rattle.machine.specs.declared.states.Line.{Line}
 use Rattle.machine.specs.declared.states.Timers.{Timers}
 use Rattle.machine.specs.declared.states.Ages.{Ages}
-use Rattle.machine.specs.States.{receiving, pacing, muxing, selecting, currently, paced, waiting}
+use Rattle.machine.specs.States.{phaseReceive, phasePeriodic, phaseMux, phaseSelected, timersCurrent, timersPeriodic, timersWait}
 use Rattle.port.specs.declared.record.Own.{Own}
 use Rattle.port.specs.declared.record.Port.{Port}
 
@@ -51,25 +51,25 @@ withPartner p b = port (p .phase) (p .aggregator) (p .ntt) (p .line) (p .actor) 
 -- ---- one field of a group changed
 
 abbrev pub withReceive : Port → Receive → Port
-withReceive p r = withPhase p (receiving r (p .phase))
+withReceive p r = withPhase p (phaseReceive r (p .phase))
 
 abbrev pub withPeriodic : Port → Periodic → Port
-withPeriodic p q = withPhase p (pacing q (p .phase))
+withPeriodic p q = withPhase p (phasePeriodic q (p .phase))
 
 abbrev pub withMux : Port → Mux → Port
-withMux p m = withPhase p (muxing m (p .phase))
+withMux p m = withPhase p (phaseMux m (p .phase))
 
 abbrev pub withSelected : Port → Selection → Port
-withSelected p s = withPhase p (selecting s (p .phase))
+withSelected p s = withPhase p (phaseSelected s (p .phase))
 
 abbrev pub withCurrent : Port → ℕ → Port
-withCurrent p n = withTimers p (currently n (p .timers))
+withCurrent p n = withTimers p (timersCurrent n (p .timers))
 
-abbrev pub withPace : Port → ℕ → Port
-withPace p n = withTimers p (paced n (p .timers))
+abbrev pub withPeriodicTimer : Port → ℕ → Port
+withPeriodicTimer p n = withTimers p (timersPeriodic n (p .timers))
 
 abbrev pub withWait : Port → ℕ → Port
-withWait p n = withTimers p (waiting n (p .timers))
+withWait p n = withTimers p (timersWait n (p .timers))
 
 -- ---- what an LACPDU says of the port itself (43.4.16 a to d): it is port `number` of its system
 

@@ -9,7 +9,7 @@ use Rattle.port.specs.declared.record.Port.{Port}
 use Rattle.port.specs.Receive.{receiveChoice}
 use Rattle.port.specs.Periodic.{periodicStep}
 use Rattle.port.specs.Mux.{SaysMux}
-use Rattle.port.specs.Timing.{CurrentTimed, PaceTimed, WaitTimed}
+use Rattle.port.specs.Timing.{CurrentTimed, PeriodicTimed, WaitTimed}
 
 -- PORT_DISABLED exactly if the link is down, LACP_DISABLED exactly if it is up at half duplex, and never INITIALIZE
 abbrev pub goesWith : Line → Receive → Bool
@@ -30,5 +30,5 @@ pub record Resting (p : Port) : Type 0 where
   pub says : SaysMux p
   -- a timer that its state does not use holds 0, and one that it uses is within its time
   pub current : CurrentTimed p
-  pub pace : PaceTimed p
+  pub pace : PeriodicTimed p
   pub wait : WaitTimed p

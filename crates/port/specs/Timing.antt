@@ -19,11 +19,11 @@ usesCurrent LacpDisabled = false
 usesCurrent Defaulted = false
 usesCurrent Current = true
 
-abbrev pub usesPace : Periodic → Bool
-usesPace NoPeriodic = false
-usesPace FastPeriodic = true
-usesPace SlowPeriodic = true
-usesPace PeriodicTx = false
+abbrev pub usesPeriodic : Periodic → Bool
+usesPeriodic NoPeriodic = false
+usesPeriodic FastPeriodic = true
+usesPeriodic SlowPeriodic = true
+usesPeriodic PeriodicTx = false
 
 -- a timer: whether its state uses it, its longest time, and what it holds
 pub record Timed (used : Bool) (most : ℕ) (t : Ticks) : Type 0 where
@@ -33,8 +33,8 @@ pub record Timed (used : Bool) (most : ℕ) (t : Ticks) : Type 0 where
 abbrev pub CurrentTimed : Port → Type 0
 CurrentTimed p = Timed (usesCurrent (p .phase .receive)) longTimeoutTime (p .timers .current)
 
-abbrev pub PaceTimed : Port → Type 0
-PaceTimed p = Timed (usesPace (p .phase .periodic)) slowPeriodicTime (p .timers .periodic)
+abbrev pub PeriodicTimed : Port → Type 0
+PeriodicTimed p = Timed (usesPeriodic (p .phase .periodic)) slowPeriodicTime (p .timers .periodic)
 
 abbrev pub WaitTimed : Port → Type 0
 WaitTimed p = Timed (waits (p .phase .mux)) aggregateWaitTime (p .timers .wait)

@@ -23,8 +23,8 @@ sent p = withNtt (withAges p (sentAges (p .ages))) false
 unfoldable pub silent : Port → Bool
 silent p = silentOn (p .line) (bothPassive p)
 
-unfoldable pub quieted : Port → Port
-quieted p = cond (silent p) (withNtt p false) p
+unfoldable pub nttCleared : Port → Port
+nttCleared p = cond (silent p) (withNtt p false) p
 
 -- step 1 of a tick (R4.1): timers and ages of sends
 unfoldable pub ticked : Port → Port

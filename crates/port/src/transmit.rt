@@ -1,6 +1,6 @@
 // What a fetch needs of one port (43.4.16), the ages of its sends, and a tick of one port.
 ghost use mathlib.Core.Path.{_≡_};
-ghost use Rattle.port.specs.Transmit.{due, sent, quieted, ticked};
+ghost use Rattle.port.specs.Transmit.{due, sent, nttCleared, ticked};
 use crate::record::Port;
 
 // What a fetch finds.
@@ -37,8 +37,8 @@ impl Port {
     }
 
     // The end of step 6: NTT is cleared where nothing may be sent for it.
-    pub fn quiet(mut self) -> Self
-        ensures { λ r. ⌜ r ≡ quieted self ⌝ }
+    pub fn clear_ntt(mut self) -> Self
+        ensures { λ r. ⌜ r ≡ nttCleared self ⌝ }
     {
         let line = self.line;
         let passive = !self.actor.activity & !self.partner.state.activity;

@@ -90,8 +90,8 @@ unfolding setOf
 set-none f [] d none = refl
 set-none f (p ∷ ps) d none = rw (set-none f ps d (λ j h. none (suc j) (omega arith)), none 0 (omega arith))
 
-pub lowest-none : (f : Port → Bool) (ps : List Port) (d : Port) → ((j : ℕ) → j < length ps → f (getD ps j d) ≡ false) → lowestOf (setOf f ps) ≡ 0
-lowest-none f ps d none = ap lowestOf (set-none f ps d none)
+pub none-lowest : (f : Port → Bool) (ps : List Port) (d : Port) → ((j : ℕ) → j < length ps → f (getD ps j d) ≡ false) → lowestOf (setOf f ps) ≡ 0
+none-lowest f ps d none = ap lowestOf (set-none f ps d none)
 
 zeros-below : (f : Port → Bool) (k : ℕ) (ps : List Port) (i : ℕ) (d : Port) → i < k → i < length ps → f (getD ps i d) ≡ true
     → ((j : ℕ) → j < i → f (getD ps j d) ≡ false) → trailingZeros k (setOf f ps) ≡ i

@@ -7,12 +7,12 @@ use lib.Count.{ones, trailingZeros}
 use Rattle.frame.specs.State.{weighed}
 use Rattle.machine.specs.Mux.{isAttached, distributes}
 use Rattle.port.specs.declared.record.Port.{Port}
-use Rattle.report.specs.declared.Standing.{Standing}
-use Rattle.report.specs.declared.Standing.the-variants.{Holds, Attached, Distributes}
+use Rattle.report.specs.declared.Role.{Role}
+use Rattle.report.specs.declared.Role.the-variants.{Holds, Attached, Distributes}
 use Rattle.report.specs.declared.Sets.{Sets}
 
 -- how a port stands to aggregator k
-unfoldable pub stands : Standing → ℕ → Port → Bool
+unfoldable pub stands : Role → ℕ → Port → Bool
 stands Holds k p = eqb (p .aggregator) k
 stands Attached k p = eqb (p .aggregator) k && isAttached (p .phase .mux)
 stands Distributes k p = eqb (p .aggregator) k && distributes (p .phase .mux)

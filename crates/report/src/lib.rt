@@ -6,7 +6,7 @@ ghost use Rattle.table.specs.Table.{tableInRange, InTable, ports, portAt};
 ghost use Rattle.report.specs.Sets.{stands, setOf, lowestOf, setsOf};
 
 // How a port stands to an aggregator.
-pub enum Standing {
+pub enum Role {
     Holds,
     Attached,
     Distributes,
@@ -22,17 +22,17 @@ pub struct Sets {
 }
 
 // Whether port i, from 0, stands so to aggregator k.
-fn stands_to(table: &[u8], i: usize, standing: Standing, k: u8) -> bool
+fn stands_to(table: &[u8], i: usize, role: Role, k: u8) -> bool
     requires { ⌜ InTable (now table) i ⌝ }
-    ensures { λ r. ⌜ r ≡ stands standing k (portAt (now (table .entry)) i) ⌝ }
+    ensures { λ r. ⌜ r ≡ stands role k (portAt (now (table .entry)) i) ⌝ }
 {
     let h = table::phase(table, i);
     let m = h.mux;
     let held = table::aggregator(table, i);
-    match standing {
-        Standing::Holds => held == k,
-        Standing::Attached => (held == k) & m.is_attached(),
-        Standing::Distributes => (held == k) & m.distributes(),
+    match role {
+        Role::Holds => held == k,
+        Role::Attached => (held == k) & m.is_attached(),
+        Role::Distributes => (held == k) & m.distributes(),
     }
 }
 
@@ -44,15 +44,15 @@ fn weigh(is_in: bool) -> u32
 }
 
 // The ports that stand so to aggregator k, bit 0 the first port.
-fn set_of(table: &[u8], standing: Standing, k: u8) -> u32
+fn set_of(table: &[u8], role: Role, k: u8) -> u32
     requires { ⌜ tableInRange (now table) ≡ true ⌝ }
-    ensures { λ r. ⌜ r ≡ setOf (stands standing k) (ports (now (table .entry))) ⌝ }
+    ensures { λ r. ⌜ r ≡ setOf (stands role k) (ports (now (table .entry))) ⌝ }
 {
     let mut set: u32 = 0;
     let mut i = table::count(table);
     while 0 < i {
         i -= 1;
-        set = set * 2 + weigh(stands_to(table, i, standing, k));
+        set = set * 2 + weigh(stands_to(table, i, role, k));
     }
     set
 }
@@ -72,9 +72,9 @@ pub fn aggregator_of(table: &[u8], k: u8) -> Sets
     requires { ⌜ tableInRange (now table) ≡ true ⌝ }
     ensures { λ r. ⌜ r ≡ setsOf k (ports (now (table .entry))) ⌝ }
 {
-    let holding = set_of(table, Standing::Holds, k);
-    let attached = set_of(table, Standing::Attached, k);
-    let distributing = set_of(table, Standing::Distributes, k);
+    let holding = set_of(table, Role::Holds, k);
+    let attached = set_of(table, Role::Attached, k);
+    let distributing = set_of(table, Role::Distributes, k);
     Sets {
         holding: holding,
         attached: attached,

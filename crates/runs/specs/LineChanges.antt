@@ -5,7 +5,7 @@ use mathlib.Core.Path.{_≡_}
 use mathlib.Core.Bool.{Bool, true, false}
 use mathlib.Core.List.{List, [], _∷_, map}
 use Rattle.frame.specs.declared.block.Block.{Block}
-use Rattle.frame.specs.State.{stateOf}
+use Rattle.frame.specs.State.{portStateOf}
 use Rattle.frame.specs.Wire.{zeros}
 use Rattle.machine.specs.declared.states.Line.{Line}
 use Rattle.machine.specs.declared.states.Receive.{Receive}
@@ -68,14 +68,14 @@ changed t = map (λ l. portAt (after (line 1 l) t) 0) (upFull ∷ upHalf ∷ dow
 -- partner block in force. It is SELECTED and holds aggregator 1, and no send is remembered
 abbrev pub is : Receive → ℕ → Periodic → ℕ → Mux → ℕ → Bool → Line → ℕ → Block → Port
 is r c q g m w n l a b =
-    port (phase r q m Selected) 1 n l (stateOf a) (timers (Ticks·of c) (Ticks·of g) (Ticks·of w)) (ages noSend noSend noSend) (ownOf alone) b
+    port (phase r q m Selected) 1 n l (portStateOf a) (timers (Ticks·of c) (Ticks·of g) (Ticks·of w)) (ages noSend noSend noSend) (ownOf alone) b
 
 -- the partner that was heard, and the default one, with the state octet o
 abbrev pub heard : ℕ → Block
 heard o = block 5 1 o
 
 abbrev pub default : ℕ → Block
-default o = withState (alone .default) (stateOf o)
+default o = withState (alone .default) (portStateOf o)
 
 -- from each line to all four. Both values as they are leave the record; a fall keeps the partner that was heard, and half duplex does not
 pub record LineChanges : Type 0 where

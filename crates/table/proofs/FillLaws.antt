@@ -15,7 +15,7 @@ use Rattle.table.specs.Layout.{headerOf, headerOctets, place, tableSize,
 use Rattle.table.specs.Record.{encoded}
 use Rattle.port.specs.Range.{portInRange, portsInRange}
 use Rattle.table.specs.Table.{tableInRange, isRoom, ports, tableOctets}
-use Rattle.table.specs.Worked.{Holds}
+use Rattle.table.specs.Leaves.{Holds}
 use Rattle.octets.proofs.RangeLaws.{both, within-true}
 use Rattle.table.proofs.TableLaws.{in-range-is}
 use Rattle.table.proofs.MadeLaws.{begun, begun-header, begun-record, begun-all, ports-ranged, made-header, made-ports, made-in-range}

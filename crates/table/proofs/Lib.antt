@@ -5,4 +5,4 @@ pub mod StoreLaws
 pub mod TableLaws
 pub mod MadeLaws
 pub mod FillLaws
-pub mod WorkedLaws
+pub mod LeavesLaws

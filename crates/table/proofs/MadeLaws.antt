@@ -12,7 +12,7 @@ use lib.Seq.{take-at, drop-at, drop-nil, drop-drop, drop-append-add, drop-cons, 
 use Rattle.octets.specs.Octets.{Octets, putAt, high, low, numberOctets, fits, within}
 use Rattle.octets.proofs.Laws.{number-back, over-put, put-append}
 use Rattle.octets.proofs.OctetLists.{octets-of, append-octets}
-use Rattle.octets.proofs.RangeLaws.{both, joined, number-fits, number-octets, within-true}
+use Rattle.octets.proofs.RangeLaws.{both, both-true, number-fits, number-octets, within-true}
 use Rattle.frame.proofs.RangeLaws.{address-fits, address-octets}
 use Rattle.port.specs.declared.record.Port.{Port}
 use Rattle.port.specs.Range.{portInRange, portsInRange}
@@ -38,15 +38,15 @@ ports-ranged-at count (p ∷ ps) e (suc i) d h = ports-ranged-at count ps (both 
 pub ports-ranged : (count : ℕ) (ps : List Port) (d : Port) → ((i : ℕ) → i < length ps → portInRange count (getD ps i d) ≡ true) → portsInRange count ps ≡ true
 unfolding portsInRange
 ports-ranged count [] d f = refl
-ports-ranged count (p ∷ ps) d f = joined (f 0 (omega arith)) (ports-ranged count ps d (λ i h. f (suc i) (omega arith)))
+ports-ranged count (p ∷ ps) d f = both-true (f 0 (omega arith)) (ports-ranged count ps d (λ i h. f (suc i) (omega arith)))
 
 pub set-ranged : (count : ℕ) (ps : List Port) (i : ℕ) (p : Port) → portsInRange count ps ≡ true → portInRange count p ≡ true → portsInRange count (set ps i p) ≡ true
 unfolding portsInRange
 set-ranged count [] i p e s = refl
-set-ranged count (q ∷ ps) zero p e s = joined s (both (portInRange count q) (portsInRange count ps) e .1)
+set-ranged count (q ∷ ps) zero p e s = both-true s (both (portInRange count q) (portsInRange count ps) e .1)
 set-ranged count (q ∷ ps) (suc i) p e s =
     let e₀ = both (portInRange count q) (portsInRange count ps) e in
-    joined (e₀ .0) (set-ranged count ps i p (e₀ .1) s)
+    both-true (e₀ .0) (set-ranged count ps i p (e₀ .1) s)
 
 -- the records of a table in range
 pub table-ports-ranged : (t : List ℕ) → InRange t → Octets t → portsInRange (countIn t) (ports t) ≡ true
@@ -113,7 +113,7 @@ header-octets h e k =
 -- the numbers of a header that was read from octets fit theirs
 pub header-fits : (t : List ℕ) → Octets t → headerFits (headerOf t) ≡ true
 unfolding headerFits
-header-fits t o = joined (number-fits t o 1) (joined (address-fits t o 3) (number-fits t o 9))
+header-fits t o = both-true (number-fits t o 1) (both-true (address-fits t o 3) (number-fits t o 9))
 
 records-more : (ps : List Port) (p : Port) → recordsOctets ps ++ encoded p ≡ recordsOctets (ps ++ (p ∷ []))
 unfolding recordsOctets
@@ -198,12 +198,12 @@ module _ (h : Header) (ps : List Port) where
         (records-octets (length ps) ps (omega arith) r)
 
 -- a state in range comes back from its octets, and these are a table in range
-pub record Encoded (s : State) : Type 0 where
+pub record Decodes (s : State) : Type 0 where
   pub state : stateOf (octetsOf s) ≡ s
   pub ranged : tableInRange (octetsOf s) ≡ true
   pub octets : Octets (octetsOf s)
 
-pub state-back : (s : State) → stateInRange s ≡ true → Encoded s
+pub state-back : (s : State) → stateInRange s ≡ true → Decodes s
 unfolding stateInRange
 state-back s e =
     let n = length (s .ports) in

@@ -9,7 +9,7 @@ use lib.Dec.{leb}
 use borrow.Author.Tests.{leb-true, lt-ltb}
 use Rattle.octets.specs.Octets.{Octets, numberAt, numberOctets, fits}
 use Rattle.octets.proofs.OctetLists.{octets-of, append-octets}
-use Rattle.octets.proofs.RangeLaws.{both, joined, within-true, number-fits, number-octets}
+use Rattle.octets.proofs.RangeLaws.{both, both-true, within-true, number-fits, number-octets}
 use Rattle.frame.specs.Block.{addressAt, addressOctets, blockOctets, addressFits, blockFits}
 use Rattle.frame.proofs.RangeLaws.{address-fits, address-octets, block-octets}
 use Rattle.machine.specs.Time.{slowPeriodicTime, longTimeoutTime, aggregateWaitTime}
@@ -54,7 +54,7 @@ coded l e =
 pub own-fits : (o : Own) (l : List ℕ) → Octets l → o .address ≡ addressAt l 17 → o .key ≡ numberAt l 23 → o .priority ≡ numberAt l 25
     → blockFits (o .default) ≡ true → ownFits o ≡ true
 unfolding ownFits
-own-fits o l os a k q b = rw (a, k, q) (joined (address-fits l os 17) (joined (number-fits l os 23) (joined (number-fits l os 25) b)))
+own-fits o l os a k q b = rw (a, k, q) (both-true (address-fits l os 17) (both-true (number-fits l os 23) (both-true (number-fits l os 25) b)))
 
 -- ---- and what fits is written as octets
 

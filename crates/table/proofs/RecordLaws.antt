@@ -9,9 +9,9 @@ use lib.Seq.{length-take-le}
 use Rattle.octets.specs.Octets.{Octets}
 use Rattle.octets.proofs.Laws.{number-back, spread, spread-all, spread-part}
 use Rattle.octets.proofs.OctetLists.{octets-of, append-octets, take-octets, drop-octets, first-back, second-back}
-use Rattle.octets.proofs.RangeLaws.{joined, small}
+use Rattle.octets.proofs.RangeLaws.{both-true, small}
 use Rattle.frame.specs.Block.{blockOf, blockOctets}
-use Rattle.frame.proofs.BlockLaws.{state-back, octet-back, octet-le, block-back, octets-back}
+use Rattle.frame.proofs.BlockLaws.{port-state-back, octet-back, octet-le, block-back, block-octets-back}
 use Rattle.frame.proofs.RangeLaws.{part-fits, block-octets}
 use Rattle.port.specs.declared.record.Port.{Port}
 use Rattle.table.specs.Layout.{recordSize}
@@ -46,7 +46,7 @@ record-back p h =
       aggregator = p .aggregator;
       ntt = flag-back (p .ntt) i;
       line = record { up = flag-back (p .line .up) i; full = flag-back (p .line .full) i };
-      actor = state-back (p .actor) i;
+      actor = port-state-back (p .actor) i;
       timers = record {
         current = record { 0 = number-back (p .timers .current .0) i };
         periodic = record { 0 = number-back (p .timers .periodic .0) i };
@@ -71,7 +71,7 @@ record-back p h =
 -- the 15 octets from a on, from the block there
 blocks-back : (a : ℕ) (l : List ℕ) → Octets l → a + 15 ≤ length l → blockOctets (blockOf (take 15 (drop a l))) ≡ spread a 15 l
 blocks-back a l o h =
-    octets-back (take 15 (drop a l)) (length-take-le 15 (drop a l) (simp length-drop (omega arith))) (take-octets 15 (drop a l) (drop-octets a l o))
+    block-octets-back (take 15 (drop a l)) (length-take-le 15 (drop a l) (simp length-drop (omega arith))) (take-octets 15 (drop a l) (drop-octets a l o))
     ∙ sym (spread-part a 15 l h)
 
 -- octets in range are those of the record that they tell of
@@ -114,20 +114,20 @@ port-back count p e = record-back p (wait-fits (p .timers) (ranged count p e .ti
 pub encoded-in-range : (count : ℕ) (p : Port) → portInRange count p ≡ true → recordInRange count (encoded p) ≡ true
 unfolding recordInRange codesInRange encoded
 encoded-in-range count p e =
-    joined
-    (joined (receive-within (p .phase .receive))
-    (joined (periodic-within (p .phase .periodic))
-    (joined (mux-within (p .phase .mux))
-    (joined (selected-within (p .phase .selected))
-    (joined (flag-within (p .ntt)) (joined (flag-within (p .line .up)) (flag-within (p .line .full))))))))
+    both-true
+    (both-true (receive-within (p .phase .receive))
+    (both-true (periodic-within (p .phase .periodic))
+    (both-true (mux-within (p .phase .mux))
+    (both-true (selected-within (p .phase .selected))
+    (both-true (flag-within (p .ntt)) (both-true (flag-within (p .line .up)) (flag-within (p .line .full))))))))
     (ap (valuesInRange count) (port-back count p e) ∙ ranged-values count p e)
 
 -- octets in range tell of a record in range
 pub decoded-in-range : (count : ℕ) (l : List ℕ) → Octets l → recordInRange count l ≡ true → portInRange count (decoded l) ≡ true
 unfolding portInRange decoded
 decoded-in-range count l o e =
-    joined (ranged-octets count l e .values)
-    (joined (own-fits (ownIn l) l o refl refl refl (part-fits 27 42 l o)) (part-fits 42 57 l o))
+    both-true (ranged-octets count l e .values)
+    (both-true (own-fits (ownIn l) l o refl refl refl (part-fits 27 42 l o)) (part-fits 42 57 l o))
 
 -- ---- octets
 

@@ -12,7 +12,7 @@ use borrow.Author.Tests.{leb-true, le-leb, eqb-true, eqb-false, eq-eqb}
 use Rattle.octets.specs.Octets.{Octets, putAt, within}
 use Rattle.octets.proofs.Laws.{spread-part}
 use Rattle.octets.proofs.OctetLists.{take-octets, drop-octets, put-octets, first-back, second-back}
-use Rattle.octets.proofs.RangeLaws.{both, joined, within-true, within-is}
+use Rattle.octets.proofs.RangeLaws.{both, both-true, within-true, within-is}
 use Rattle.port.specs.declared.record.Port.{Port}
 use Rattle.port.specs.Range.{portInRange}
 use Rattle.table.specs.Layout.{headerSize, recordSize, mostPorts, place, tableSize, headerOf, headerOctets}
@@ -46,7 +46,7 @@ first-at count (suc n) t e i h =
 first-all : (count n : ℕ) (t : List ℕ) → ((i : ℕ) → i < n → recordInRange count (recordAt t i) ≡ true) → firstInRange count n t ≡ true
 unfolding firstInRange
 first-all count zero t f = refl
-first-all count (suc n) t f = joined (first-all count n t (λ i h. f i (omega arith))) (f n (omega arith))
+first-all count (suc n) t f = both-true (first-all count n t (λ i h. f i (omega arith))) (f n (omega arith))
 
 pub in-range : (t : List ℕ) → tableInRange t ≡ true → InRange t
 unfolding tableInRange
@@ -68,9 +68,9 @@ in-range t e =
 pub in-range-is : (t : List ℕ) → InRange t → tableInRange t ≡ true
 unfolding tableInRange
 in-range-is t r =
-    joined (le-leb headerSize (length t) (r .header))
-    (joined (within-is 1 (countIn t) mostPorts (r .least) (r .most))
-    (joined (eq-eqb (length t) (tableSize (countIn t)) (r .size)) (first-all (countIn t) (countIn t) t (r .records))))
+    both-true (le-leb headerSize (length t) (r .header))
+    (both-true (within-is 1 (countIn t) mostPorts (r .least) (r .most))
+    (both-true (eq-eqb (length t) (tableSize (countIn t)) (r .size)) (first-all (countIn t) (countIn t) t (r .records))))
 
 -- a record whose number is below the count lies within the table
 pub inside : (t : List ℕ) → InRange t → (i : ℕ) → i < countIn t → place i + recordSize ≤ length t

@@ -4,4 +4,4 @@ pub mod Record
 pub mod Range
 pub mod State
 pub mod Table
-pub mod Worked
+pub mod Leaves

@@ -5,7 +5,7 @@ use mathlib.Core.List.{List, [], _∷_, _++_}
 use lib.ListN.{getD}
 use Rattle.octets.specs.Octets.{numberAt, numberOctets}
 use Rattle.frame.specs.declared.state.PortState.{PortState}
-use Rattle.frame.specs.State.{stateOctet, stateOf}
+use Rattle.frame.specs.State.{stateOctet, portStateOf}
 use Rattle.frame.specs.Block.{addressAt, addressOctets, blockOf, blockOctets}
 use Rattle.frame.specs.Wire.{part}
 use Rattle.machine.specs.declared.states.Phase.{Phase}
@@ -71,5 +71,5 @@ encoded p =
 
 unfoldable pub decoded : List ℕ → Port
 decoded l =
-    port (phaseIn l) (getD l 4 0) (flagOf (getD l 5 0)) (lineIn l) (stateOf (getD l 8 0)) (timersIn l) (agesIn l) (ownIn l)
+    port (phaseIn l) (getD l 4 0) (flagOf (getD l 5 0)) (lineIn l) (portStateOf (getD l 8 0)) (timersIn l) (agesIn l) (ownIn l)
     (blockOf (part 42 57 l))

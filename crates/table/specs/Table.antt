@@ -53,8 +53,8 @@ abbrev pub octetsOf : State → List ℕ
 octetsOf s = tableOctets (s .common) (s .ports)
 
 -- what is done to a state, done to its octets
-abbrev pub on : (State → State) → List ℕ → List ℕ
-on f t = octetsOf (f (stateOf t))
+abbrev pub onOctets : (State → State) → List ℕ → List ℕ
+onOctets f t = octetsOf (f (stateOf t))
 
 -- what belongs to the whole table
 abbrev pub ours : List ℕ → Header
@@ -62,7 +62,7 @@ ours t = stateOf t .common
 
 -- the same table with other records
 abbrev pub again : List ℕ → List Port → List ℕ
-again t ps = on (withPorts ps) t
+again t ps = onOctets (withPorts ps) t
 
 -- the record of port i, from 0
 abbrev pub portAt : List ℕ → ℕ → Port

@@ -9,7 +9,7 @@ ghost use Rattle.table.specs.Layout.{place, tableSize, recordSize};
 ghost use Rattle.port.specs.Range.{portInRange};
 ghost use Rattle.table.specs.Record.{encoded};
 ghost use Rattle.table.specs.Table.{countIn, portAt, recordAt, firstInRange, tableInRange, isRoom, InTable};
-ghost use Rattle.table.specs.Worked.{Holds, Became};
+ghost use Rattle.table.specs.Leaves.{Holds, Became};
 use crate::layout::HEADER;
 use crate::layout::Header;
 use crate::layout::MOST_PORTS;

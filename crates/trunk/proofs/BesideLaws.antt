@@ -10,11 +10,11 @@ use Rattle.port.specs.Record.{withAggregator, withSelected}
 use Rattle.port.specs.Compared.{compared}
 use Rattle.port.specs.Mux.{muxRun, detached, placed, attachedIf}
 use Rattle.port.proofs.MuxLaws.{besideMux, mux-keeps, detached-keeps, placed-keeps, attached-keeps}
-use Rattle.port.proofs.TransmitLaws.{quieted-keeps}
+use Rattle.port.proofs.TransmitLaws.{cleared-keeps}
 use Rattle.table.specs.declared.layout.Header.{Header}
 use Rattle.trunk.specs.Selection.{ruleOf}
 use Rattle.trunk.specs.Ready.{ready}
-use Rattle.trunk.specs.Settled.{mustMove, reselected, selectedAll, climbed, settled}
+use Rattle.trunk.specs.Settled.{mustMove, reselected, selectedAll, muxed, settled}
 use Rattle.trunk.proofs.SettledLaws.{settled-at, selected-at}
 
 abbrev pub besideSettled : Port → Port
@@ -34,9 +34,9 @@ reselected-beside k p = by (mustMove k p)
 pub attached-beside : (r : Bool) (p : Port) → besideSettled (attachedIf r p) ≡ besideSettled p
 attached-beside r p = ap (λ (x : Port). aside x) (attached-keeps r p)
 
-pub climbed-beside : (p : Port) → besideSettled (climbed p) ≡ besideSettled p
-unfolding climbed
-climbed-beside p = ap (λ (x : Port). besideSettled x) (quieted-keeps (muxRun p)) ∙ ap (λ (x : Port). aside x) (mux-keeps p)
+pub muxed-beside : (p : Port) → besideSettled (muxed p) ≡ besideSettled p
+unfolding muxed
+muxed-beside p = ap (λ (x : Port). besideSettled x) (cleared-keeps (muxRun p)) ∙ ap (λ (x : Port). aside x) (mux-keeps p)
 
 -- all ports
 pub settled-beside : (s : Header) (ps : List Port) (i : ℕ) (d : Port) → i < length ps → besideSettled (getD (settled s ps) i d) ≡ besideSettled (getD ps i d)
@@ -44,5 +44,5 @@ settled-beside s ps i d h =
     let ss = selectedAll s ps in
     let r = ready (getD ss i d .aggregator) ss in
     ap (λ (x : Port). besideSettled x) (settled-at s ps i d h)
-    ∙ climbed-beside (attachedIf r (getD ss i d)) ∙ attached-beside r (getD ss i d)
+    ∙ muxed-beside (attachedIf r (getD ss i d)) ∙ attached-beside r (getD ss i d)
     ∙ ap (λ (x : Port). besideSettled x) (selected-at s ps i d h) ∙ reselected-beside (ruleOf s (map compared ps) i) (getD ps i d)

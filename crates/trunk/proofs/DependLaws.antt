@@ -14,7 +14,7 @@ use Rattle.port.specs.Mux.{attachedIf}
 use Rattle.table.specs.declared.layout.Header.{Header}
 use Rattle.trunk.specs.Selection.{nobody, joins, sharesGroup, ruleOf}
 use Rattle.trunk.specs.Ready.{waitsFor, hasWaiting, holdsBack, heldBack, ready}
-use Rattle.trunk.specs.Settled.{selectedAll, climbed, settled}
+use Rattle.trunk.specs.Settled.{selectedAll, muxed, settled}
 use Rattle.trunk.proofs.GroupLaws.{shares-refl, rule-shared, rule-apart, rule-same}
 use Rattle.trunk.proofs.SettledLaws.{selected-length, selected-at, selected-rule, settled-at}
 
@@ -104,8 +104,8 @@ module _ (ours : Header) (ps qs : List Port) (d : Port) (n : length ps ≡ lengt
       rw holds
       (ready-same (ruleOf ours (map compared ps) i) ss ts d (selected-length ours ps ∙ n ∙ sym (selected-length ours qs))
       (λ j k. let g : j < length ps = rw (selected-length ours ps) at k in like j g (sharesGroup ours (map compared ps) i j) refl)) in
-      settled-at ours ps i d h ∙ ap (λ (b : Bool). climbed (attachedIf b (getD ss i d))) is
-      ∙ ap (λ (p : Port). climbed (attachedIf (ready (p .aggregator) ts) p)) here ∙ sym (settled-at ours qs i d (rw (← n) h))
+      settled-at ours ps i d h ∙ ap (λ (b : Bool). muxed (attachedIf b (getD ss i d))) is
+      ∙ ap (λ (p : Port). muxed (attachedIf (ready (p .aggregator) ts) p)) here ∙ sym (settled-at ours qs i d (rw (← n) h))
 
 -- the same, from the records alone: those of every port that shares i's group in one of the lists are equal
 shares-same : (ours : Header) (cs ds : List Compared) (i j : ℕ) → getD cs i nobody ≡ getD ds i nobody → getD cs j nobody ≡ getD ds j nobody

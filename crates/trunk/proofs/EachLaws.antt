@@ -14,8 +14,8 @@ use Rattle.port.specs.Range.{portInRange}
 use Rattle.octets.proofs.RangeLaws.{within-is}
 use Rattle.trunk.specs.Selection.{ruleOf, lowest}
 use Rattle.trunk.specs.Ready.{ready}
-use Rattle.trunk.specs.Settled.{reselected, selectedAll, climbed, settled}
-use Rattle.trunk.proofs.RangeKept.{reselected-ranged, climbed-ranged}
+use Rattle.trunk.specs.Settled.{reselected, selectedAll, muxed, settled}
+use Rattle.trunk.proofs.RangeKept.{reselected-ranged, muxed-ranged}
 use Rattle.port.proofs.RangeLaws.{attached-ranged}
 use Rattle.trunk.proofs.GroupLaws.{lowest-le}
 use Rattle.trunk.proofs.SettledLaws.{selected-at, settled-at, settled-length}
@@ -32,7 +32,7 @@ rule-within ours ps i h =
 pub each-settled : (P : Port → Type 0) (ours : Header) (ps : List Port)
     → ((k : ℕ) (p : Port) → 1 ≤ k → k ≤ length ps → P p → P (reselected k p))
     → ((r : Bool) (p : Port) → P p → P (attachedIf r p))
-    → ((p : Port) → P p → P (climbed p))
+    → ((p : Port) → P p → P (muxed p))
     → Each P ps → Each P (settled ours ps)
 each-settled P ours ps one two three e i d k =
     let h : i < length ps = rw (settled-length ours ps) at k in
@@ -52,4 +52,4 @@ settled-fits count s ps n e =
     each-settled (Fits count) s ps
     (λ k p a b h. reselected-ranged count k p (within-is 1 k count a (omega arith)) h)
     (λ r p h. attached-ranged count r p h)
-    (λ p h. climbed-ranged count p h) e
+    (λ p h. muxed-ranged count p h) e

@@ -6,8 +6,8 @@ use Rattle.port.specs.declared.record.Port.{Port}
 use Rattle.port.specs.Compared.{compared}
 use Rattle.port.specs.Mux.{detached, placed, attachedIf, muxRun}
 use Rattle.port.proofs.MuxLaws.{mux-keeps, detached-keeps, placed-keeps, attached-keeps}
-use Rattle.port.proofs.TransmitLaws.{quieted-keeps}
-use Rattle.trunk.specs.Settled.{mustMove, reselected, climbed}
+use Rattle.port.proofs.TransmitLaws.{cleared-keeps}
+use Rattle.trunk.specs.Settled.{mustMove, reselected, muxed}
 
 if-compared : (b : Bool) (q p : Port) → compared q ≡ compared p → compared (cond b q p) ≡ compared p
 if-compared true q p e = e
@@ -21,6 +21,6 @@ reselected-compared k p =
 pub attached-compared : (ready : Bool) (p : Port) → compared (attachedIf ready p) ≡ compared p
 attached-compared ready p = ap compared (attached-keeps ready p)
 
-pub climbed-compared : (p : Port) → compared (climbed p) ≡ compared p
-unfolding climbed
-climbed-compared p = ap compared (quieted-keeps (muxRun p)) ∙ ap compared (mux-keeps p)
+pub muxed-compared : (p : Port) → compared (muxed p) ≡ compared p
+unfolding muxed
+muxed-compared p = ap compared (cleared-keeps (muxRun p)) ∙ ap compared (mux-keeps p)

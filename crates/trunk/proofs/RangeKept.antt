@@ -9,8 +9,8 @@ use Rattle.port.specs.declared.record.Port.{Port}
 use Rattle.port.specs.Mux.{muxRun, detached, placed}
 use Rattle.port.specs.Receive.{moved}
 use Rattle.port.specs.Range.{portInRange}
-use Rattle.port.proofs.RangeLaws.{if-ranged, detached-ranged, placed-ranged, mux-ranged, quieted-ranged, moved-ranged}
-use Rattle.trunk.specs.Settled.{mustMove, reselected, climbed}
+use Rattle.port.proofs.RangeLaws.{if-ranged, detached-ranged, placed-ranged, mux-ranged, cleared-ranged, moved-ranged}
+use Rattle.trunk.specs.Settled.{mustMove, reselected, muxed}
 use Rattle.trunk.specs.Displaced.{displacedIf, isDisplaced}
 
 module _ (count : ℕ) where
@@ -18,9 +18,9 @@ module _ (count : ℕ) where
   unfolding reselected
   reselected-ranged k p h e = if-ranged count (mustMove k p) (placed k (detached p)) p (placed-ranged count k (detached p) h (detached-ranged count p e)) e
 
-  pub climbed-ranged : (p : Port) → portInRange count p ≡ true → portInRange count (climbed p) ≡ true
-  unfolding climbed
-  climbed-ranged p e = quieted-ranged count (muxRun p) (mux-ranged count p e)
+  pub muxed-ranged : (p : Port) → portInRange count p ≡ true → portInRange count (muxed p) ≡ true
+  unfolding muxed
+  muxed-ranged p e = cleared-ranged count (muxRun p) (mux-ranged count p e)
 
   pub displaced-ranged : (r : ℕ) (a : Block) (i : ℕ) (p : Port) → portInRange count p ≡ true → portInRange count (displacedIf r a i p) ≡ true
   unfolding displacedIf

@@ -9,7 +9,7 @@ use lib.ListN.{length, getD}
 use lib.Dec.{ltb, eqb}
 use borrow.Author.Tests.{eqb-true, eq-eqb, not-true}
 use Rattle.octets.specs.Lists.{mapFrom}
-use Rattle.octets.proofs.ListLaws.{below, doneTo, each, done-length, done-next}
+use Rattle.octets.proofs.ListLaws.{below, doneTo, pointwise, done-length, done-next}
 use Rattle.machine.specs.declared.states.Mux.{Mux}
 use Rattle.machine.specs.declared.states.Mux.the-variants.{Detached, Waiting, Attached, Collecting, Distributing}
 use Rattle.machine.specs.declared.states.Selection.the-variants.{Unselected, Selected}
@@ -129,8 +129,8 @@ module _ (ps : List Port) (d : Port) where
 
   module _ (chosen : (j : ℕ) → j < length ps → Chosen (getD ps j d)) where
     -- nor do the first i of them
-    pub held-meanwhile : (k i : ℕ) → heldBack k (doneTo (each (attaching ps)) i ps) ≡ heldBack k ps
-    held-meanwhile k i = held-sweep k (below (each (attaching ps)) i) 0 ps d (λ j h. by j h (ltb (0 + j) i))
+    pub held-meanwhile : (k i : ℕ) → heldBack k (doneTo (pointwise (attaching ps)) i ps) ≡ heldBack k ps
+    held-meanwhile k i = held-sweep k (below (pointwise (attaching ps)) i) 0 ps d (λ j h. by j h (ltb (0 + j) i))
       where
         by : (j : ℕ) → j < length ps → (b : Bool) → holdsBack k (cond b (attaching ps (getD ps j d)) (getD ps j d)) ≡ holdsBack k (getD ps j d)
         by j h true = holds-kept k j h (chosen j h)
@@ -138,14 +138,14 @@ module _ (ps : List Port) (d : Port) where
 
     -- what Ready says of a port's aggregator while it still waits is what it said before any port was attached
     pub ready-meanwhile : (i : ℕ) → i < length ps → waits (getD ps i d .phase .mux) ≡ true
-        → ready (getD ps i d .aggregator) (doneTo (each (attaching ps)) i ps) ≡ ready (getD ps i d .aggregator) ps
+        → ready (getD ps i d .aggregator) (doneTo (pointwise (attaching ps)) i ps) ≡ ready (getD ps i d .aggregator) ps
     unfolding ready
     ready-meanwhile i h w =
         let k = getD ps i d .aggregator in
         let before : hasWaiting k ps ≡ true = some-waits k ps i d h (waits-own (getD ps i d) w) in
-        let next : getD (doneTo (each (attaching ps)) i ps) i d ≡ getD ps i d = done-next (each (attaching ps)) ps i d h in
-        let still : hasWaiting k (doneTo (each (attaching ps)) i ps) ≡ true =
-        some-waits k (doneTo (each (attaching ps)) i ps) i d (rw (done-length (each (attaching ps)) ps i) h) (rw next (waits-own (getD ps i d) w)) in
+        let next : getD (doneTo (pointwise (attaching ps)) i ps) i d ≡ getD ps i d = done-next (pointwise (attaching ps)) ps i d h in
+        let still : hasWaiting k (doneTo (pointwise (attaching ps)) i ps) ≡ true =
+        some-waits k (doneTo (pointwise (attaching ps)) i ps) i d (rw (done-length (pointwise (attaching ps)) ps i) h) (rw next (waits-own (getD ps i d) w)) in
         rw (before, still, held-meanwhile k i)
 
 -- `chosen` is needed: of two ports that wait for aggregator 1, an UNSELECTED one whose timer runs and one whose timer has run out, the
@@ -160,7 +160,7 @@ module _ (p : Port) where
   unfolding unchosen ready hasWaiting heldBack holdsBack waitsFor
   not-ready = refl
 
-  ready-then : ready 1 (doneTo (each (attaching unchosen)) 1 unchosen) ≡ true
+  ready-then : ready 1 (doneTo (pointwise (attaching unchosen)) 1 unchosen) ≡ true
   unfolding unchosen ready hasWaiting heldBack holdsBack waitsFor mapFrom attachedIf muxStep muxChoice
   ready-then = refl
 

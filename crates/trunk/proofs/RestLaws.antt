@@ -22,15 +22,15 @@ use Rattle.port.specs.declared.record.Port.{Port}
 use Rattle.port.specs.Record.{withNtt}
 use Rattle.port.specs.Compared.{compared}
 use Rattle.port.specs.Mux.{muxEntered, muxTaken, muxChoice, muxStep, muxRun, attachedIf}
-use Rattle.port.specs.Transmit.{silent, quieted}
+use Rattle.port.specs.Transmit.{silent, nttCleared}
 use Rattle.port.proofs.MuxLaws.{mux-rests, mux-idle, mux-step-keeps}
-use Rattle.port.proofs.TransmitLaws.{quieted-keeps, quieted-twice}
+use Rattle.port.proofs.TransmitLaws.{cleared-keeps, cleared-twice}
 use Rattle.table.specs.declared.layout.Header.{Header}
 use Rattle.trunk.specs.Selection.{ruleOf}
 use Rattle.trunk.specs.Ready.{waitsFor, hasWaiting, holdsBack, heldBack, ready}
-use Rattle.trunk.specs.Settled.{selectedAll, attachedAll, climbed, settled, Chosen}
+use Rattle.trunk.specs.Settled.{selectedAll, attachedAll, muxed, settled, Chosen}
 use Rattle.trunk.proofs.ReadyLaws.{waits-waiting, attached-other, attached-stays, attached-enters, some-waits, waits-own, holds-kept}
-use Rattle.trunk.proofs.SettledLaws.{chosen-kept, reselected-stays, attached-holds, climbed-holds, attached-length, attached-at, selected-length, selected-at, selected-chosen, settled-length, settled-from, settled-chosen, settled-rule}
+use Rattle.trunk.proofs.SettledLaws.{chosen-kept, reselected-stays, attached-holds, muxed-holds, attached-length, attached-at, selected-length, selected-at, selected-chosen, settled-length, settled-from, settled-chosen, settled-rule}
 
 -- ---- one port at rest
 
@@ -66,9 +66,9 @@ unfolding muxStep muxChoice
 if-rests true p e = rw e
 if-rests false p e = rw e
 
-quieted-rests : (p : Port) → muxStep false p ≡ p → muxStep false (quieted p) ≡ quieted p
-unfolding quieted
-quieted-rests p e = if-rests (silent p) p (rest-chooses p e)
+cleared-rests : (p : Port) → muxStep false p ≡ p → muxStep false (nttCleared p) ≡ nttCleared p
+unfolding nttCleared
+cleared-rests p e = if-rests (silent p) p (rest-chooses p e)
 
 -- a SELECTED port is at rest after the mux machine
 pub chosen-rests : (p : Port) → Chosen p → muxStep false (muxRun p) ≡ muxRun p
@@ -76,19 +76,19 @@ unfolding Chosen
 chosen-rests p s = mux-rests p s
 
 -- and step 6 done twice is done once
-pub climbed-twice : (p : Port) → Chosen p → climbed (climbed p) ≡ climbed p
-unfolding climbed
-climbed-twice p s =
+pub muxed-twice : (p : Port) → Chosen p → muxed (muxed p) ≡ muxed p
+unfolding muxed
+muxed-twice p s =
     let y = muxRun p in
-    let rest : muxStep false (quieted y) ≡ quieted y = quieted-rests y (chosen-rests p s) in
-    ap quieted (mux-idle (quieted y) rest) ∙ quieted-twice y
+    let rest : muxStep false (nttCleared y) ≡ nttCleared y = cleared-rests y (chosen-rests p s) in
+    ap nttCleared (mux-idle (nttCleared y) rest) ∙ cleared-twice y
 
 -- ---- one port in step 6
 
 -- a SELECTED port that waits goes on waiting
-waiting-climbs : (p : Port) → waits (p .phase .mux) ≡ true → Chosen p → climbed p ≡ quieted p
-unfolding climbed
-waiting-climbs p w s = ap quieted (mux-idle p (stays p w s))
+waiting-muxed : (p : Port) → waits (p .phase .mux) ≡ true → Chosen p → muxed p ≡ nttCleared p
+unfolding muxed
+waiting-muxed p w s = ap nttCleared (mux-idle p (stays p w s))
   where
     stays : (p : Port) → waits (p .phase .mux) ≡ true → Chosen p → muxStep false p ≡ p
     stays p w s = unfold muxStep muxChoice Chosen in rw (waits-waiting (p .phase .mux) w, s)
@@ -98,13 +98,13 @@ unfolding holdsBack waitsFor
 holds-waits k p e =
     and-eq-true-iff (eqb (p .aggregator) k) (waits (p .phase .mux)) .0 (and-eq-true-iff (eqb (p .aggregator) k && waits (p .phase .mux)) (not (ranOut (p .timers .wait))) .0 e .0) .1
 
-quieted-holds : (k : ℕ) (p : Port) → holdsBack k (quieted p) ≡ holdsBack k p
+cleared-holds : (k : ℕ) (p : Port) → holdsBack k (nttCleared p) ≡ holdsBack k p
 unfolding holdsBack waitsFor
-quieted-holds k p = ap (λ (x : Port). holdsBack k x) (quieted-keeps p)
+cleared-holds k p = ap (λ (x : Port). holdsBack k x) (cleared-keeps p)
 
 -- one that holds an aggregator back goes on doing so
-pub climbed-back : (k : ℕ) (p : Port) → Chosen p → holdsBack k p ≡ true → holdsBack k (climbed p) ≡ true
-climbed-back k p s e = ap (holdsBack k) (waiting-climbs p (holds-waits k p e) s) ∙ quieted-holds k p ∙ e
+pub muxed-back : (k : ℕ) (p : Port) → Chosen p → holdsBack k p ≡ true → holdsBack k (muxed p) ≡ true
+muxed-back k p s e = ap (holdsBack k) (waiting-muxed p (holds-waits k p e) s) ∙ cleared-holds k p ∙ e
 
 -- one that is detached starts to
 first-step : (p : Port) → Chosen p → p .phase .mux ≡ Detached → muxStep false p ≡ muxEntered Waiting p
@@ -123,10 +123,10 @@ entered-holds : (p : Port) → holdsBack (p .aggregator) (muxEntered Waiting p) 
 unfolding holdsBack waitsFor
 entered-holds p = rw (eq-eqb (p .aggregator) (p .aggregator) refl)
 
-pub detached-back : (p : Port) → Chosen p → p .phase .mux ≡ Detached → holdsBack (p .aggregator) (climbed p) ≡ true
-unfolding climbed
+pub detached-back : (p : Port) → Chosen p → p .phase .mux ≡ Detached → holdsBack (p .aggregator) (muxed p) ≡ true
+unfolding muxed
 detached-back p s e =
-    ap (λ (x : Port). holdsBack (p .aggregator) (quieted x)) (detached-run p s e) ∙ quieted-holds (p .aggregator) (muxEntered Waiting p) ∙ entered-holds p
+    ap (λ (x : Port). holdsBack (p .aggregator) (nttCleared x)) (detached-run p s e) ∙ cleared-holds (p .aggregator) (muxEntered Waiting p) ∙ entered-holds p
 
 -- one that is attached does not wait
 taken-attached : (m : Mux) (sync coll : Bool) (p : Port) → p .phase .mux ≡ m → isAttached m ≡ true
@@ -157,12 +157,12 @@ attached-waits Attached e = refl
 attached-waits Collecting e = refl
 attached-waits Distributing e = refl
 
-pub attached-climbs : (p : Port) → Chosen p → isAttached (p .phase .mux) ≡ true → waits (climbed p .phase .mux) ≡ false
-unfolding climbed muxRun
-attached-climbs p s e =
+pub attached-muxed : (p : Port) → Chosen p → isAttached (p .phase .mux) ≡ true → waits (muxed p .phase .mux) ≡ false
+unfolding muxed muxRun
+attached-muxed p s e =
     let x = muxStep false p in
     let t : Chosen x = chosen-kept p x (ap (λ (y : Port). y .phase .selected) (mux-step-keeps false p)) s in
-    ap (λ (y : Port). waits (y .phase .mux)) (quieted-keeps (muxStep false x))
+    ap (λ (y : Port). waits (y .phase .mux)) (cleared-keeps (muxStep false x))
     ∙ attached-waits (muxStep false x .phase .mux) (step-attached x t (step-attached p s e))
 
 -- ---- all ports
@@ -199,20 +199,20 @@ unready-held k ps w e = not-false (heldBack k ps) (rw w at e)
 module _ (ss : List Port) (d : Port) (chosen : (j : ℕ) → j < length ss → Chosen (getD ss j d)) where
   -- steps 5 and 6 on ports that are all SELECTED
   after : List Port
-  after = map climbed (attachedAll ss)
+  after = map muxed (attachedAll ss)
 
   after-length : length after ≡ length ss
   unfolding after
-  after-length = length-map (attachedAll ss) climbed ∙ attached-length ss
+  after-length = length-map (attachedAll ss) muxed ∙ attached-length ss
 
   -- such a port of them that holds an aggregator back does so to the end
   held-after : (k : ℕ) → heldBack k ss ≡ true → heldBack k after ≡ true
   unfolding after attachedAll
   held-after k e =
-      held-map k climbed (map f ss) d
+      held-map k muxed (map f ss) d
       (λ j h x.
       let here : j < length ss = rw (length-map ss f) at h in
-      climbed-back k (getD (map f ss) j d) (rw (map-at f ss j d d here)
+      muxed-back k (getD (map f ss) j d) (rw (map-at f ss j d d here)
       (chosen-kept (getD ss j d) (f (getD ss j d)) (attached-holds (ready (getD ss j d .aggregator) ss) (getD ss j d) .0) (chosen j here))) x)
       (held-map k f ss d (λ j h x. holds-kept ss d k j h (chosen j h) ∙ x) e)
     where
@@ -226,9 +226,9 @@ module _ (ss : List Port) (d : Port) (chosen : (j : ℕ) → j < length ss → C
     then : Port
     then = attachedIf (ready (was .aggregator) ss) was
 
-    after-at : getD after i d ≡ climbed then
+    after-at : getD after i d ≡ muxed then
     unfolding after then was
-    after-at = map-at climbed (attachedAll ss) i d d (rw (attached-length ss) h) ∙ ap climbed (attached-at ss i d h)
+    after-at = map-at muxed (attachedAll ss) i d d (rw (attached-length ss) h) ∙ ap muxed (attached-at ss i d h)
 
     then-chosen : Chosen then
     unfolding then was
@@ -251,17 +251,17 @@ module _ (ss : List Port) (d : Port) (chosen : (j : ℕ) → j < length ss → C
             absurd (false≢true (ap (λ (q : Port). waits (q .phase .mux)) (sym is) ∙ ap waits e))
         by true false w x = held-after (was .aggregator) (unready-held (was .aggregator) ss (some-waits (was .aggregator) ss i d h (waits-own was w)) x)
 
-    waits-then : waits (climbed then .phase .mux) ≡ true → (m : Mux) → then .phase .mux ≡ m → heldBack (was .aggregator) after ≡ true
+    waits-then : waits (muxed then .phase .mux) ≡ true → (m : Mux) → then .phase .mux ≡ m → heldBack (was .aggregator) after ≡ true
     waits-then w Detached e =
         some-holds (was .aggregator) after i d (rw after-length h) (rw (after-at, ← then-holds) (detached-back then then-chosen e))
     waits-then w Waiting e = waits-held e
-    waits-then w Attached e = absurd (false≢true (sym (attached-climbs then then-chosen (ap isAttached e)) ∙ w))
-    waits-then w Collecting e = absurd (false≢true (sym (attached-climbs then then-chosen (ap isAttached e)) ∙ w))
-    waits-then w Distributing e = absurd (false≢true (sym (attached-climbs then then-chosen (ap isAttached e)) ∙ w))
+    waits-then w Attached e = absurd (false≢true (sym (attached-muxed then then-chosen (ap isAttached e)) ∙ w))
+    waits-then w Collecting e = absurd (false≢true (sym (attached-muxed then then-chosen (ap isAttached e)) ∙ w))
+    waits-then w Distributing e = absurd (false≢true (sym (attached-muxed then then-chosen (ap isAttached e)) ∙ w))
 
     none-ready-after : waits (getD after i d .phase .mux) ≡ true → ready (getD after i d .aggregator) after ≡ false
     none-ready-after w =
-        let k : getD after i d .aggregator ≡ was .aggregator = ap (λ (q : Port). q .aggregator) after-at ∙ climbed-holds then .1 ∙ then-holds in
+        let k : getD after i d .aggregator ≡ was .aggregator = ap (λ (q : Port). q .aggregator) after-at ∙ muxed-holds then .1 ∙ then-holds in
         rw k (held-unready (was .aggregator) after (waits-then (rw after-at at w) (then .phase .mux) refl))
 
 -- ---- steps 3 to 6 are at rest after themselves
@@ -299,21 +299,21 @@ module _ (ours : Header) (ps : List Port) where
         by i h false w = attached-other (ready (getD (settled ours ps) i d .aggregator) (settled ours ps)) (getD (settled ours ps) i d) w
 
     -- step 6
-    rest-climbed : map climbed (settled ours ps) ≡ settled ours ps
-    rest-climbed =
+    rest-muxed : map muxed (settled ours ps) ≡ settled ours ps
+    rest-muxed =
         let qs = settled ours ps in
-        ext-getD d (map climbed qs) qs (length-map qs climbed)
-        (λ i k. let h : i < length qs = rw (length-map qs climbed) at k in
+        ext-getD d (map muxed qs) qs (length-map qs muxed)
+        (λ i k. let h : i < length qs = rw (length-map qs muxed) at k in
         let g : i < length ps = rw (settled-length ours ps) at h in
         let a = getD (attachedAll (selectedAll ours ps)) i d in
-        let e : getD qs i d ≡ climbed a = settled-from ours ps i d g in
+        let e : getD qs i d ≡ muxed a = settled-from ours ps i d g in
         let s : Chosen a =
-        chosen-kept (getD qs i d) a (sym (climbed-holds a .0) ∙ sym (ap (λ (x : Port). x .phase .selected) e)) (settled-chosen ours ps i d g) in
-        map-at climbed qs i d d h ∙ ap climbed e ∙ climbed-twice a s ∙ sym e)
+        chosen-kept (getD qs i d) a (sym (muxed-holds a .0) ∙ sym (ap (λ (x : Port). x .phase .selected) e)) (settled-chosen ours ps i d g) in
+        map-at muxed qs i d d h ∙ ap muxed e ∙ muxed-twice a s ∙ sym e)
 
     rest-settled : settled ours (settled ours ps) ≡ settled ours ps
     unfolding settled
-    rest-settled = ap (λ (l : List Port). map climbed (attachedAll l)) rest-selected ∙ ap (map climbed) rest-attached ∙ rest-climbed
+    rest-settled = ap (λ (l : List Port). map muxed (attachedAll l)) rest-selected ∙ ap (map muxed) rest-attached ∙ rest-muxed
 
 -- done twice is done once
 pub settled-twice : (ours : Header) (ps : List Port) → settled ours (settled ours ps) ≡ settled ours ps

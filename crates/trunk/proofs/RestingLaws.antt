@@ -18,17 +18,17 @@ use Rattle.port.specs.Record.{withAggregator, withSelected}
 use Rattle.port.specs.Mux.{muxStep, muxRun, detached, placed, attachedIf}
 use Rattle.port.specs.Receive.{moved}
 use Rattle.port.specs.Rest.{goesWith, Resting}
-use Rattle.port.proofs.TransmitLaws.{quieted-keeps}
-use Rattle.port.proofs.RestParts.{receivePart, periodicPart, muxPart, ReceiveRests, PeriodicTimed, MuxAgrees, calmPart, Standing, resting-is, standing, calm-rests, rests-calm, step-agrees}
+use Rattle.port.proofs.TransmitLaws.{cleared-keeps}
+use Rattle.port.proofs.RestParts.{receivePart, periodicPart, muxPart, ReceiveRests, PeriodicPartTimed, MuxAgrees, calmPart, Standing, resting-is, standing, calm-rests, rests-calm, step-agrees}
 use Rattle.port.proofs.RestKept.{tick-standing, moved-standing, tick-ages}
 use Rattle.octets.proofs.RangeLaws.{both}
 use Rattle.table.specs.declared.layout.Header.{Header}
 use Rattle.port.specs.Transmit.{advanced}
 use Rattle.machine.specs.Receive.{isDisabled}
 use Rattle.trunk.specs.Displaced.{isDisplaced, displacedIf}
-use Rattle.trunk.specs.Settled.{mustMove, reselected, climbed, settled}
+use Rattle.trunk.specs.Settled.{mustMove, reselected, muxed, settled}
 use Rattle.trunk.proofs.EachLaws.{each-settled}
-use Rattle.trunk.proofs.BesideLaws.{besideSettled, reselected-beside, attached-beside, climbed-beside}
+use Rattle.trunk.proofs.BesideLaws.{besideSettled, reselected-beside, attached-beside, muxed-beside}
 
 -- ---- a tick
 
@@ -86,11 +86,11 @@ attached-agrees r p h = by (waits (p .phase .mux))
     by true = step-agrees r p h
     by false = h
 
-climbed-agrees : (p : Port) → MuxAgrees (muxPart p) → MuxAgrees (muxPart (climbed p))
-unfolding climbed muxRun
-climbed-agrees p h =
+muxed-agrees : (p : Port) → MuxAgrees (muxPart p) → MuxAgrees (muxPart (muxed p))
+unfolding muxed muxRun
+muxed-agrees p h =
     let q = muxStep false (muxStep false p) in
-    subst MuxAgrees (sym (ap (λ (x : Port). muxPart x) (quieted-keeps q))) (step-agrees false (muxStep false p) (step-agrees false p h))
+    subst MuxAgrees (sym (ap (λ (x : Port). muxPart x) (cleared-keeps q))) (step-agrees false (muxStep false p) (step-agrees false p h))
 
 -- ---- so they keep a port's rest
 
@@ -101,7 +101,7 @@ beside-resting p q e m r =
     resting-is q
     (record {
       receive = subst ReceiveRests (ap (λ (x : Port). receivePart x) f) (s .receive);
-      timed = subst PeriodicTimed (ap (λ (x : Port). periodicPart x) f) (s .timed);
+      timed = subst PeriodicPartTimed (ap (λ (x : Port). periodicPart x) f) (s .timed);
       mux = m;
     })
     (calm-rests q (ap (λ (x : Port). calmPart (periodicPart x)) e ∙ rests-calm p (r .periodic)))
@@ -112,10 +112,10 @@ reselected-resting k p r = beside-resting p (reselected k p) (reselected-beside 
 pub attached-resting : (b : Bool) (p : Port) → Resting p → Resting (attachedIf b p)
 attached-resting b p r = beside-resting p (attachedIf b p) (attached-beside b p) (attached-agrees b p (standing p r .mux)) r
 
-pub climbed-resting : (p : Port) → Resting p → Resting (climbed p)
-climbed-resting p r = beside-resting p (climbed p) (climbed-beside p) (climbed-agrees p (standing p r .mux)) r
+pub muxed-resting : (p : Port) → Resting p → Resting (muxed p)
+muxed-resting p r = beside-resting p (muxed p) (muxed-beside p) (muxed-agrees p (standing p r .mux)) r
 
 -- and of every port
 pub settled-resting : (s : Header) (ps : List Port) → Each Resting ps → Each Resting (settled s ps)
 settled-resting s ps e =
-    each-settled Resting s ps (λ k p a b h. reselected-resting k p h) (λ r p h. attached-resting r p h) (λ p h. climbed-resting p h) e
+    each-settled Resting s ps (λ k p a b h. reselected-resting k p h) (λ r p h. attached-resting r p h) (λ p h. muxed-resting p h) e

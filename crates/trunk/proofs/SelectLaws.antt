@@ -13,7 +13,7 @@ use Rattle.trunk.specs.Selection.{sameGroup, nobody, joins, firstFrom, l
 use Rattle.port.specs.declared.record.Port.{Port}
 use Rattle.port.specs.Mux.{detached, placed}
 use Rattle.trunk.specs.Settled.{mustMove, reselected, selecting}
-use Rattle.table.specs.Worked.{Worked}
+use Rattle.table.specs.Leaves.{Leaves}
 use Rattle.trunk.proofs.TableWork.{map-port-at, next-is}
 use Rattle.trunk.proofs.KeepLaws.{reselected-compared}
 
@@ -60,7 +60,7 @@ reselected-unmoved k p e = rw e
 
 -- ---- steps 3 and 4, port after port: the rule reads the same in the partly selected table
 
-pub select-same : (ours : Header) {t u : List ℕ} (i : ℕ) → Worked t u (doneTo (selecting ours (ports t)) i (ports t)) → i < countIn t
+pub select-same : (ours : Header) {t u : List ℕ} (i : ℕ) → Leaves t u (doneTo (selecting ours (ports t)) i (ports t)) → i < countIn t
     → selecting ours (ports u) i (portAt u i) ≡ selecting ours (ports t) i (portAt t i)
 select-same ours {t} {u} i so-far h =
     let f = selecting ours (ports t) in

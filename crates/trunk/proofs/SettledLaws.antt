@@ -9,7 +9,7 @@ use lib.ListN.{length, getD, length-map}
 use lib.Dec.{eqb}
 use borrow.Author.Tests.{eqb-true, eq-eqb, not-false}
 use Rattle.octets.specs.Lists.{mapFrom}
-use Rattle.octets.proofs.ListLaws.{map-at, map-keeps, doneTo, each, sweep-length, sweep-at, sweep-keeps, sweep-map}
+use Rattle.octets.proofs.ListLaws.{map-at, map-keeps, doneTo, pointwise, sweep-length, sweep-at, sweep-keeps, sweep-map}
 use Rattle.machine.specs.declared.states.Selection.{Selection}
 use Rattle.machine.specs.declared.states.Selection.the-variants.{Unselected, Selected}
 use Rattle.machine.specs.Mux.{waits, isUnselected}
@@ -17,12 +17,12 @@ use Rattle.port.specs.declared.record.Port.{Port}
 use Rattle.port.specs.Compared.{compared}
 use Rattle.port.specs.Mux.{detached, placed, attachedIf, muxRun}
 use Rattle.port.proofs.MuxLaws.{mux-keeps, placed-keeps, attached-keeps}
-use Rattle.port.proofs.TransmitLaws.{quieted-keeps}
+use Rattle.port.proofs.TransmitLaws.{cleared-keeps}
 use Rattle.table.specs.declared.layout.Header.{Header}
 use Rattle.trunk.specs.Selection.{sharesGroup, ruleOf}
 use Rattle.trunk.specs.Ready.{ready}
-use Rattle.trunk.specs.Settled.{mustMove, reselected, selecting, selectedAll, attaching, attachedAll, climbed, settled, Chosen}
-use Rattle.trunk.proofs.KeepLaws.{reselected-compared, attached-compared, climbed-compared}
+use Rattle.trunk.specs.Settled.{mustMove, reselected, selecting, selectedAll, attaching, attachedAll, muxed, settled, Chosen}
+use Rattle.trunk.proofs.KeepLaws.{reselected-compared, attached-compared, muxed-compared}
 use Rattle.trunk.proofs.ReadyLaws.{ready-meanwhile}
 use Rattle.trunk.proofs.GroupLaws.{rule-shared, rule-apart}
 
@@ -64,11 +64,11 @@ attached-holds r p = (
   ap (λ (x : Port). x .aggregator) (attached-keeps r p),
 )
 
-pub climbed-holds : (p : Port) → (climbed p .phase .selected ≡ p .phase .selected) × (climbed p .aggregator ≡ p .aggregator)
-unfolding climbed
-climbed-holds p = (
-  ap (λ (x : Port). x .phase .selected) (quieted-keeps (muxRun p)) ∙ ap (λ (x : Port). x .phase .selected) (mux-keeps p),
-  ap (λ (x : Port). x .aggregator) (quieted-keeps (muxRun p)) ∙ ap (λ (x : Port). x .aggregator) (mux-keeps p),
+pub muxed-holds : (p : Port) → (muxed p .phase .selected ≡ p .phase .selected) × (muxed p .aggregator ≡ p .aggregator)
+unfolding muxed
+muxed-holds p = (
+  ap (λ (x : Port). x .phase .selected) (cleared-keeps (muxRun p)) ∙ ap (λ (x : Port). x .phase .selected) (mux-keeps p),
+  ap (λ (x : Port). x .aggregator) (cleared-keeps (muxRun p)) ∙ ap (λ (x : Port). x .aggregator) (mux-keeps p),
 )
 
 -- ---- all ports
@@ -97,7 +97,7 @@ module _ (ours : Header) (ps : List Port) where
   pub settled-compares : map compared (settled ours ps) ≡ map compared ps
   unfolding settled
   settled-compares =
-      map-keeps compared climbed climbed-compared (attachedAll (selectedAll ours ps)) ∙ attached-compares (selectedAll ours ps) ∙ selected-compares
+      map-keeps compared muxed muxed-compared (attachedAll (selectedAll ours ps)) ∙ attached-compares (selectedAll ours ps) ∙ selected-compares
 
   -- and so is the number of ports
   pub selected-length : length (selectedAll ours ps) ≡ length ps
@@ -106,7 +106,7 @@ module _ (ours : Header) (ps : List Port) where
 
   pub settled-length : length (settled ours ps) ≡ length ps
   unfolding settled
-  settled-length = length-map (attachedAll (selectedAll ours ps)) climbed ∙ attached-length (selectedAll ours ps) ∙ selected-length
+  settled-length = length-map (attachedAll (selectedAll ours ps)) muxed ∙ attached-length (selectedAll ours ps) ∙ selected-length
 
   module _ (i : ℕ) (d : Port) (h : i < length ps) where
     -- one record after steps 3 and 4, and after all of them
@@ -117,13 +117,13 @@ module _ (ours : Header) (ps : List Port) where
         sweep-at (selecting ours ps) 0 ps i d h
         ∙ ap (λ (k : ℕ). reselected (ruleOf ours (map compared ps) k) (getD ps i d)) e
 
-    pub settled-from : getD (settled ours ps) i d ≡ climbed (getD (attachedAll (selectedAll ours ps)) i d)
+    pub settled-from : getD (settled ours ps) i d ≡ muxed (getD (attachedAll (selectedAll ours ps)) i d)
     unfolding settled
-    settled-from = map-at climbed (attachedAll (selectedAll ours ps)) i d d (rw (attached-length (selectedAll ours ps), selected-length) h)
+    settled-from = map-at muxed (attachedAll (selectedAll ours ps)) i d d (rw (attached-length (selectedAll ours ps), selected-length) h)
 
     pub settled-at : getD (settled ours ps) i d
-        ≡ climbed (attachedIf (ready (getD (selectedAll ours ps) i d .aggregator) (selectedAll ours ps)) (getD (selectedAll ours ps) i d))
-    settled-at = settled-from ∙ ap climbed (attached-at (selectedAll ours ps) i d (rw selected-length h))
+        ≡ muxed (attachedIf (ready (getD (selectedAll ours ps) i d .aggregator) (selectedAll ours ps)) (getD (selectedAll ours ps) i d))
+    settled-at = settled-from ∙ ap muxed (attached-at (selectedAll ours ps) i d (rw selected-length h))
 
     -- after steps 3 and 4 a port is SELECTED and holds what the rule gives
     pub selected-chosen : Chosen (getD (selectedAll ours ps) i d)
@@ -138,13 +138,13 @@ module _ (ours : Header) (ps : List Port) where
         let s = getD (selectedAll ours ps) i d in
         let r = ready (s .aggregator) (selectedAll ours ps) in
         chosen-kept s (getD (settled ours ps) i d)
-        (ap (λ (x : Port). x .phase .selected) settled-at ∙ climbed-holds (attachedIf r s) .0 ∙ attached-holds r s .0) selected-chosen
+        (ap (λ (x : Port). x .phase .selected) settled-at ∙ muxed-holds (attachedIf r s) .0 ∙ attached-holds r s .0) selected-chosen
 
     settled-before : getD (settled ours ps) i d .aggregator ≡ ruleOf ours (map compared ps) i
     settled-before =
         let s = getD (selectedAll ours ps) i d in
         let r = ready (s .aggregator) (selectedAll ours ps) in
-        ap (λ (x : Port). x .aggregator) settled-at ∙ climbed-holds (attachedIf r s) .1 ∙ attached-holds r s .1 ∙ selected-rule
+        ap (λ (x : Port). x .aggregator) settled-at ∙ muxed-holds (attachedIf r s) .1 ∙ attached-holds r s .1 ∙ selected-rule
 
     -- and holds what the rule gives afresh
     pub settled-rule : getD (settled ours ps) i d .aggregator ≡ ruleOf ours (map compared (settled ours ps)) i
@@ -165,12 +165,12 @@ module _ (ours : Header) (ps : List Port) where
 
   -- while a port waits there, Ready of its aggregator is what it was before any port was attached
   pub ready-selected : (i : ℕ) (d : Port) → i < length ps → waits (getD (selectedAll ours ps) i d .phase .mux) ≡ true
-      → ready (getD (selectedAll ours ps) i d .aggregator) (doneTo (each (attaching (selectedAll ours ps))) i (selectedAll ours ps))
+      → ready (getD (selectedAll ours ps) i d .aggregator) (doneTo (pointwise (attaching (selectedAll ours ps))) i (selectedAll ours ps))
       ≡ ready (getD (selectedAll ours ps) i d .aggregator) (selectedAll ours ps)
   ready-selected i d h w =
       ready-meanwhile (selectedAll ours ps) d (λ j k. selected-chosen j d (rw selected-length at k)) i (rw selected-length h) w
 
 -- so step 5 is a sweep
-pub attached-sweep : (ps : List Port) → mapFrom (each (attaching ps)) 0 ps ≡ attachedAll ps
+pub attached-sweep : (ps : List Port) → mapFrom (pointwise (attaching ps)) 0 ps ≡ attachedAll ps
 unfolding attachedAll
 attached-sweep ps = sweep-map (attaching ps) 0 ps

@@ -15,36 +15,36 @@ use Rattle.port.specs.declared.record.Port.{Port}
 use Rattle.port.specs.Record.{withNtt}
 use Rattle.port.specs.Compared.{Compared, compared}
 use Rattle.port.specs.Mux.{muxChoice, muxStep, muxRun, attachedIf}
-use Rattle.port.specs.Transmit.{silent, quieted, sent}
+use Rattle.port.specs.Transmit.{silent, nttCleared, sent}
 use Rattle.port.proofs.MuxLaws.{mux-idle}
-use Rattle.port.proofs.TransmitLaws.{quieted-keeps, quieted-twice, besideSends}
+use Rattle.port.proofs.TransmitLaws.{cleared-keeps, cleared-twice, besideSends}
 use Rattle.table.specs.declared.layout.Header.{Header}
 use Rattle.table.specs.Record.{decoded}
 use Rattle.trunk.specs.Selection.{ruleOf}
 use Rattle.trunk.specs.Ready.{waitsFor, hasWaiting, holdsBack, heldBack, ready}
-use Rattle.trunk.specs.Settled.{selectedAll, attachedAll, climbed, settled, Chosen}
+use Rattle.trunk.specs.Settled.{selectedAll, attachedAll, muxed, settled, Chosen}
 use Rattle.trunk.proofs.ReadyLaws.{attached-other, attached-stays}
 use Rattle.trunk.proofs.SettledLaws.{chosen-kept, reselected-stays, attached-holds, attached-length, attached-at, selected-length, selected-at, settled-at, settled-chosen, settled-rule}
-use Rattle.trunk.proofs.RestLaws.{rest-chooses, chosen-rests, climbed-twice, none-ready}
+use Rattle.trunk.proofs.RestLaws.{rest-chooses, chosen-rests, muxed-twice, none-ready}
 
 -- ---- one port in step 6
 
-quieted-chooses : (p : Port) → muxChoice false (quieted p) ≡ muxChoice false p
+cleared-chooses : (p : Port) → muxChoice false (nttCleared p) ≡ muxChoice false p
 unfolding muxChoice
-quieted-chooses p = ap (λ (x : Port). muxChoice false x) (quieted-keeps p)
+cleared-chooses p = ap (λ (x : Port). muxChoice false x) (cleared-keeps p)
 
 -- where step 6 changes nothing, the mux machine stays and NTT is clear where it is to be
-pub climbed-stays : (p : Port) → Chosen p → climbed p ≡ p → muxChoice false p ≡ Stay
-unfolding climbed
-climbed-stays p s e = ap (muxChoice false) (sym e) ∙ quieted-chooses (muxRun p) ∙ rest-chooses (muxRun p) (chosen-rests p s)
+pub muxed-stays : (p : Port) → Chosen p → muxed p ≡ p → muxChoice false p ≡ Stay
+unfolding muxed
+muxed-stays p s e = ap (muxChoice false) (sym e) ∙ cleared-chooses (muxRun p) ∙ rest-chooses (muxRun p) (chosen-rests p s)
 
-pub climbed-quiet : (p : Port) → climbed p ≡ p → quieted p ≡ p
-unfolding climbed
-climbed-quiet p e = ap quieted (sym e) ∙ quieted-twice (muxRun p) ∙ e
+pub muxed-cleared : (p : Port) → muxed p ≡ p → nttCleared p ≡ p
+unfolding muxed
+muxed-cleared p e = ap nttCleared (sym e) ∙ cleared-twice (muxRun p) ∙ e
 
-pub climbed-is : (p : Port) → muxChoice false p ≡ Stay → quieted p ≡ p → climbed p ≡ p
-unfolding climbed
-climbed-is p c q = ap quieted (mux-idle p (stays p c)) ∙ q
+pub muxed-is : (p : Port) → muxChoice false p ≡ Stay → nttCleared p ≡ p → muxed p ≡ p
+unfolding muxed
+muxed-is p c q = ap nttCleared (mux-idle p (stays p c)) ∙ q
   where
     stays : (p : Port) → muxChoice false p ≡ Stay → muxStep false p ≡ p
     stays p c = unfold muxStep in rw c
@@ -56,7 +56,7 @@ pub record Firm (k : ℕ) (r : ℕ → Bool) (p : Port) : Type 0 where
   pub rule : p .aggregator ≡ k
   pub unready : waits (p .phase .mux) ≡ true → r (p .aggregator) ≡ false
   pub stays : muxChoice false p ≡ Stay
-  pub quiet : quieted p ≡ p
+  pub quiet : nttCleared p ≡ p
 
 -- ---- a list
 
@@ -69,8 +69,8 @@ module _ (ours : Header) (ps : List Port) where
     chosen = chosen;
     rule = rule;
     unready = rw e at (none-ready ours ps i d h);
-    stays = climbed-stays p chosen top;
-    quiet = climbed-quiet p top;
+    stays = muxed-stays p chosen top;
+    quiet = muxed-cleared p top;
   }
     where
       p : Port
@@ -88,11 +88,11 @@ module _ (ours : Header) (ps : List Port) where
       r : Bool
       r = ready (getD (selectedAll ours ps) i d .aggregator) (selectedAll ours ps)
 
-      from : p ≡ climbed (attachedIf r p)
-      from = ap (λ (l : List Port). getD l i d) (sym e) ∙ settled-at ours ps i d h ∙ ap (λ (x : Port). climbed (attachedIf r x)) same
+      from : p ≡ muxed (attachedIf r p)
+      from = ap (λ (l : List Port). getD l i d) (sym e) ∙ settled-at ours ps i d h ∙ ap (λ (x : Port). muxed (attachedIf r x)) same
 
-      top : climbed p ≡ p
-      top = ap climbed from ∙ climbed-twice (attachedIf r p) (chosen-kept p (attachedIf r p) (attached-holds r p .0) chosen) ∙ sym from
+      top : muxed p ≡ p
+      top = ap muxed from ∙ muxed-twice (attachedIf r p) (chosen-kept p (attachedIf r p) (attached-holds r p .0) chosen) ∙ sym from
 
   module _ (f : Settles ours ps) where
     selected-same : selectedAll ours ps ≡ ps
@@ -115,16 +115,16 @@ module _ (ours : Header) (ps : List Port) where
             rw (q .unready w) (attached-stays (getD ps i (decoded [])) w (q .chosen))
         by i h false w = attached-other (ready (getD ps i (decoded []) .aggregator) ps) (getD ps i (decoded [])) w
 
-    climbed-same : map climbed ps ≡ ps
-    climbed-same =
-        ext-getD (decoded []) (map climbed ps) ps (length-map ps climbed)
-        (λ i k. let h : i < length ps = rw (length-map ps climbed) at k in
+    muxed-same : map muxed ps ≡ ps
+    muxed-same =
+        ext-getD (decoded []) (map muxed ps) ps (length-map ps muxed)
+        (λ i k. let h : i < length ps = rw (length-map ps muxed) at k in
         let q = f i (decoded []) h in
-        map-at climbed ps i (decoded []) (decoded []) h ∙ climbed-is (getD ps i (decoded [])) (q .stays) (q .quiet))
+        map-at muxed ps i (decoded []) (decoded []) h ∙ muxed-is (getD ps i (decoded [])) (q .stays) (q .quiet))
 
     pub settles-is : settled ours ps ≡ ps
     unfolding settled
-    settles-is = ap (λ (l : List Port). map climbed (attachedAll l)) selected-same ∙ ap (map climbed) attached-same ∙ climbed-same
+    settles-is = ap (λ (l : List Port). map muxed (attachedAll l)) selected-same ∙ ap (map muxed) attached-same ∙ muxed-same
 
 -- ---- a send
 
@@ -133,9 +133,9 @@ unfolding sent
 if-quiet true p = refl
 if-quiet false p = refl
 
-sent-quiet : (p : Port) → quieted (sent p) ≡ sent p
-unfolding quieted
-sent-quiet p = if-quiet (silent (sent p)) p
+sent-cleared : (p : Port) → nttCleared (sent p) ≡ sent p
+unfolding nttCleared
+sent-cleared p = if-quiet (silent (sent p)) p
 
 sent-chooses : (p : Port) → muxChoice false (sent p) ≡ muxChoice false p
 unfolding muxChoice sent
@@ -148,7 +148,7 @@ sent-firm k r p f = record {
   rule = f .rule;
   unready = f .unready;
   stays = sent-chooses p ∙ f .stays;
-  quiet = sent-quiet p;
+  quiet = sent-cleared p;
 }
 
 firm-as : (k m : ℕ) (r s : ℕ → Bool) (p : Port) → k ≡ m → ((n : ℕ) → r n ≡ s n) → Firm k r p → Firm m s p

@@ -5,7 +5,7 @@ use mathlib.Core.Bool.{Bool, true, false, not, _&&_, false≢true, true≢false}
 use mathlib.Core.List.{List}
 use lib.ListN.{length, getD, drop}
 use lib.Seq.{drop-cons, drop-length}
-use Rattle.octets.proofs.ListLaws.{doneTo, each}
+use Rattle.octets.proofs.ListLaws.{doneTo, pointwise}
 use Rattle.machine.specs.Mux.{waits}
 use Rattle.port.specs.declared.record.Port.{Port}
 use Rattle.port.specs.Mux.{attachedIf}
@@ -14,7 +14,7 @@ use Rattle.table.specs.Table.{countIn, ports, portAt}
 use Rattle.table.proofs.StoreLaws.{ports-length, ports-at}
 use Rattle.trunk.specs.Ready.{hasWaiting, holdsBack, heldBack, ready}
 use Rattle.trunk.specs.Settled.{selectedAll, attaching, Chosen, AllChosen}
-use Rattle.table.specs.Worked.{Worked}
+use Rattle.table.specs.Leaves.{Leaves}
 use Rattle.trunk.proofs.TableWork.{next-is}
 use Rattle.trunk.proofs.SettledLaws.{selected-chosen, selected-length}
 use Rattle.trunk.proofs.ReadyLaws.{attached-other, attached-stays, some-waits, waits-own, ready-meanwhile}
@@ -78,17 +78,17 @@ attach-held ps i d h s e = by (waits (getD ps i d .phase .mux)) (heldBack (getD 
     by true false w x e = absurd (true≢false e)
 
 -- in the partly attached table, port i is still SELECTED
-pub still-chosen : {t u : List ℕ} (i : ℕ) → AllChosen (ports t) → Worked t u (doneTo (each (attaching (ports t))) i (ports t)) → i < countIn t
+pub still-chosen : {t u : List ℕ} (i : ℕ) → AllChosen (ports t) → Leaves t u (doneTo (pointwise (attaching (ports t))) i (ports t)) → i < countIn t
     → Chosen (portAt u i)
 still-chosen {t} {u} i chosen so-far h =
     let here : getD (ports t) i (portAt t i) ≡ portAt t i = ports-at t i (portAt t i) h in
-    rw (next-is (each (attaching (ports t))) i so-far h) (rw here at (chosen i (portAt t i) (rw ports-length h)))
+    rw (next-is (pointwise (attaching (ports t))) i so-far h) (rw here at (chosen i (portAt t i) (rw ports-length h)))
 
 -- in the partly attached table, the step of port i is what it was in the whole
-pub attach-same : {t u : List ℕ} (i : ℕ) → AllChosen (ports t) → Worked t u (doneTo (each (attaching (ports t))) i (ports t)) → i < countIn t
+pub attach-same : {t u : List ℕ} (i : ℕ) → AllChosen (ports t) → Leaves t u (doneTo (pointwise (attaching (ports t))) i (ports t)) → i < countIn t
     → attaching (ports u) (portAt u i) ≡ attaching (ports t) (portAt t i)
 attach-same {t} {u} i chosen so-far h =
-    ap (attaching (ports u)) (next-is (each (attaching (ports t))) i so-far h) ∙ by (waits (p .phase .mux)) refl
+    ap (attaching (ports u)) (next-is (pointwise (attaching (ports t))) i so-far h) ∙ by (waits (p .phase .mux)) refl
   where
     p : Port
     p = portAt t i

@@ -12,8 +12,8 @@ use Rattle.port.specs.Range.{portInRange}
 use Rattle.table.specs.Table.{tableInRange, InTable, countIn, ports, portAt}
 use Rattle.table.proofs.StoreLaws.{ports-length, ports-at}
 use Rattle.table.proofs.TableLaws.{ranged-at}
-use Rattle.table.proofs.WorkedLaws.{then, count-kept, said}
-use Rattle.table.specs.Worked.{Worked, Became}
+use Rattle.table.proofs.LeavesLaws.{then, count-kept, said}
+use Rattle.table.specs.Leaves.{Leaves, Became}
 
 -- load, step, store: a step that keeps a record in range gives one that may be stored, and makes of port i what it says
 pub may-store : (f : Port → Port) (t : List ℕ) (i : ℕ) {p q : Port} → InTable t i → Octets t
@@ -32,23 +32,23 @@ map-port-at g t i a h =
 
 -- ---- a loop over the records: the first i of them are done
 
-module _ (f : ℕ → Port → Port) {t u : List ℕ} (i : ℕ) (so-far : Worked t u (doneTo f i (ports t))) (h : i < countIn t) where
+module _ (f : ℕ → Port → Port) {t u : List ℕ} (i : ℕ) (so-far : Leaves t u (doneTo f i (ports t))) (h : i < countIn t) where
   pub in-list : i < length (ports t)
   in-list = rw ports-length h
 
-  pub in-table : i < countIn u
-  in-table = rw (count-kept so-far) h
+  pub in-count : i < countIn u
+  in-count = rw (count-kept so-far) h
 
   -- what the turn finds at i is as it was
   pub next-is : portAt u i ≡ portAt t i
   next-is =
-      sym (ports-at u i (portAt t i) in-table)
+      sym (ports-at u i (portAt t i) in-count)
       ∙ ap (λ (l : List Port). getD l i (portAt t i)) (so-far .records)
       ∙ done-next f (ports t) i (portAt t i) in-list
       ∙ ports-at t i (portAt t i) h
 
   -- a turn that puts f's record at i
-  pub turn : {v : List ℕ} (q : Port) → Became u v i q → q ≡ f i (portAt t i) → Worked t v (doneTo f (i + 1) (ports t))
+  pub turn : {v : List ℕ} (q : Port) → Became u v i q → q ≡ f i (portAt t i) → Leaves t v (doneTo f (i + 1) (ports t))
   turn q done e =
       let all = then so-far done in
       record {
@@ -63,10 +63,10 @@ module _ (f : ℕ → Port → Port) {t u : List ℕ} (i : ℕ) (so-far : Worked
       }
 
 -- before the first turn, and after the last
-pub loop-begins : (f : ℕ → Port → Port) (t : List ℕ) → tableInRange t ≡ true → Worked t t (doneTo f 0 (ports t))
+pub loop-begins : (f : ℕ → Port → Port) (t : List ℕ) → tableInRange t ≡ true → Leaves t t (doneTo f 0 (ports t))
 loop-begins f t e = record { header = refl; size = refl; ranged = e; records = sym (done-none f (ports t) (portAt t 0)) }
 
-pub loop-ends : (f : ℕ → Port → Port) {t u : List ℕ} (n : ℕ) → countIn t ≡ n → Worked t u (doneTo f n (ports t)) → Worked t u (mapFrom f 0 (ports t))
+pub loop-ends : (f : ℕ → Port → Port) {t u : List ℕ} (n : ℕ) → countIn t ≡ n → Leaves t u (doneTo f n (ports t)) → Leaves t u (mapFrom f 0 (ports t))
 loop-ends f {t} n e w = record {
   header = w .header;
   size = w .size;

@@ -10,7 +10,7 @@ use Rattle.machine.specs.Mux.{isUnselected}
 use Rattle.port.specs.declared.record.Port.{Port}
 use Rattle.port.specs.Compared.{compared}
 use Rattle.port.specs.Mux.{detached, placed, attachedIf, muxRun}
-use Rattle.port.specs.Transmit.{quieted}
+use Rattle.port.specs.Transmit.{nttCleared}
 use Rattle.table.specs.declared.layout.Header.{Header}
 use Rattle.trunk.specs.Selection.{ruleOf}
 use Rattle.trunk.specs.Ready.{ready}
@@ -38,11 +38,11 @@ unfoldable pub attachedAll : List Port → List Port
 attachedAll ps = map (attaching ps) ps
 
 -- step 6; what a later request does after it has its place here
-unfoldable pub climbed : Port → Port
-climbed p = quieted (muxRun p)
+unfoldable pub muxed : Port → Port
+muxed p = nttCleared (muxRun p)
 
 unfoldable pub settled : Header → List Port → List Port
-settled ours ps = map climbed (attachedAll (selectedAll ours ps))
+settled ours ps = map muxed (attachedAll (selectedAll ours ps))
 
 -- a port is as the rule chose: SELECTED
 unfoldable pub Chosen : Port → Type 0

@@ -8,13 +8,13 @@ use Rattle.port.specs.Transmit.{advanced}
 use Rattle.trunk.specs.declared.sweep.Step.{Step}
 use Rattle.trunk.specs.declared.sweep.Step.the-variants.{Tick, Periodic, Mux, Displaced}
 use Rattle.trunk.specs.Displaced.{displacedIf}
-use Rattle.trunk.specs.Settled.{climbed}
+use Rattle.trunk.specs.Settled.{muxed}
 
 -- what the step makes of port i
 abbrev pub stepped : Step → ℕ → Port → Port
 stepped Tick i p = advanced p
 stepped Periodic i p = periodicRun p
-stepped Mux i p = climbed p
+stepped Mux i p = muxed p
 stepped (Displaced r a) i p = displacedIf r a i p
 
 -- and of all ports

@@ -2,7 +2,7 @@
 ghost use mathlib.Core.Path.{_≡_};
 ghost use Rattle.table.specs.Table.{InTable, portAt};
 ghost use Rattle.trunk.specs.Displaced.{isDisplaced, displacedIf};
-ghost use Rattle.table.specs.Worked.{Became};
+ghost use Rattle.table.specs.Leaves.{Became};
 use frame::block::Block;
 use machine::compare::same_address;
 use machine::receive::is_disabled;

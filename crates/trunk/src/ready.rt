@@ -5,7 +5,7 @@ ghost use Rattle.machine.specs.Mux.{waits};
 ghost use Rattle.table.specs.Table.{tableInRange, InTable, ports, portAt};
 ghost use Rattle.trunk.specs.Ready.{holdsBack, heldBack};
 ghost use Rattle.trunk.specs.Settled.{Chosen, AllChosen, attaching, attachedAll};
-ghost use Rattle.table.specs.Worked.{Worked, Became};
+ghost use Rattle.table.specs.Leaves.{Leaves, Became};
 
 // Whether port i waits for aggregator k with its timer still running.
 fn holds_back(table: &[u8], i: usize, k: u8) -> bool
@@ -64,7 +64,7 @@ fn attach_one(table: &mut [u8], i: usize)
 // Step 5 for all ports, which step 4 left SELECTED.
 pub fn attach_all(table: &mut [u8])
     requires { ⌜ (tableInRange (now table) ≡ true) × AllChosen (ports (now table)) ⌝ }
-    ensures { λ _. ⌜ Worked (now (table .entry)) (now (table .exit)) (attachedAll (ports (now (table .entry)))) ⌝ }
+    ensures { λ _. ⌜ Leaves (now (table .entry)) (now (table .exit)) (attachedAll (ports (now (table .entry)))) ⌝ }
 {
     let n = table::count(table);
     let mut i: usize = 0;

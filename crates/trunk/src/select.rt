@@ -7,7 +7,7 @@ ghost use Rattle.port.specs.Compared.{compared};
 ghost use Rattle.table.specs.Table.{tableInRange, InTable, ports, portAt};
 ghost use Rattle.trunk.specs.Selection.{individual, sameGroup, lowest as Selection·lowest};
 ghost use Rattle.trunk.specs.Settled.{mustMove, selecting, selectedAll};
-ghost use Rattle.table.specs.Worked.{Worked, Became};
+ghost use Rattle.table.specs.Leaves.{Leaves, Became};
 use machine::compare::same_system;
 use machine::mux::is_unselected;
 use port::record::Port;
@@ -76,7 +76,7 @@ fn select_one(table: &mut [u8], i: usize, ours: Header)
 // Steps 3 and 4 for all ports.
 pub fn select_all(table: &mut [u8], ours: Header)
     requires { ⌜ tableInRange (now table) ≡ true ⌝ }
-    ensures { λ _. ⌜ Worked (now (table .entry)) (now (table .exit)) (selectedAll ours (ports (now (table .entry)))) ⌝ }
+    ensures { λ _. ⌜ Leaves (now (table .entry)) (now (table .exit)) (selectedAll ours (ports (now (table .entry)))) ⌝ }
 {
     let n = table::count(table);
     let mut i: usize = 0;

@@ -4,7 +4,7 @@ ghost use mathlib.Core.Bool.{true};
 ghost use Rattle.table.specs.Layout.{headerOf};
 ghost use Rattle.table.specs.Table.{tableInRange, ports};
 ghost use Rattle.trunk.specs.Settled.{settled};
-ghost use Rattle.table.specs.Worked.{Worked};
+ghost use Rattle.table.specs.Leaves.{Leaves};
 use crate::ready::attach_all;
 use crate::select::select_all;
 use crate::sweep::Step;
@@ -13,7 +13,7 @@ use crate::sweep::sweep;
 // Steps 3 to 6 for all ports.
 pub fn settle(table: &mut [u8])
     requires { ⌜ tableInRange (now table) ≡ true ⌝ }
-    ensures { λ _. ⌜ Worked (now (table .entry)) (now (table .exit)) (settled (headerOf (now (table .entry))) (ports (now (table .entry)))) ⌝ }
+    ensures { λ _. ⌜ Leaves (now (table .entry)) (now (table .exit)) (settled (headerOf (now (table .entry))) (ports (now (table .entry)))) ⌝ }
 {
     let ours = table::layout::read_header(table);
     select_all(table, ours);

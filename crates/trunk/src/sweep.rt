@@ -4,7 +4,7 @@ ghost use mathlib.Core.Path.{_≡_};
 ghost use mathlib.Core.Bool.{true};
 ghost use Rattle.table.specs.Table.{tableInRange, InTable, ports, portAt};
 ghost use Rattle.trunk.specs.Sweep.{stepped, swept};
-ghost use Rattle.table.specs.Worked.{Worked, Became};
+ghost use Rattle.table.specs.Leaves.{Leaves, Became};
 use crate::displace::displace_one;
 use frame::block::Block;
 
@@ -35,7 +35,7 @@ fn step_one(table: &mut [u8], i: usize, step: Step)
         }
         Step::Mux => {
             let p = table::load(table, i);
-            table::store(table, i, p.mux().quiet());
+            table::store(table, i, p.mux().clear_ntt());
         }
         Step::Displaced(r, a) => {
             displace_one(table, i, r, a);
@@ -46,7 +46,7 @@ fn step_one(table: &mut [u8], i: usize, step: Step)
 // The step of every port.
 pub fn sweep(table: &mut [u8], step: Step)
     requires { ⌜ tableInRange (now table) ≡ true ⌝ }
-    ensures { λ _. ⌜ Worked (now (table .entry)) (now (table .exit)) (swept step (ports (now (table .entry)))) ⌝ }
+    ensures { λ _. ⌜ Leaves (now (table .entry)) (now (table .exit)) (swept step (ports (now (table .entry)))) ⌝ }
 {
     let n = table::count(table);
     let mut i: usize = 0;

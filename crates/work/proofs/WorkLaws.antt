@@ -13,7 +13,7 @@ use denote.RattleType.{Valss}
 use mir.Val.{Val}
 use borrow.Author.Tests.{lt-ltb}
 use Rattle.octets.specs.Octets.{fits}
-use Rattle.octets.proofs.RangeLaws.{joined}
+use Rattle.octets.proofs.RangeLaws.{both-true}
 use Rattle.frame.specs.Block.{blockFits}
 use Rattle.port.specs.declared.record.Own.{Own}
 use Rattle.port.specs.Range.{ownFits}
@@ -48,11 +48,11 @@ own-typed o vs vss k =
     let s = b .1 .1 .0 in
     let n = b .1 .1 .1 .1 .0 in
     let x = s .1 .1 .1 .0 in
-    joined (joined (fit _ (a .1 .1 .0 .1)) (joined (fit _ (a .1 .1 .1 .0 .1)) (fit _ (a .1 .1 .1 .1 .0 .1))))
-    (joined (fit _ (k .1 .1 .0 .1)) (joined (fit _ (k .1 .1 .1 .0 .1))
-    (joined (fit _ (s .1 .1 .0 .1))
-    (joined (joined (fit _ (x .1 .1 .0 .1)) (joined (fit _ (x .1 .1 .1 .0 .1)) (fit _ (x .1 .1 .1 .1 .0 .1))))
-    (joined (fit _ (b .1 .1 .1 .0 .1)) (joined (fit _ (n .1 .1 .0 .1)) (fit _ (n .1 .1 .1 .0 .1))))))))
+    both-true (both-true (fit _ (a .1 .1 .0 .1)) (both-true (fit _ (a .1 .1 .1 .0 .1)) (fit _ (a .1 .1 .1 .1 .0 .1))))
+    (both-true (fit _ (k .1 .1 .0 .1)) (both-true (fit _ (k .1 .1 .1 .0 .1))
+    (both-true (fit _ (s .1 .1 .0 .1))
+    (both-true (both-true (fit _ (x .1 .1 .0 .1)) (both-true (fit _ (x .1 .1 .1 .0 .1)) (fit _ (x .1 .1 .1 .1 .0 .1))))
+    (both-true (fit _ (b .1 .1 .1 .0 .1)) (both-true (fit _ (n .1 .1 .0 .1)) (fit _ (n .1 .1 .1 .0 .1))))))))
 
 -- ---- the end of a call: periodic machines, then steps 3 to 6
 

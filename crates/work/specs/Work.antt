@@ -4,6 +4,7 @@ use Prim.Native.Nat.{ℕ, _+_}
 use mathlib.Core.Bool.{cond}
 use mathlib.Core.List.{List, _++_, map}
 use lib.ListN.{set, drop, replicate}
+use Rattle.frame.specs.Class.{frameSize}
 use Rattle.frame.specs.Block.{blockOf}
 use Rattle.frame.specs.Wire.{actorPart, partnerPart, lacpdu, response}
 use Rattle.machine.specs.declared.states.Line.{Line}
@@ -38,12 +39,12 @@ unfoldable pub afterStart : Header → Settings → State
 afterStart h x = record { common = h; ports = settled h (replicate (h .count) (started x)) }
 
 -- what port i becomes by an accepted LACPDU: CURRENT
-unfoldable pub heardAt : ℕ → List ℕ → State → Port
-heardAt i frame s = received (s .common .system) (i + 1) (blockOf (actorPart frame)) (blockOf (partnerPart frame)) (portOf s i)
+unfoldable pub receivedAt : ℕ → List ℕ → State → Port
+receivedAt i frame s = received (s .common .system) (i + 1) (blockOf (actorPart frame)) (blockOf (partnerPart frame)) (portOf s i)
 
 -- an accepted LACPDU on port i, and the ports whose partner it shows to have moved
-unfoldable pub afterHeard : ℕ → List ℕ → State → State
-afterHeard i frame s = working (displaced i (blockOf (actorPart frame)) (set (s .ports) i (heardAt i frame s))) s
+unfoldable pub afterReceived : ℕ → List ℕ → State → State
+afterReceived i frame s = working (displaced i (blockOf (actorPart frame)) (set (s .ports) i (receivedAt i frame s))) s
 
 unfoldable pub afterTick : State → State
 afterTick s = working (map advanced (s .ports)) s
@@ -70,5 +71,5 @@ lacpduOf s i = lacpdu (portOf s i .own .address) (actorBlock (s .common .system)
 unfoldable pub responseOf : State → ℕ → List ℕ → List ℕ
 responseOf s i frame = response (portOf s i .own .address) frame
 
-abbrev pub over : List ℕ → List ℕ → List ℕ
-over frame out = frame ++ drop 124 out
+abbrev pub writtenOver : List ℕ → List ℕ → List ℕ
+writtenOver frame out = frame ++ drop frameSize out

@@ -4,13 +4,14 @@ ghost use mathlib.Core.Path.{_≡_};
 ghost use mathlib.Core.Bool.{true};
 ghost use Prim.Native.Nat.{_+_, _<_, _≤_};
 ghost use lib.ListN.{length};
+ghost use Rattle.frame.specs.Class.{frameSize};
 ghost use Rattle.frame.specs.Block.{blockOf};
 ghost use Rattle.frame.specs.Wire.{actorPart, response};
 ghost use Rattle.table.specs.Layout.{headerOf, mostPorts};
 ghost use Rattle.port.specs.Range.{portInRange};
-ghost use Rattle.table.specs.Table.{tableInRange, isRoom, InTable, countIn, ports, portAt, stateOf, octetsOf, on, ours};
-ghost use Rattle.table.specs.Worked.{Worked, Became};
-ghost use Rattle.work.specs.Work.{worked, afterOne, afterStart, heardAt, afterHeard, afterTick, afterLine, afterSettings, afterSend, lacpduOf, over};
+ghost use Rattle.table.specs.Table.{tableInRange, isRoom, InTable, countIn, ports, portAt, stateOf, octetsOf, onOctets, ours};
+ghost use Rattle.table.specs.Leaves.{Leaves, Became};
+ghost use Rattle.work.specs.Work.{worked, afterOne, afterStart, receivedAt, afterReceived, afterTick, afterLine, afterSettings, afterSend, lacpduOf, writtenOver};
 use frame::block::Block;
 use machine::states::Line;
 use port::record::Port;
@@ -22,7 +23,7 @@ use trunk::sweep::sweep;
 // The end of step 2, and steps 3 to 6.
 fn finish(table: &mut [u8])
     requires { ⌜ tableInRange (now table) ≡ true ⌝ }
-    ensures { λ _. ⌜ Worked (now (table .entry)) (now (table .exit)) (worked (headerOf (now (table .entry))) (ports (now (table .entry)))) ⌝ }
+    ensures { λ _. ⌜ Leaves (now (table .entry)) (now (table .exit)) (worked (headerOf (now (table .entry))) (ports (now (table .entry)))) ⌝ }
 {
     sweep(table, Step::Periodic);
     trunk::settle::settle(table);
@@ -31,7 +32,7 @@ fn finish(table: &mut [u8])
 // Port i becomes q, and everything settles.
 fn change(table: &mut [u8], i: usize, q: Port)
     requires { ⌜ InTable (now table) i × (portInRange (countIn (now table)) q ≡ true) ⌝ }
-    ensures { λ _. ⌜ now (table .exit) ≡ on (afterOne i q) (now (table .entry)) ⌝ }
+    ensures { λ _. ⌜ now (table .exit) ≡ onOctets (afterOne i q) (now (table .entry)) ⌝ }
 {
     table::store(table, i, q);
     finish(table);
@@ -40,7 +41,7 @@ fn change(table: &mut [u8], i: usize, q: Port)
 // A tick.
 pub fn advance(table: &mut [u8])
     requires { ⌜ tableInRange (now table) ≡ true ⌝ }
-    ensures { λ _. ⌜ now (table .exit) ≡ on afterTick (now (table .entry)) ⌝ }
+    ensures { λ _. ⌜ now (table .exit) ≡ onOctets afterTick (now (table .entry)) ⌝ }
 {
     sweep(table, Step::Tick);
     finish(table);
@@ -49,7 +50,7 @@ pub fn advance(table: &mut [u8])
 // Port i has this link and duplex now. The values as they are change nothing.
 pub fn set_line(table: &mut [u8], i: usize, line: Line)
     requires { ⌜ InTable (now table) i ⌝ }
-    ensures { λ _. ⌜ now (table .exit) ≡ on (afterLine i line) (now (table .entry)) ⌝ }
+    ensures { λ _. ⌜ now (table .exit) ≡ onOctets (afterLine i line) (now (table .entry)) ⌝ }
 {
     let p = table::load(table, i);
     let old = p.line;
@@ -62,7 +63,7 @@ pub fn set_line(table: &mut [u8], i: usize, line: Line)
 // Port i has these settings now. Equal ones change nothing.
 pub fn configure(table: &mut [u8], i: usize, settings: Settings)
     requires { ⌜ InTable (now table) i ⌝ }
-    ensures { λ _. ⌜ now (table .exit) ≡ on (afterSettings i settings) (now (table .entry)) ⌝ }
+    ensures { λ _. ⌜ now (table .exit) ≡ onOctets (afterSettings i settings) (now (table .entry)) ⌝ }
 {
     let p = table::load(table, i);
     if settings.is_held(p) {
@@ -72,12 +73,12 @@ pub fn configure(table: &mut [u8], i: usize, settings: Settings)
 }
 
 // An accepted LACPDU on port i, whose record is p, and the ports whose partner it shows to have moved.
-pub fn hear(table: &mut [u8], i: usize, p: Port, frame: &[u8])
-    requires { ⌜ InTable (now table) i × (p ≡ portAt (now table) i) × (124 ≤ length (now frame)) ⌝ }
-    ensures { λ _. ⌜ now (table .exit) ≡ on (afterHeard i (now (frame .entry))) (now (table .entry)) ⌝ }
+pub fn receive(table: &mut [u8], i: usize, p: Port, frame: &[u8])
+    requires { ⌜ InTable (now table) i × (p ≡ portAt (now table) i) × (frameSize ≤ length (now frame)) ⌝ }
+    ensures { λ _. ⌜ now (table .exit) ≡ onOctets (afterReceived i (now (frame .entry))) (now (table .entry)) ⌝ }
 {
     let a = Block::read(frame::wire::actor(frame));
-    hear_at(table, i, p, a, frame);
+    receive_one(table, i, p, a, frame);
     sweep(table, Step::Displaced(i, a));
     finish(table);
 }
@@ -91,9 +92,9 @@ fn number_of(i: usize) -> u16
 }
 
 // Port i, whose record is p, records what an LACPDU says (CURRENT, 43.4.12); a is the actor block in it.
-fn hear_at(table: &mut [u8], i: usize, p: Port, a: Block, frame: &[u8])
-    requires { ⌜ InTable (now table) i × (p ≡ portAt (now table) i) × (a ≡ blockOf (actorPart (now frame))) × (124 ≤ length (now frame)) ⌝ }
-    ensures { λ _. ⌜ Became (now (table .entry)) (now (table .exit)) i (heardAt i (now (frame .entry)) (stateOf (now (table .entry)))) ⌝ }
+fn receive_one(table: &mut [u8], i: usize, p: Port, a: Block, frame: &[u8])
+    requires { ⌜ InTable (now table) i × (p ≡ portAt (now table) i) × (a ≡ blockOf (actorPart (now frame))) × (frameSize ≤ length (now frame)) ⌝ }
+    ensures { λ _. ⌜ Became (now (table .entry)) (now (table .exit)) i (receivedAt i (now (frame .entry)) (stateOf (now (table .entry)))) ⌝ }
 {
     let ours = table::layout::read_header(table);
     let us = ours.system;
@@ -109,8 +110,8 @@ fn hear_at(table: &mut [u8], i: usize, p: Port, a: Block, frame: &[u8])
 
 // Writes the LACPDU of port i, whose record is p, over the first 124 octets of out, and remembers the send.
 pub fn send(table: &mut [u8], i: usize, p: Port, out: &mut [u8])
-    requires { ⌜ InTable (now table) i × (p ≡ portAt (now table) i) × (124 ≤ length (now out)) ⌝ }
-    ensures { λ _. ⌜ (now (table .exit) ≡ on (afterSend i) (now (table .entry))) × (now (out .exit) ≡ over (lacpduOf (stateOf (now (table .entry))) i) (now (out .entry))) ⌝ }
+    requires { ⌜ InTable (now table) i × (p ≡ portAt (now table) i) × (frameSize ≤ length (now out)) ⌝ }
+    ensures { λ _. ⌜ (now (table .exit) ≡ onOctets (afterSend i) (now (table .entry))) × (now (out .exit) ≡ writtenOver (lacpduOf (stateOf (now (table .entry))) i) (now (out .entry))) ⌝ }
 {
     write_due(table, i, p, out);
     table::store(table, i, p.sent());
@@ -118,8 +119,8 @@ pub fn send(table: &mut [u8], i: usize, p: Port, out: &mut [u8])
 
 // Writes the LACPDU of port i, whose record is p, over the first 124 octets of out.
 fn write_due(table: &[u8], i: usize, p: Port, out: &mut [u8])
-    requires { ⌜ InTable (now table) i × (p ≡ portAt (now table) i) × (124 ≤ length (now out)) ⌝ }
-    ensures { λ _. ⌜ now (out .exit) ≡ over (lacpduOf (stateOf (now (table .entry))) i) (now (out .entry)) ⌝ }
+    requires { ⌜ InTable (now table) i × (p ≡ portAt (now table) i) × (frameSize ≤ length (now out)) ⌝ }
+    ensures { λ _. ⌜ now (out .exit) ≡ writtenOver (lacpduOf (stateOf (now (table .entry))) i) (now (out .entry)) ⌝ }
 {
     let ours = table::layout::read_header(table);
     let us = ours.system;
@@ -132,8 +133,8 @@ fn write_due(table: &[u8], i: usize, p: Port, out: &mut [u8])
 
 // Writes the Response to a Marker, from the port whose record is p, over the first 124 octets of out.
 pub fn respond(p: Port, frame: &[u8], out: &mut [u8])
-    requires { ⌜ (124 ≤ length (now frame)) × (124 ≤ length (now out)) ⌝ }
-    ensures { λ _. ⌜ now (out .exit) ≡ over (response (p .own .address) (now (frame .entry))) (now (out .entry)) ⌝ }
+    requires { ⌜ (frameSize ≤ length (now frame)) × (frameSize ≤ length (now out)) ⌝ }
+    ensures { λ _. ⌜ now (out .exit) ≡ writtenOver (response (p .own .address) (now (frame .entry))) (now (out .entry)) ⌝ }
 {
     let address = p.own.address;
     frame::wire::write_response(out, address, frame);

@@ -1,6 +1,6 @@
 -- `print_frame` is safe: a frame that the tests accept has 124 octets, which its two readers ask for. Assumes nothing.
 use mathlib.Core.Path.{sym, ap, _∙_}
-use Rattle.frame.proofs.ClassLaws.{heard, heard-whole}
+use Rattle.frame.proofs.ClassLaws.{passes, passed-whole}
 use borrow.Author.Needs.{needs}
 use Rattle.cases.proofs.print_frame.Statement.{statement}
 use Rattle.cases.proofs.print_frame.Tie as tie
@@ -15,13 +15,13 @@ enum-told : tie.Need-enum-told
 enum-told c = search needs
 
 print-lacpdu-requires : tie.Need-print-lacpdu-requires
-print-lacpdu-requires c κs = heard-whole _ (ap heard (sym (c .before .before .classify .ensures) ∙ c .enum-told .given .1))
+print-lacpdu-requires c κs = passed-whole _ (ap passes (sym (c .before .before .classify .ensures) ∙ c .enum-told .given .1))
 
 enum-told-2 : tie.Need-enum-told-2
 enum-told-2 c = search needs
 
 print-marker-requires : tie.Need-print-marker-requires
-print-marker-requires c κs = heard-whole _ (ap heard (sym (c .before .before .classify .ensures) ∙ c .enum-told2 .given .1))
+print-marker-requires c κs = passed-whole _ (ap passes (sym (c .before .before .classify .ensures) ∙ c .enum-told2 .given .1))
 
 enum-told-3 : tie.Need-enum-told-3
 enum-told-3 c = search needs

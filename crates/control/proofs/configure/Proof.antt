@@ -3,7 +3,7 @@ use mathlib.Core.Path.{_≡_, sym, ap, _∙_}
 use Prim.Native.Nat.{ℕ}
 use denote.Ref.{now}
 use borrow.Author.Tests.{not-true, not-false}
-use Rattle.table.specs.Table.{on}
+use Rattle.table.specs.Table.{onOctets}
 use Rattle.work.specs.Work.{afterSettings}
 use Rattle.control.specs.declared.answer.Answer.the-variants.{Done, Refused}
 use Rattle.control.specs.declared.answer.Reason.the-variants as reason
@@ -70,7 +70,7 @@ returns-3 c =
     let done = found-answers t (a .n) here (withDefault (a .settings) Done) ∙ lawful in (
       sym done,
       c .before .before .configure .ensures
-          ∙ ap (λ (i : ℕ). on (afterSettings i (a .settings)) t) (found-index t (a .n) here)
+          ∙ ap (λ (i : ℕ). onOctets (afterSettings i (a .settings)) t) (found-index t (a .n) here)
           ∙ sym (done-table (call.configure (a .n) (a .settings)) t done),
     )
 

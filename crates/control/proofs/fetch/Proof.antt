@@ -3,8 +3,8 @@ use Prim.Native.Nat.{ℕ}
 use mathlib.Core.Path.{_≡_, sym, ap, _∙_}
 use denote.Ref.{now}
 use Rattle.port.specs.Transmit.{due}
-use Rattle.table.specs.Table.{portAt, stateOf, on}
-use Rattle.work.specs.Work.{afterSend, lacpduOf, over}
+use Rattle.table.specs.Table.{portAt, stateOf, onOctets}
+use Rattle.work.specs.Work.{afterSend, lacpduOf, writtenOver}
 use Rattle.control.specs.Answer.{withRoom, dueAnswer}
 use Rattle.control.specs.Call as call
 use Rattle.control.specs.After.{answer, unless, effect, after, writtenBy, outgoing}
@@ -59,8 +59,8 @@ returns-2 c =
     let is : c .before .before .before .before .fetch-at .result ≡ answer this t =
     did .0 ∙ ap (λ (k : ℕ). withRoom out (dueAnswer (due (portAt t k)))) i ∙ sym (found-answers t (a .n) here _) in (
       is,
-      did .1 ∙ (λ j. unless (is j) t (on (afterSend (i j)) t)),
-      did .2 ∙ (λ j. unless (is j) out (over (lacpduOf (stateOf t) (i j)) out)),
+      did .1 ∙ (λ j. unless (is j) t (onOctets (afterSend (i j)) t)),
+      did .2 ∙ (λ j. unless (is j) out (writtenOver (lacpduOf (stateOf t) (i j)) out)),
     )
 
 pub fetch-spec : {M : Type 1} → statement M

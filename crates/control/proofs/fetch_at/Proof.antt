@@ -4,13 +4,14 @@ use native.Mathlib.Omega.{arith}
 use denote.Ref.{now}
 use lib.ListN.{length}
 use borrow.Author.Tests.{lt-ltb, le-ltb}
+use Rattle.frame.specs.Class.{frameSize}
 use Rattle.port.specs.Transmit.{due}
 use borrow.Author.Needs.{needs}
 use Rattle.control.proofs.fetch_at.Statement.{statement}
 use Rattle.control.proofs.fetch_at.Tie as tie
 
 returns : tie.Need-returns
-returns c = let short = lt-ltb (length (now (c .before .before .before .args .out))) 124 (c .if1 .taken) in (rw short, refl, refl)
+returns c = let short = lt-ltb (length (now (c .before .before .before .args .out))) frameSize (c .if1 .taken) in (rw short, refl, refl)
 
 load-requires : tie.Need-load-requires
 load-requires c κs = c .before .before .before .before .pre
@@ -35,7 +36,7 @@ same-length c = search needs
 
 returns-2 : tie.Need-returns-2
 returns-2 c =
-    let long = le-ltb (length (now (c .before .before .before .before .before .before .before .before .args .out))) 124 (c .before .before .before .before .before .if1 .left) in
+    let long = le-ltb (length (now (c .before .before .before .before .before .before .before .before .args .out))) frameSize (c .before .before .before .before .before .if1 .left) in
     (rw (long, ap due (sym (c .before .before .before .load .ensures)) ∙ sym (c .before .before .due .ensures) ∙ (c .enum-told .given .1)), refl, refl)
 
 same-length-2 : tie.Need-same-length-2
@@ -43,7 +44,7 @@ same-length-2 c = search needs
 
 returns-3 : tie.Need-returns-3
 returns-3 c =
-    let long = le-ltb (length (now (c .before .before .before .before .before .before .before .before .args .out))) 124 (c .before .before .before .before .before .if1 .left) in
+    let long = le-ltb (length (now (c .before .before .before .before .before .before .before .before .args .out))) frameSize (c .before .before .before .before .before .if1 .left) in
     (rw (long, ap due (sym (c .before .before .before .load .ensures)) ∙ sym (c .before .before .due .ensures) ∙ (c .enum-told2 .given .1)), refl, refl)
 
 same-length-3 : tie.Need-same-length-3
@@ -54,7 +55,7 @@ same-length-4 c = search needs
 
 returns-4 : tie.Need-returns-4
 returns-4 c =
-    let long = le-ltb (length (now (c .before .before .before .before .before .before .before .before .before .before .before .before .before .before .before .args .out))) 124 (c .before .before .before .before .before .before .before .before .before .before .before .before .if1 .left) in
+    let long = le-ltb (length (now (c .before .before .before .before .before .before .before .before .before .before .before .before .before .before .before .args .out))) frameSize (c .before .before .before .before .before .before .before .before .before .before .before .before .if1 .left) in
     (rw (long, ap due (sym (c .before .before .before .before .before .before .before .before .before .before .load .ensures)) ∙ sym (c .before .before .before .before .before .before .before .before .before .due .ensures) ∙ (c .before .before .before .before .before .before .before .enum-told3 .given .1)), c .before .before .before .before .send .ensures .0, c .before .before .before .before .send .ensures .1)
 
 pub fetch-at-spec : {M : Type 1} → statement M

@@ -3,7 +3,7 @@ use Prim.Native.Nat.{ℕ}
 use mathlib.Core.Path.{sym, ap, _∙_}
 use denote.Ref.{now}
 use Rattle.machine.specs.declared.states.Line.{Line}
-use Rattle.table.specs.Table.{on}
+use Rattle.table.specs.Table.{onOctets}
 use Rattle.work.specs.Work.{afterLine}
 use Rattle.control.specs.declared.answer.Answer.the-variants.{Done}
 use Rattle.control.specs.Call as call
@@ -53,7 +53,7 @@ returns-2 c =
     let done = found-answers t (a .n) here Done in (
       sym done,
       c .before .before .set-line .ensures
-          ∙ ap (λ (i : ℕ). on (afterLine i new) t) (found-index t (a .n) here)
+          ∙ ap (λ (i : ℕ). onOctets (afterLine i new) t) (found-index t (a .n) here)
           ∙ sym (done-table (call.line (a .n) new) t done),
     )
 

@@ -3,7 +3,7 @@ use Prim.Native.Nat.{ℕ}
 use mathlib.Core.Path.{_≡_, sym, ap, _∙_}
 use denote.Ref.{now}
 use Rattle.frame.specs.Class.{classOf}
-use Rattle.table.specs.Table.{portAt, stateOf, on}
+use Rattle.table.specs.Table.{portAt, stateOf, onOctets}
 use Rattle.control.specs.Answer.{withRoom, frameAnswer}
 use Rattle.control.specs.Call as call
 use Rattle.control.specs.After.{answer, unless, afterFrame, sentFor, effect, after, writtenBy, outgoing}
@@ -59,7 +59,7 @@ returns-2 c =
     let is : c .before .before .before .before .receive-at .result ≡ answer this t =
     did .0 ∙ ap (λ (k : ℕ). withRoom out (frameAnswer (classOf frame) (portAt t k .line) (portAt t k .phase .mux))) i ∙ sym (found-answers t (a .n) here _) in (
       is,
-      did .1 ∙ (λ j. unless (is j) t (on (afterFrame (is j) (i j) frame) t)),
+      did .1 ∙ (λ j. unless (is j) t (onOctets (afterFrame (is j) (i j) frame) t)),
       did .2 ∙ (λ j. sentFor (is j) (stateOf t) (i j) frame out) ∙ frame-sent (answer this t) (stateOf t) _ frame out,
     )
 

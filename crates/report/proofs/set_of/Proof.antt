@@ -18,10 +18,10 @@ use Rattle.report.proofs.set_of.Statement.{statement}
 use Rattle.report.proofs.set_of.Tie as tie
 
 abbrev Inv-loop : tie.InvT-loop
-Inv-loop table standing k set₀ i₀ set i = (i ≤ countIn table) × (set ≡ setOf (stands standing k) (drop i (ports table)))
+Inv-loop table role k set₀ i₀ set i = (i ≤ countIn table) × (set ≡ setOf (stands role k) (drop i (ports table)))
 
 abbrev μ-loop : tie.MeasureT-loop
-μ-loop table standing k set₀ i₀ set i = i
+μ-loop table role k set₀ i₀ set i = i
 
 -- before a turn the set is below 2 ^ 31
 fits : (f : Port → Bool) (t : List ℕ) → tableInRange t ≡ true → (i : ℕ) → 1 ≤ i → {set : ℕ} → set ≡ setOf f (drop i (ports t)) → set < 2147483648
@@ -44,7 +44,7 @@ count-requires c κs = c .before .pre
 loop-holds : tie.Need-loop-holds Inv-loop μ-loop
 loop-holds c =
     let t = now (c .before .before .args .table) in
-    (omega arith, sym (set-end (stands (c .before .before .args .standing) (c .before .before .args .k)) (ports t) (c .count .result) (ports-length t ∙ sym (c .count .ensures))))
+    (omega arith, sym (set-end (stands (c .before .before .args .role) (c .before .before .args .k)) (ports t) (c .count .result) (ports-length t ∙ sym (c .count .ensures))))
 
 sub-i : tie.Need-sub-i Inv-loop μ-loop
 sub-i c = omega arith
@@ -53,7 +53,7 @@ mul-set : tie.Need-mul-set Inv-loop μ-loop
 mul-set c =
     let a = (c .before .before .before .before .args) in
     let loop = (c .before .loop) in
-    let less = fits (stands (a .standing) (a .k)) (now (a .table)) (c .before .before .before .before .pre) (loop .i) (omega arith) (loop .inv .1) in
+    let less = fits (stands (a .role) (a .k)) (now (a .table)) (c .before .before .before .before .pre) (loop .i) (omega arith) (loop .inv .1) in
     omega arith
 
 stands-to-requires : tie.Need-stands-to-requires Inv-loop μ-loop
@@ -67,7 +67,7 @@ add-set c =
     let a = (c .before .before .before .before .before .before .args) in
     let pre = (c .before .before .before .before .before .before .pre) in
     let loop = (c .before .before .before .loop) in
-    let less = fits (stands (a .standing) (a .k)) (now (a .table)) pre (loop .i) (omega arith) (loop .inv .1) in
+    let less = fits (stands (a .role) (a .k)) (now (a .table)) pre (loop .i) (omega arith) (loop .inv .1) in
     let least = weight-less (c .before .stands-to .result) in
     rw (c .weigh .ensures) (omega arith)
 
@@ -81,7 +81,7 @@ loop-again c =
     let inv = loop .inv in (
       omega arith,
       rw (c .weigh .ensures, c .before .stands-to .ensures)
-          (turn (stands (a .standing) (a .k)) (now (a .table)) (loop .i) (omega arith) (inv .0) (inv .1)),
+          (turn (stands (a .role) (a .k)) (now (a .table)) (loop .i) (omega arith) (inv .0) (inv .1)),
     )
 
 returns : tie.Need-returns Inv-loop μ-loop
@@ -89,7 +89,7 @@ returns c =
     let a = (c .before .before .before .before .args) in
     let inv = (c .before .loop .inv) in
     let end : (c .before .loop .i) ≡ 0 = omega arith in
-    inv .1 ∙ ap (λ (m : ℕ). setOf (stands (a .standing) (a .k)) (drop m (ports (now (a .table))))) end
+    inv .1 ∙ ap (λ (m : ℕ). setOf (stands (a .role) (a .k)) (drop m (ports (now (a .table))))) end
 
 pub set-of-spec : {M : Type 1} → statement M
 set-of-spec =

@@ -1,6 +1,6 @@
 -- `store` meets its contract: what is written at the record's place is in range. Assumes nothing.
 use Rattle.table.proofs.TableLaws.{lies}
-use Rattle.table.proofs.WorkedLaws.{stored}
+use Rattle.table.proofs.LeavesLaws.{stored}
 use denote.Ref.{now}
 use borrow.Author.Needs.{needs}
 use Rattle.table.proofs.store.Statement.{statement}

@@ -1,7 +1,7 @@
 -- `work::advance` meets its contract: a tick of all ports, then the rest of the work. Assumes nothing.
 use Rattle.octets.proofs.ListLaws.{sweep-map}
 use Rattle.port.specs.Transmit.{advanced}
-use Rattle.table.proofs.WorkedLaws.{then, said, made-of}
+use Rattle.table.proofs.LeavesLaws.{then, said, made-of}
 use Rattle.work.specs.Work.{worked, afterTick}
 use borrow.Author.Needs.{needs}
 use Rattle.work.proofs.advance.Statement.{statement}

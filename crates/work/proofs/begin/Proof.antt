@@ -9,7 +9,7 @@ use Rattle.table.specs.Table.{tableOctets}
 use Rattle.trunk.specs.Settled.{settled}
 use Rattle.work.specs.Work.{afterStart}
 use Rattle.table.proofs.FillLaws.{room-is}
-use Rattle.table.proofs.WorkedLaws.{made-of}
+use Rattle.table.proofs.LeavesLaws.{made-of}
 use Rattle.settings.proofs.RangeLaws.{started-typed}
 use Rattle.work.proofs.WorkLaws.{own-typed}
 use borrow.Author.Needs.{needs}

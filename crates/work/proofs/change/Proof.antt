@@ -1,5 +1,5 @@
 -- `work::change` meets its contract: the record is stored, and the rest of the work done. Assumes nothing.
-use Rattle.table.proofs.WorkedLaws.{then, said, made-of}
+use Rattle.table.proofs.LeavesLaws.{then, said, made-of}
 use Rattle.work.specs.Work.{worked, afterOne}
 use borrow.Author.Needs.{needs}
 use Rattle.work.proofs.change.Statement.{statement}

@@ -2,7 +2,7 @@
 use Rattle.octets.proofs.ListLaws.{sweep-map}
 use Rattle.port.specs.Periodic.{periodicRun}
 use Rattle.trunk.specs.Settled.{settled}
-use Rattle.table.proofs.WorkedLaws.{then, said}
+use Rattle.table.proofs.LeavesLaws.{then, said}
 use Rattle.work.specs.Work.{worked}
 use borrow.Author.Needs.{needs}
 use Rattle.work.proofs.finish.Statement.{statement}
@@ -20,9 +20,9 @@ same-length c = search needs
 returns : tie.Need-returns
 unfolding worked
 returns c =
-    let paced = said (sweep-map periodicRun 0 _) (c .before .before .before .before .before .before .sweep .ensures) in
+    let periodics = said (sweep-map periodicRun 0 _) (c .before .before .before .before .before .before .sweep .ensures) in
     let settled· = (c .before .before .settle .ensures) in
-    said (λ i. settled (paced .header i) (paced .records i)) (then paced settled·)
+    said (λ i. settled (periodics .header i) (periodics .records i)) (then periodics settled·)
 
 pub finish-spec : {M : Type 1} → statement M
 finish-spec = tie.close (tie.spec sweep-requires settle-requires same-length returns)

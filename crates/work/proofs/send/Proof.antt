@@ -4,7 +4,7 @@ use denote.Ref.{now}
 use Rattle.port.specs.Transmit.{sent}
 use Rattle.work.specs.Work.{afterSend}
 use Rattle.port.proofs.RangeLaws.{sent-ranged}
-use Rattle.table.proofs.WorkedLaws.{made-of}
+use Rattle.table.proofs.LeavesLaws.{made-of}
 use Rattle.trunk.proofs.TableWork.{may-store, changed-at}
 use borrow.Author.Needs.{needs}
 use Rattle.work.proofs.send.Statement.{statement}

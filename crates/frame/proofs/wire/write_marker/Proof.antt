@@ -5,6 +5,7 @@ use lib.ListN.{length, drop, length-append}
 use Prim.Native.Nat.{ℕ, _+_}
 use native.Mathlib.Omega.{arith}
 use denote.Ref.{now}
+use Rattle.frame.specs.Class.{frameSize}
 use Rattle.octets.specs.Octets.{putAt}
 use Rattle.octets.proofs.Laws.{written}
 use Rattle.frame.specs.Wire.{opening, zeros, markerTypeOctet}
@@ -14,12 +15,12 @@ use Rattle.frame.proofs.wire.write_marker.Tie as tie
 
 -- the request's length is known by its contract alone, so the place after it is counted and not computed
 laid-out : (start req l : List ℕ) → length start ≡ 18 → length req ≡ 12
-    → putAt 30 (zeros 94) (putAt 18 req (putAt 0 start l)) ≡ (start ++ (req ++ zeros 94)) ++ drop 124 l
+    → putAt 30 (zeros 94) (putAt 18 req (putAt 0 start l)) ≡ (start ++ (req ++ zeros 94)) ++ drop frameSize l
 laid-out start req l hs hr =
     let z : length (zeros 94) ≡ 94 = refl in
     let e18 : 18 ≡ 0 + length start = omega arith in
     let e30 : 30 ≡ 0 + length start + length req = omega arith in
-    let e124 : length (start ++ (req ++ zeros 94)) ≡ 124 = simp (length-append, hs, hr) in
+    let e124 : length (start ++ (req ++ zeros 94)) ≡ frameSize = simp (length-append, hs, hr) in
     ap (λ (n : ℕ). putAt n (zeros 94) (putAt 18 req (putAt 0 start l))) e30
     ∙ ap (λ (n : ℕ). putAt (0 + length start + length req) (zeros 94) (putAt n req (putAt 0 start l))) e18
     ∙ written (start ∷ req ∷ zeros 94 ∷ []) l

@@ -11,7 +11,7 @@ use Rattle.machine.specs.Receive.{isDisabled}
 use Rattle.port.specs.declared.record.Port.{Port}
 use Rattle.port.specs.Receive.{moved}
 use Rattle.table.specs.Table.{ports, portAt}
-use Rattle.table.proofs.WorkedLaws.{left-alone, said, stored}
+use Rattle.table.proofs.LeavesLaws.{left-alone, said, stored}
 use Rattle.trunk.proofs.TableWork.{may-store, changed-at}
 use Rattle.trunk.specs.Displaced.{isDisplaced, displacedIf}
 use Rattle.port.proofs.RangeLaws.{moved-ranged}

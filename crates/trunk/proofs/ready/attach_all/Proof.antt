@@ -6,17 +6,17 @@ use denote.Ref.{now}
 use Rattle.table.specs.Table.{countIn, ports}
 use Rattle.table.proofs.TableLaws.{in-range}
 use Rattle.trunk.specs.Settled.{attaching, attachedAll}
-use Rattle.table.specs.Worked.{Worked}
-use Rattle.octets.proofs.ListLaws.{doneTo, each, sweep-map}
+use Rattle.table.specs.Leaves.{Leaves}
+use Rattle.octets.proofs.ListLaws.{doneTo, pointwise, sweep-map}
 use Rattle.trunk.proofs.StepLaws.{still-chosen, attach-same}
-use Rattle.table.proofs.WorkedLaws.{said}
-use Rattle.trunk.proofs.TableWork.{loop-begins, loop-ends, in-table, turn}
+use Rattle.table.proofs.LeavesLaws.{said}
+use Rattle.trunk.proofs.TableWork.{loop-begins, loop-ends, in-count, turn}
 use Rattle.trunk.proofs.ready.attach_all.Statement.{statement}
 use Rattle.trunk.proofs.ready.attach_all.Tie as tie
 
 abbrev Inv-loop : tie.InvT-loop
 Inv-loop table₀ n i₀ table i =
-    (i ≤ n) × (countIn table₀ ≡ n) × Worked table₀ table (doneTo (each (attaching (ports table₀))) i (ports table₀))
+    (i ≤ n) × (countIn table₀ ≡ n) × Leaves table₀ table (doneTo (pointwise (attaching (ports table₀))) i (ports table₀))
 
 abbrev μ-loop : tie.MeasureT-loop
 μ-loop table₀ n i₀ table i = n - i
@@ -27,7 +27,7 @@ count-requires c κs = c .before .before .pre .0
 loop-holds : tie.Need-loop-holds Inv-loop μ-loop
 loop-holds c =
     let t = now (c .before .before .before .args .table) in
-    (omega arith, sym (c .count .ensures), loop-begins (each (attaching (ports t))) t (c .before .before .before .pre .0))
+    (omega arith, sym (c .count .ensures), loop-begins (pointwise (attaching (ports t))) t (c .before .before .before .pre .0))
 
 attach-one-requires : tie.Need-attach-one-requires Inv-loop μ-loop
 attach-one-requires c κs =
@@ -35,7 +35,7 @@ attach-one-requires c κs =
     let t = now (c .before .before .before .before .before .before .args .table) in
     let i = (c .before .before .loop .i) in
     let h : i < countIn t = omega arith in
-    ((inv .2 .ranged, in-table (each (attaching (ports t))) i (inv .2) h), still-chosen i (c .before .before .before .before .before .before .pre .1) (inv .2) h)
+    ((inv .2 .ranged, in-count (pointwise (attaching (ports t))) i (inv .2) h), still-chosen i (c .before .before .before .before .before .before .pre .1) (inv .2) h)
 
 add-i : tie.Need-add-i Inv-loop μ-loop
 add-i c = let most = in-range _ (c .before .before .before .before .before .before .before .before .before .pre .0) .most in omega arith
@@ -49,7 +49,7 @@ loop-again c =
     let i = (c .before .before .before .before .before .loop .i) in
     let t = now (c .before .before .before .before .before .before .before .before .before .args .table) in
     let h : i < countIn t = omega arith in
-    (omega arith, inv .1, turn (each (attaching (ports t))) i (inv .2) h _ (c .before .before .attach-one .ensures) (attach-same i (c .before .before .before .before .before .before .before .before .before .pre .1) (inv .2) h))
+    (omega arith, inv .1, turn (pointwise (attaching (ports t))) i (inv .2) h _ (c .before .before .attach-one .ensures) (attach-same i (c .before .before .before .before .before .before .before .before .before .pre .1) (inv .2) h))
 
 same-length : tie.Need-same-length Inv-loop μ-loop
 same-length c = (c .before .loop .inv .2 .size)
@@ -60,7 +60,7 @@ returns c =
     let inv = (c .before .loop .inv) in
     let t = now (c .before .before .before .before .before .args .table) in
     let end : countIn t ≡ (c .before .loop .i) = omega arith in
-    said (sweep-map (attaching (ports t)) 0 (ports t)) (loop-ends (each (attaching (ports t))) (c .before .loop .i) end (inv .2))
+    said (sweep-map (attaching (ports t)) 0 (ports t)) (loop-ends (pointwise (attaching (ports t))) (c .before .loop .i) end (inv .2))
 
 pub attach-all-spec : {M : Type 1} → statement M
 attach-all-spec =

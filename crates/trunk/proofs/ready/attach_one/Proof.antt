@@ -12,7 +12,7 @@ use Rattle.port.proofs.RangeLaws.{attached-ranged}
 use Rattle.table.proofs.StoreLaws.{ports-length, ports-at}
 use Rattle.trunk.specs.Ready.{heldBack, ready}
 use Rattle.trunk.proofs.StepLaws.{attach-free, attach-held}
-use Rattle.table.proofs.WorkedLaws.{left-alone, said}
+use Rattle.table.proofs.LeavesLaws.{left-alone, said}
 use Rattle.trunk.proofs.TableWork.{may-store, changed-at}
 use borrow.Author.Needs.{needs}
 use Rattle.trunk.proofs.ready.attach_one.Statement.{statement}

@@ -6,16 +6,16 @@ use denote.Ref.{now}
 use Rattle.table.specs.Table.{countIn, ports}
 use Rattle.table.proofs.TableLaws.{in-range}
 use Rattle.trunk.specs.Settled.{selecting, selectedAll}
-use Rattle.table.specs.Worked.{Worked}
+use Rattle.table.specs.Leaves.{Leaves}
 use Rattle.octets.proofs.ListLaws.{doneTo}
 use Rattle.trunk.proofs.SelectLaws.{select-same}
-use Rattle.trunk.proofs.TableWork.{loop-begins, loop-ends, in-table, turn}
+use Rattle.trunk.proofs.TableWork.{loop-begins, loop-ends, in-count, turn}
 use Rattle.trunk.proofs.select.select_all.Statement.{statement}
 use Rattle.trunk.proofs.select.select_all.Tie as tie
 
 abbrev Inv-loop : tie.InvT-loop
 Inv-loop table₀ ours n i₀ table i =
-    (i ≤ n) × (countIn table₀ ≡ n) × Worked table₀ table (doneTo (selecting ours (ports table₀)) i (ports table₀))
+    (i ≤ n) × (countIn table₀ ≡ n) × Leaves table₀ table (doneTo (selecting ours (ports table₀)) i (ports table₀))
 
 abbrev μ-loop : tie.MeasureT-loop
 μ-loop table₀ ours n i₀ table i = n - i
@@ -31,7 +31,7 @@ loop-holds c =
 select-one-requires : tie.Need-select-one-requires Inv-loop μ-loop
 select-one-requires c κs =
     let inv = (c .before .before .loop .inv) in
-    (inv .2 .ranged, in-table (selecting (c .before .before .before .before .before .before .args .ours) (ports (now (c .before .before .before .before .before .before .args .table)))) (c .before .before .loop .i) (inv .2) (omega arith))
+    (inv .2 .ranged, in-count (selecting (c .before .before .before .before .before .before .args .ours) (ports (now (c .before .before .before .before .before .before .args .table)))) (c .before .before .loop .i) (inv .2) (omega arith))
 
 add-i : tie.Need-add-i Inv-loop μ-loop
 add-i c = let most = in-range _ (c .before .before .before .before .before .before .before .before .before .pre) .most in omega arith

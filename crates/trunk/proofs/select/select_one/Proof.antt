@@ -18,7 +18,7 @@ use Rattle.trunk.specs.Selection.{lowest, ruleOf}
 use Rattle.trunk.specs.Settled.{mustMove, reselected}
 use Rattle.port.proofs.RangeLaws.{placed-ranged, detached-ranged}
 use Rattle.trunk.proofs.SelectLaws.{reselected-moves, reselected-unmoved}
-use Rattle.table.proofs.WorkedLaws.{left-alone, said}
+use Rattle.table.proofs.LeavesLaws.{left-alone, said}
 use Rattle.trunk.proofs.TableWork.{may-store, changed-at}
 use borrow.Author.Needs.{needs}
 use Rattle.trunk.proofs.select.select_one.Statement.{statement}

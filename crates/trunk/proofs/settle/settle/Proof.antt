@@ -5,10 +5,10 @@ use denote.Ref.{now}
 use Rattle.port.specs.declared.record.Port.{Port}
 use Rattle.table.specs.declared.layout.Header.{Header}
 use Rattle.table.specs.Table.{ports}
-use Rattle.trunk.specs.Settled.{selectedAll, attachedAll, climbed, settled}
+use Rattle.trunk.specs.Settled.{selectedAll, attachedAll, muxed, settled}
 use Rattle.octets.proofs.ListLaws.{sweep-map}
 use Rattle.trunk.proofs.StepLaws.{all-chosen}
-use Rattle.table.proofs.WorkedLaws.{then, said}
+use Rattle.table.proofs.LeavesLaws.{then, said}
 use borrow.Author.Needs.{needs}
 use Rattle.trunk.proofs.settle.settle.Statement.{statement}
 use Rattle.trunk.proofs.settle.settle.Tie as tie
@@ -35,10 +35,10 @@ unfolding settled
 returns c =
     let first = (c .before .before .before .before .before .before .before .before .before .before .select-all .ensures) in
     let second = (c .before .before .before .before .before .before .attach-all .ensures) in
-    let third = said (sweep-map climbed 0 _) (c .before .before .sweep .ensures) in
+    let third = said (sweep-map muxed 0 _) (c .before .before .sweep .ensures) in
     let ps = ports (now (c .before .before .before .before .before .before .before .before .before .before .before .before .before .before .before .args .table)) in
     said
-    (ap (λ (l : List Port). map climbed l)
+    (ap (λ (l : List Port). map muxed l)
     (second .records ∙ ap attachedAll (first .records ∙ ap (λ (h : Header). selectedAll h ps) (c .before .before .before .before .before .before .before .before .before .before .before .before .read-header .ensures))))
     (then (then first second) third)
 

@@ -4,10 +4,10 @@ use mathlib.Core.Path.{ap, _∙_}
 use denote.Ref.{now}
 use Rattle.port.specs.Receive.{receiveRun}
 use Rattle.port.specs.Periodic.{periodicRun}
-use Rattle.port.specs.Transmit.{quieted, advanced}
+use Rattle.port.specs.Transmit.{nttCleared, advanced}
 use Rattle.port.proofs.RangeLaws.{periodic-ranged, advanced-ranged}
-use Rattle.trunk.specs.Settled.{climbed}
-use Rattle.trunk.proofs.RangeKept.{climbed-ranged}
+use Rattle.trunk.specs.Settled.{muxed}
+use Rattle.trunk.proofs.RangeKept.{muxed-ranged}
 use Rattle.trunk.proofs.TableWork.{may-store, changed-at}
 use borrow.Author.Needs.{needs}
 use Rattle.trunk.proofs.sweep.step_one.Statement.{statement}
@@ -50,12 +50,12 @@ load-requires-3 c κs = c .before .before .before .before .pre
 mux-requires : tie.Need-mux-requires
 mux-requires c κs = search needs
 
-quiet-requires : tie.Need-quiet-requires
-quiet-requires c κs = search needs
+clear-ntt-requires : tie.Need-clear-ntt-requires
+clear-ntt-requires c κs = search needs
 
 store-requires-3 : tie.Need-store-requires-3
-unfolding climbed
-store-requires-3 c κs = may-store climbed (now (c .before .before .before .before .before .before .before .before .args .table)) (c .before .before .before .before .before .before .before .before .args .i) (c .before .before .before .before .before .before .before .before .pre) (λ j. (c .before .before .before .before .before .before .before .slice-known .given) j .fits) (climbed-ranged _) (c .before .before .before .load3 .ensures) (c .quiet .ensures ∙ ap quieted (c .before .mux .ensures))
+unfolding muxed
+store-requires-3 c κs = may-store muxed (now (c .before .before .before .before .before .before .before .before .args .table)) (c .before .before .before .before .before .before .before .before .args .i) (c .before .before .before .before .before .before .before .before .pre) (λ j. (c .before .before .before .before .before .before .before .slice-known .given) j .fits) (muxed-ranged _) (c .before .before .before .load3 .ensures) (c .clear-ntt .ensures ∙ ap nttCleared (c .before .mux .ensures))
 
 enum-known-step : tie.Need-enum-known-step
 enum-known-step c = search needs
@@ -84,10 +84,10 @@ same-length-3 : tie.Need-same-length-3
 same-length-3 c = search needs
 
 returns-3 : tie.Need-returns-3
-unfolding climbed
+unfolding muxed
 returns-3 c =
     rw (c .before .before .before .before .before .before .before .before .enum-told3 .given .1)
-    (changed-at climbed (now (c .before .before .before .before .before .before .before .before .before .before .before .args .table)) (c .before .before .before .before .before .before .before .before .before .before .before .args .i) (c .before .before .before .before .before .before .load3 .ensures) (c .before .before .before .quiet .ensures ∙ ap quieted (c .before .before .before .before .mux .ensures)) (c .before .before .store3 .ensures))
+    (changed-at muxed (now (c .before .before .before .before .before .before .before .before .before .before .before .args .table)) (c .before .before .before .before .before .before .before .before .before .before .before .args .i) (c .before .before .before .before .before .before .load3 .ensures) (c .before .before .before .clear-ntt .ensures ∙ ap nttCleared (c .before .before .before .before .mux .ensures)) (c .before .before .store3 .ensures))
 
 same-length-4 : tie.Need-same-length-4
 same-length-4 c = search needs
@@ -111,7 +111,7 @@ step-one-spec =
     enum-told-3
     load-requires-3
     mux-requires
-    quiet-requires
+    clear-ntt-requires
     store-requires-3
     enum-known-step
     displace-one-requires

@@ -6,15 +6,15 @@ use denote.Ref.{now}
 use Rattle.table.specs.Table.{countIn, ports}
 use Rattle.table.proofs.TableLaws.{in-range}
 use Rattle.trunk.specs.Sweep.{stepped}
-use Rattle.table.specs.Worked.{Worked}
+use Rattle.table.specs.Leaves.{Leaves}
 use Rattle.octets.proofs.ListLaws.{doneTo}
-use Rattle.trunk.proofs.TableWork.{loop-begins, loop-ends, in-table, next-is, turn}
+use Rattle.trunk.proofs.TableWork.{loop-begins, loop-ends, in-count, next-is, turn}
 use Rattle.trunk.proofs.sweep.sweep.Statement.{statement}
 use Rattle.trunk.proofs.sweep.sweep.Tie as tie
 
 abbrev Inv-loop : tie.InvT-loop
 Inv-loop table₀ step n i₀ table i =
-    (i ≤ n) × (countIn table₀ ≡ n) × Worked table₀ table (doneTo (stepped step) i (ports table₀))
+    (i ≤ n) × (countIn table₀ ≡ n) × Leaves table₀ table (doneTo (stepped step) i (ports table₀))
 
 abbrev μ-loop : tie.MeasureT-loop
 μ-loop table₀ step n i₀ table i = n - i
@@ -32,7 +32,7 @@ step-one-requires c κs =
     let inv = (c .before .before .loop .inv) in
     let a = (c .before .before .before .before .before .before .args) in
     let t = now (a .table) in
-    (inv .2 .ranged, in-table (stepped (a .step)) (c .before .before .loop .i) (inv .2) (omega arith))
+    (inv .2 .ranged, in-count (stepped (a .step)) (c .before .before .loop .i) (inv .2) (omega arith))
 
 add-i : tie.Need-add-i Inv-loop μ-loop
 add-i c = let most = in-range _ (c .before .before .before .before .before .before .before .before .before .pre) .most in omega arith

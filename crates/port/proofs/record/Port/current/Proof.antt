@@ -1,5 +1,5 @@
 -- `port::record::Port::current` meets its contract: the definition, with what the callees ensure put in. Assumes nothing.
-use Rattle.port.specs.Receive.{current, heard}
+use Rattle.port.specs.Receive.{current, pduRecorded}
 use borrow.Author.Needs.{needs}
 use Rattle.port.proofs.record.Port.current.Statement.{statement}
 use Rattle.port.proofs.record.Port.current.Tie as tie
@@ -20,7 +20,7 @@ in-state-requires : tie.Need-in-state-requires
 in-state-requires c κs = search needs
 
 returns : tie.Need-returns
-unfolding current heard
+unfolding current pduRecorded
 returns c = rw (c .in-state .ensures, c .before .timeout-time .ensures, c .before .before .before .record-pdu .ensures, c .before .before .before .before .update-ntt .ensures, c .before .before .before .before .before .update-selected .ensures, c .before .before .before .before .before .before .before .pre .1)
 
 pub current-spec : {M : Type 1} → statement M

@@ -12,7 +12,7 @@ use Rattle.table.specs.Layout.{place, headerOf}
 use Rattle.table.specs.Record.{encoded}
 use Rattle.port.specs.Range.{portInRange}
 use Rattle.table.specs.Table.{tableInRange, InTable, countIn, ports, portAt, tableOctets}
-use Rattle.table.specs.Worked.{Worked, Became}
+use Rattle.table.specs.Leaves.{Leaves, Became}
 use Rattle.table.proofs.RecordLaws.{port-back}
 use Rattle.table.proofs.StoreLaws.{ports-at, stored-length, stored-header, stored-ports}
 use Rattle.table.proofs.TableLaws.{in-range, in-range-is, inside, stored-in-range, table-back}
@@ -29,7 +29,7 @@ stored t i p at r =
     }
 
 -- nothing done
-pub unworked : (t : List ℕ) → tableInRange t ≡ true → Worked t t (ports t)
+pub unworked : (t : List ℕ) → tableInRange t ≡ true → Leaves t t (ports t)
 unworked t e = record { header = refl; size = refl; ranged = e; records = refl }
 
 -- a record that is left alone, as what it would be set to is what it is
@@ -44,16 +44,16 @@ left-alone t i q e h same =
     }
 
 -- one piece of work after another
-pub then : {t u v : List ℕ} {ps qs : List Port} → Worked t u ps → Worked u v qs → Worked t v qs
+pub then : {t u v : List ℕ} {ps qs : List Port} → Leaves t u ps → Leaves u v qs → Leaves t v qs
 then a b = record { header = b .header ∙ a .header; size = b .size ∙ a .size; ranged = b .ranged; records = b .records }
 
-pub count-kept : {t u : List ℕ} {ps : List Port} → Worked t u ps → countIn u ≡ countIn t
+pub count-kept : {t u : List ℕ} {ps : List Port} → Leaves t u ps → countIn u ≡ countIn t
 count-kept a = ap (λ (h : Header). h .count) (a .header)
 
 -- the same records, said otherwise
-pub said : {t u : List ℕ} {ps qs : List Port} → ps ≡ qs → Worked t u ps → Worked t u qs
+pub said : {t u : List ℕ} {ps qs : List Port} → ps ≡ qs → Leaves t u ps → Leaves t u qs
 said e w = record { header = w .header; size = w .size; ranged = w .ranged; records = w .records ∙ e }
 
 -- the octets that a piece of work leaves
-pub made-of : {t u : List ℕ} {qs : List Port} → Worked t u qs → Octets u → u ≡ tableOctets (headerOf t) qs
+pub made-of : {t u : List ℕ} {qs : List Port} → Leaves t u qs → Octets u → u ≡ tableOctets (headerOf t) qs
 made-of {t} {u} w o = sym (table-back u (in-range u (w .ranged)) o) ∙ (λ i. tableOctets (w .header i) (w .records i))

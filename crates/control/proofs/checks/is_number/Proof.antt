@@ -1,8 +1,8 @@
--- `control::tests::is_number` meets its contract: the count stands in the header, and of a table in range it is small. Assumes nothing.
+-- `control::checks::is_number` meets its contract: the count stands in the header, and of a table in range it is small. Assumes nothing.
 use native.Mathlib.Omega.{arith}
 use Rattle.table.proofs.TableLaws.{in-range}
-use Rattle.control.proofs.tests.is_number.Statement.{statement}
-use Rattle.control.proofs.tests.is_number.Tie as tie
+use Rattle.control.proofs.checks.is_number.Statement.{statement}
+use Rattle.control.proofs.checks.is_number.Tie as tie
 
 count-requires : tie.Need-count-requires
 count-requires c κs = c .before .pre

@@ -13,7 +13,7 @@ use Rattle.table.specs.Table.{tableInRange, ports}
 abbrev pub Holds : List ℕ → Header → List Port → Type 0
 Holds t h ps = (headerOf t ≡ h) × (tableInRange t ≡ true) × (ports t ≡ ps)
 
-pub record Worked (t u : List ℕ) (qs : List Port) : Type 0 where
+pub record Leaves (t u : List ℕ) (qs : List Port) : Type 0 where
   pub header : headerOf u ≡ headerOf t
   pub size : length u ≡ length t
   pub ranged : tableInRange u ≡ true
@@ -21,4 +21,4 @@ pub record Worked (t u : List ℕ) (qs : List Port) : Type 0 where
 
 -- port i became q, and every other record stayed
 abbrev pub Became : List ℕ → List ℕ → ℕ → Port → Type 0
-Became t u i q = Worked t u (set (ports t) i q)
+Became t u i q = Leaves t u (set (ports t) i q)

@@ -1,14 +1,14 @@
--- `work::hear` meets its contract: the port hears, ports whose partner moved are displaced, and the rest of the work is done.
+-- `work::receive` meets its contract: the port hears, ports whose partner moved are displaced, and the rest of the work is done.
 -- Assumes nothing.
 use mathlib.Core.Path.{_≡_, ap, _∙_}
 use Rattle.frame.specs.declared.block.Block.{Block}
 use Rattle.frame.specs.Block.{blockOf}
 use Rattle.trunk.specs.Displaced.{displaced}
-use Rattle.table.proofs.WorkedLaws.{then, said, made-of}
-use Rattle.work.specs.Work.{worked, afterHeard}
+use Rattle.table.proofs.LeavesLaws.{then, said, made-of}
+use Rattle.work.specs.Work.{worked, afterReceived}
 use borrow.Author.Needs.{needs}
-use Rattle.work.proofs.hear.Statement.{statement}
-use Rattle.work.proofs.hear.Tie as tie
+use Rattle.work.proofs.receive.Statement.{statement}
+use Rattle.work.proofs.receive.Tie as tie
 
 actor-requires : tie.Need-actor-requires
 actor-requires c κs = search needs
@@ -16,8 +16,8 @@ actor-requires c κs = search needs
 read-requires : tie.Need-read-requires
 read-requires c κs = search needs
 
-hear-at-requires : tie.Need-hear-at-requires
-hear-at-requires c κs =
+receive-one-requires : tie.Need-receive-one-requires
+receive-one-requires c κs =
     let e = (c .before .before .before .before .before .pre) in
     let a : _≡_ {A = Block} _ _ = c .before .read .ensures ∙ ap blockOf (c .before .before .actor .ensures .0) in
     (e .0, e .1, a, e .2)
@@ -32,10 +32,10 @@ same-length : tie.Need-same-length
 same-length c = search needs
 
 returns : tie.Need-returns
-unfolding afterHeard displaced
+unfolding afterReceived displaced
 returns c =
     let i = (c .before .before .before .before .before .before .before .before .before .before .before .before .before .before .before .before .args .i) in
-    let first = (c .before .before .before .before .before .before .before .before .before .before .hear-at .ensures) in
+    let first = (c .before .before .before .before .before .before .before .before .before .before .receive-one .ensures) in
     let second = (c .before .before .before .before .before .before .sweep .ensures) in
     let third = (c .before .before .finish .ensures) in
     let a : _≡_ {A = Block} _ _ = c .before .before .before .before .before .before .before .before .before .before .before .before .read .ensures ∙ ap blockOf (c .before .before .before .before .before .before .before .before .before .before .before .before .before .actor .ensures .0) in
@@ -44,7 +44,7 @@ returns c =
     (then (then first second) third))
     (λ j. (c .slice-known4 .given) j .fits)
 
-pub hear-spec : {M : Type 1} → statement M
-hear-spec =
+pub receive-spec : {M : Type 1} → statement M
+receive-spec =
     tie.close
-    (tie.spec actor-requires read-requires hear-at-requires sweep-requires finish-requires same-length returns)
+    (tie.spec actor-requires read-requires receive-one-requires sweep-requires finish-requires same-length returns)

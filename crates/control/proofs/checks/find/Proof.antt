@@ -1,4 +1,4 @@
--- `control::tests::find` meets its contract: answer 1, then answer 2, then the port's place. Assumes nothing.
+-- `control::checks::find` meets its contract: answer 1, then answer 2, then the port's place. Assumes nothing.
 use mathlib.Core.Path.{sym, _∙_}
 use native.Mathlib.Omega.{arith}
 use borrow.Author.Tests.{not-true, not-false}
@@ -7,8 +7,8 @@ use Rattle.octets.proofs.RangeLaws.{within-true}
 use Rattle.table.specs.Table.{countIn}
 use Rattle.control.specs.Answer.{found}
 use borrow.Author.Needs.{needs}
-use Rattle.control.proofs.tests.find.Statement.{statement}
-use Rattle.control.proofs.tests.find.Tie as tie
+use Rattle.control.proofs.checks.find.Statement.{statement}
+use Rattle.control.proofs.checks.find.Tie as tie
 
 is-table-requires : tie.Need-is-table-requires
 is-table-requires c κs = search needs

@@ -1,4 +1,4 @@
--- `work::hear_at` meets its contract: the record that is handed down is the port's; it goes to CURRENT, is stored, and stays in range.
+-- `work::receive_one` meets its contract: the record that is handed down is the port's; it goes to CURRENT, is stored, and stays in range.
 -- Assumes nothing.
 use Prim.Native.Nat.{_+_}
 use mathlib.Core.Path.{sym, ap, _∙_}
@@ -9,14 +9,14 @@ use Rattle.port.specs.Receive.{received}
 use Rattle.table.specs.Layout.{headerOf}
 use Rattle.table.specs.Table.{countIn}
 use Rattle.trunk.proofs.TableWork.{may-store, changed-at}
-use Rattle.work.specs.Work.{heardAt}
+use Rattle.work.specs.Work.{receivedAt}
 use Rattle.frame.proofs.RangeLaws.{part-fits}
 use Rattle.port.proofs.RangeLaws.{received-ranged}
-use Rattle.table.proofs.WorkedLaws.{stored}
+use Rattle.table.proofs.LeavesLaws.{stored}
 use Rattle.work.proofs.WorkLaws.{below-most}
 use borrow.Author.Needs.{needs}
-use Rattle.work.proofs.hear_at.Statement.{statement}
-use Rattle.work.proofs.hear_at.Tie as tie
+use Rattle.work.proofs.receive_one.Statement.{statement}
+use Rattle.work.proofs.receive_one.Tie as tie
 
 read-header-requires : tie.Need-read-header-requires
 read-header-requires c κs = c .before .before .before .pre .0 .0
@@ -51,7 +51,7 @@ same-length : tie.Need-same-length
 same-length c = search needs
 
 returns : tie.Need-returns
-unfolding heardAt
+unfolding receivedAt
 returns c =
     let a = (c .before .before .before .before .before .before .before .before .before .before .before .before .before .args) in
     let e = (c .before .before .before .before .before .before .before .before .before .before .before .before .before .pre) in
@@ -61,7 +61,7 @@ returns c =
     (rw (c .before .before .before .before .receive-lacpdu .ensures, c .before .before .before .before .before .partner .ensures .0, c .before .before .before .before .before .before .actor .ensures .0, c .before .before .before .before .before .before .before .number-of .ensures, c .before .before .before .before .before .before .before .before .before .read-header .ensures))
     (c .before .before .store .ensures)
 
-pub hear-at-spec : {M : Type 1} → statement M
-hear-at-spec =
+pub receive-one-spec : {M : Type 1} → statement M
+receive-one-spec =
     tie.close
     (tie.spec read-header-requires number-of-requires actor-requires partner-requires receive-lacpdu-requires store-requires same-length returns)

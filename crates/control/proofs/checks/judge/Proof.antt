@@ -1,9 +1,9 @@
--- `control::tests::judge` meets its contract: on each way out it gives what the definition gives, by the tests on the way. Assumes nothing.
+-- `control::checks::judge` meets its contract: on each way out it gives what the definition gives, by the tests on the way. Assumes nothing.
 use mathlib.Core.Path.{sym, _∙_}
 use mathlib.Core.Bool.{_||_}
 use borrow.Author.Needs.{needs}
-use Rattle.control.proofs.tests.judge.Statement.{statement}
-use Rattle.control.proofs.tests.judge.Tie as tie
+use Rattle.control.proofs.checks.judge.Statement.{statement}
+use Rattle.control.proofs.checks.judge.Tie as tie
 
 enum-told : tie.Need-enum-told
 enum-told c = search needs
