@@ -79,10 +79,13 @@ impl Port {
         }
     }
 
-    // Step 6: up or down as the partner's bits say, to where the machine rests.
+    // Step 6: up or down as the partner's bits say, to where the machine rests, which is mostly where it is.
     pub fn mux(self) -> Self
         ensures { λ r. ⌜ r ≡ muxRun self ⌝ }
     {
-        self.mux_step(false).mux_step(false)
+        match self.mux_choice(false) {
+            MuxStep::Stay => self,
+            MuxStep::Enter(_) => self.mux_step(false).mux_step(false),
+        }
     }
 }

@@ -165,11 +165,15 @@ impl Port {
         }
     }
 
-    // The machine without an LACPDU, until no step applies.
+    // The machine without an LACPDU, until no step applies: mostly none does, or one.
     pub fn receive(self) -> Self
         ensures { λ r. ⌜ r ≡ receiveRun self ⌝ }
     {
-        self.receive_step().receive_step()
+        let p = self.receive_step();
+        match p.receive_choice() {
+            ReceiveStep::Stay => p,
+            ReceiveStep::Enter(_) => p.receive_step(),
+        }
     }
 
     // The partner of this port, which is disabled, was seen on another one.
