@@ -17,7 +17,7 @@ use Rattle.frame.proofs.BlockLaws.{octet-le}
 pub address-fits : (l : List ℕ) → Octets l → (i : ℕ) → addressFits (addressAt l i) ≡ true
 address-fits l o i = both-true (number-fits l o i) (both-true (number-fits l o (i + 2)) (number-fits l o (i + 4)))
 
-pub block-fits : (l : List ℕ) → Octets l → blockFits (blockOf l) ≡ true
+block-fits : (l : List ℕ) → Octets l → blockFits (blockOf l) ≡ true
 unfolding blockFits
 block-fits l o =
     both-true (number-fits l o 0) (both-true (address-fits l o 2) (both-true (number-fits l o 8) (both-true (number-fits l o 10) (number-fits l o 12))))

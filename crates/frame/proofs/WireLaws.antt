@@ -47,7 +47,7 @@ module _ (source : Address) (actor partner : Block) (delay : TensOfMicroseconds)
       let long : (n : ℕ) → n ≤ frameSize → ltb (length sent) n ≡ false = λ n h. le-ltb (length sent) n (omega arith) in
       rw (long 14 (omega arith), long 15 (omega arith), long frameSize (omega arith))
 
-abbrev pub classOfType : MarkerType → Class
+abbrev classOfType : MarkerType → Class
 classOfType Marker = class.Marker
 classOfType Response = class.Response
 

@@ -90,7 +90,7 @@ block-true x y e =
 
 -- ---- a value is alike with itself
 
-pub alike-refl : (x : Bool) → alike x x ≡ true
+alike-refl : (x : Bool) → alike x x ≡ true
 alike-refl true = refl
 alike-refl false = refl
 
@@ -100,7 +100,7 @@ line-refl x = rw (alike-refl (x .up), alike-refl (x .full))
 eqb-self : (n : ℕ) → eqb n n ≡ true
 eqb-self n = eq-eqb n n refl
 
-pub address-refl : (x : Address) → sameAddress x x ≡ true
+address-refl : (x : Address) → sameAddress x x ≡ true
 unfolding sameAddress
 address-refl x = rw (eqb-self (x .high), eqb-self (x .middle), eqb-self (x .low))
 
@@ -108,7 +108,7 @@ pub system-refl : (x : SystemId) → sameSystem x x ≡ true
 unfolding sameSystem
 system-refl x = rw (eqb-self (x .priority), address-refl (x .address))
 
-pub numbers-refl : (x : Block) → sameNumbers x x ≡ true
+numbers-refl : (x : Block) → sameNumbers x x ≡ true
 unfolding sameNumbers
 numbers-refl x = rw (system-refl (x .system), eqb-self (x .key), eqb-self (x .port .priority), eqb-self (x .port .number))
 

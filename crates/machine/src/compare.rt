@@ -28,7 +28,7 @@ pub fn same_system(x: SystemId, y: SystemId) -> bool
 }
 
 // The five numbers: system priority, system, key, port priority, port.
-pub fn same_numbers(x: Block, y: Block) -> bool
+pub(crate) fn same_numbers(x: Block, y: Block) -> bool
     ensures { λ r. ⌜ r ≡ sameNumbers x y ⌝ }
 {
     let a = x.system;
@@ -63,7 +63,7 @@ pub fn in_sync(us: Block, a: Block, b: Block) -> bool
     a.state.synchronization & (maintained & (same_party(b, us) | !a.state.aggregation))
 }
 
-pub fn same_state(x: PortState, y: PortState) -> bool
+pub(crate) fn same_state(x: PortState, y: PortState) -> bool
     ensures { λ r. ⌜ r ≡ sameState x y ⌝ }
 {
     alike(x.activity, y.activity)

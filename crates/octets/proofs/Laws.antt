@@ -37,7 +37,7 @@ abbrev pub over : List ℕ → List ℕ → List ℕ
 over p d = p ++ drop (length p) d
 
 -- pieces one after the other
-abbrev pub joinedUp : List (List ℕ) → List ℕ
+abbrev joinedUp : List (List ℕ) → List ℕ
 joinedUp [] = []
 joinedUp (s ∷ ss) = s ++ joinedUp ss
 
@@ -54,7 +54,7 @@ put-next p s l =
     rw (take-at p (drop (length p) l) (length p) refl, after, append-assoc)
 
 -- pieces that are written from the front on stand over the front together, whatever was there
-pub puts-over : (p : List ℕ) (ss : List (List ℕ)) (l : List ℕ) → puts (length p) ss (over p l) ≡ over (p ++ joinedUp ss) l
+puts-over : (p : List ℕ) (ss : List (List ℕ)) (l : List ℕ) → puts (length p) ss (over p l) ≡ over (p ++ joinedUp ss) l
 puts-over p [] l = rw append-nil
 puts-over p (s ∷ ss) l = rw (put-next p s l, ← length-append p s) (puts-over (p ++ s) ss l ∙ ap (λ (q : List ℕ). over q l) (append-assoc p s (joinedUp ss)))
 
@@ -153,7 +153,7 @@ spread-all l n e = spread-part 0 n l (omega arith) ∙ take-all n l (omega arith
 
 -- ---- equal octets
 
-pub same-refl : (l : List ℕ) → sameOctets l l ≡ true
+same-refl : (l : List ℕ) → sameOctets l l ≡ true
 unfolding sameOctets
 same-refl [] = refl
 same-refl (x ∷ xs) = rw (eq-eqb x x refl, same-refl xs)

@@ -209,6 +209,6 @@ unfolding muxStep muxChoice
 bits-kept ready p h =
     agrees p (p .phase .mux) (p .phase .selected) ready (p .partner .state .synchronization) (p .partner .state .collecting) refl h
 
-pub run-agrees : (p : Port) → SaysMux p → SaysMux (muxRun p)
+run-agrees : (p : Port) → SaysMux p → SaysMux (muxRun p)
 unfolding muxRun
 run-agrees p h = bits-kept false (muxStep false p) (bits-kept false p h)

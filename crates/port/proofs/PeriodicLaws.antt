@@ -83,7 +83,7 @@ seen p = record { state = refl; silence = refl; timer = refl; partner = refl }
 pub periodic-rests : (p : Port) → periodicStep (periodicRun p) ≡ periodicRun p
 periodic-rests p = at-rest (p .phase .periodic) (quiet p) (ranOut (p .timers .periodic)) (p .partner .state .timeout) (seen p)
 
-pub periodic-twice : (p : Port) → periodicRun (periodicRun p) ≡ periodicRun p
+periodic-twice : (p : Port) → periodicRun (periodicRun p) ≡ periodicRun p
 unfolding periodicRun
 periodic-twice p = ap periodicStep (periodic-rests p) ∙ periodic-rests p
 
@@ -100,7 +100,7 @@ taken-keeps : (k : PeriodicStep) (p : Port) → besidePeriodic (periodicTaken k 
 taken-keeps Stay p = refl
 taken-keeps (Enter s) p = refl
 
-pub step-keeps : (p : Port) → besidePeriodic (periodicStep p) ≡ besidePeriodic p
+step-keeps : (p : Port) → besidePeriodic (periodicStep p) ≡ besidePeriodic p
 unfolding periodicStep
 step-keeps p = taken-keeps (periodicChoice p) p
 

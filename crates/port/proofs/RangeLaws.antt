@@ -74,7 +74,7 @@ periodic-timer-ranged n t h e =
     let b = both (leb (t .periodic .0) slowPeriodicTime) _ (a .1) in
     both-true (a .0) (both-true h (b .1))
 
-pub currently-ranged : (n : ℕ) (t : Timers) → leb n longTimeoutTime ≡ true → timersInRange t ≡ true → timersInRange (timersCurrent n t) ≡ true
+currently-ranged : (n : ℕ) (t : Timers) → leb n longTimeoutTime ≡ true → timersInRange t ≡ true → timersInRange (timersCurrent n t) ≡ true
 unfolding timersInRange
 currently-ranged n t h e = both-true h (both (leb (t .current .0) longTimeoutTime) _ e .1)
 
@@ -189,7 +189,7 @@ module _ (count : ℕ) where
         partner = r .partner;
       })
 
-  pub step-ranged : (ready : Bool) (p : Port) → portInRange count p ≡ true → portInRange count (muxStep ready p) ≡ true
+  step-ranged : (ready : Bool) (p : Port) → portInRange count p ≡ true → portInRange count (muxStep ready p) ≡ true
   unfolding muxStep
   step-ranged ready p e = taken-ranged (muxChoice ready p) p e
 
@@ -223,7 +223,7 @@ module _ (count : ℕ) where
 
   -- ---- a tick, a send, and NTT
 
-  pub ticked-ranged : (p : Port) → portInRange count p ≡ true → portInRange count (ticked p) ≡ true
+  ticked-ranged : (p : Port) → portInRange count p ≡ true → portInRange count (ticked p) ≡ true
   unfolding ticked
   ticked-ranged p e =
       let r = ranged count p e in
@@ -358,7 +358,7 @@ module _ (count : ℕ) where
   receive-taken (receive.Enter Defaulted) p e = defaulted-ranged p e
   receive-taken (receive.Enter Current) p e = e
 
-  pub receive-ranged : (p : Port) → portInRange count p ≡ true → portInRange count (receiveRun p) ≡ true
+  receive-ranged : (p : Port) → portInRange count p ≡ true → portInRange count (receiveRun p) ≡ true
   unfolding receiveRun receiveStep
   receive-ranged p e =
       let q = receiveTaken (receiveChoice p) p in

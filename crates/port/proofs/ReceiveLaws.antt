@@ -131,10 +131,10 @@ disabled-party p = ap (λ (q : Port). party (q .partner)) (disabled-keeps p)
 pub expired-party : (p : Port) → party (expired p .partner) ≡ party (p .partner)
 expired-party p = ap (λ (q : Port). party (q .partner)) (expired-keeps p)
 
-pub disabled-compared : (p : Port) → compared (portDisabled p) ≡ compared p
+disabled-compared : (p : Port) → compared (portDisabled p) ≡ compared p
 disabled-compared p = ap compared (disabled-keeps p)
 
-pub expired-compared : (p : Port) → compared (expired p) ≡ compared p
+expired-compared : (p : Port) → compared (expired p) ≡ compared p
 expired-compared p = ap compared (expired-keeps p)
 
 -- ---- a change of what the rule reads makes the port UNSELECTED

@@ -289,7 +289,7 @@ both-up true other e u = true≢false u
 both-up false other e u = false≢true e
 
 -- a port at rest with its link down is in PORT_DISABLED
-pub down-disabled : (l : Line) (s : Receive) → goesWith l s ≡ true → l .up ≡ false → s ≡ PortDisabled
+down-disabled : (l : Line) (s : Receive) → goesWith l s ≡ true → l .up ≡ false → s ≡ PortDisabled
 down-disabled l Initialize g u = absurd (false≢true g)
 down-disabled l PortDisabled g u = refl
 down-disabled l Expired g u = absurd (both-up (l .up) (l .full) g u)

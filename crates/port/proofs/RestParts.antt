@@ -86,7 +86,7 @@ pub record MuxAgrees (v : MuxPart) : Type 0 where
   pub timed : Timed (waits (v .state)) aggregateWaitTime (v .timer)
 
 -- where the periodic machine is at rest: by its state, whether it is to be quiet, whether its timer has run out, the partner's Timeout
-abbrev pub calm : Periodic → Bool → Bool → Bool → Bool
+abbrev calm : Periodic → Bool → Bool → Bool → Bool
 calm NoPeriodic q out short = q && out
 calm FastPeriodic q out short = not q && (not out && short)
 calm SlowPeriodic q out short = not q && (not out && not short)

@@ -43,7 +43,7 @@ periodic-taken-timed (periodic.Enter FastPeriodic) p h = running _ _ (omega arit
 periodic-taken-timed (periodic.Enter SlowPeriodic) p h = running _ _ (omega arith)
 periodic-taken-timed (periodic.Enter PeriodicTx) p h = halted _ _
 
-pub periodic-step-timed : (p : Port) → PeriodicTimed p → PeriodicTimed (periodicStep p)
+periodic-step-timed : (p : Port) → PeriodicTimed p → PeriodicTimed (periodicStep p)
 unfolding periodicStep
 periodic-step-timed p h = periodic-taken-timed (periodicChoice p) p h
 
@@ -71,7 +71,7 @@ wait-run p h = wait-step false (muxStep false p) (wait-step false p h)
 
 -- ---- the current-while timer: each state says what it holds
 
-pub initialized-timed : (p : Port) → CurrentTimed (initialized p)
+initialized-timed : (p : Port) → CurrentTimed (initialized p)
 unfolding initialized recordDefault
 initialized-timed p = halted _ _
 
@@ -109,7 +109,7 @@ receive-taken (receive.Enter LacpDisabled) p h = off-timed p
 receive-taken (receive.Enter Defaulted) p h = defaulted-timed p
 receive-taken (receive.Enter Current) p h = h
 
-pub receive-step-timed : (p : Port) → CurrentTimed p → CurrentTimed (receiveStep p)
+receive-step-timed : (p : Port) → CurrentTimed p → CurrentTimed (receiveStep p)
 unfolding receiveStep
 receive-step-timed p h = receive-taken (receiveChoice p) p h
 
@@ -121,7 +121,7 @@ pub received-timed : (system : SystemId) (number : ℕ) (a b : Block) (p : Port)
 unfolding received
 received-timed system number a b p = current-timed (actorBlock system number p) a b p
 
-pub moved-timed : (p : Port) → CurrentTimed (moved p)
+moved-timed : (p : Port) → CurrentTimed (moved p)
 unfolding moved
 moved-timed p = disabled-timed (initialized p)
 

@@ -14,13 +14,13 @@ use Rattle.port.specs.declared.record.Own.{Own}
 use Rattle.port.specs.declared.record.Port.{Port}
 use Rattle.port.specs.Record.{port}
 
-abbrev pub noAddress : Address
+abbrev noAddress : Address
 noAddress = record { high = 0; middle = 0; low = 0 }
 
-abbrev pub noState : PortState
+abbrev noState : PortState
 noState = state false false false false false false false false
 
-abbrev pub noBlock : Block
+abbrev noBlock : Block
 noBlock = record {
   system = record { priority = 0; address = noAddress };
   key = 0;
@@ -28,7 +28,7 @@ noBlock = record {
   state = noState;
 }
 
-abbrev pub noOwn : Own
+abbrev noOwn : Own
 noOwn = record { address = noAddress; key = 0; priority = 0; default = noBlock }
 
 abbrev pub noPort : Port

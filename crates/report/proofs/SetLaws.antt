@@ -65,7 +65,7 @@ set-member-beyond f (p ∷ ps) zero h = absurd (omega arith)
 set-member-beyond f (p ∷ ps) (suc i) h =
     member-half (setOf f (p ∷ ps)) i ∙ ap (λ (x : ℕ). member x i) (set-half f p ps) ∙ set-member-beyond f ps i (omega arith)
 
-pub set-bound : (f : Port → Bool) (ps : List Port) → setOf f ps < 2 ^ length ps
+set-bound : (f : Port → Bool) (ps : List Port) → setOf f ps < 2 ^ length ps
 unfolding setOf
 set-bound f [] = omega arith
 set-bound f (p ∷ ps) =

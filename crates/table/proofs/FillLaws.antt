@@ -59,7 +59,7 @@ module _ (h : Header) (p : Port) (t : List ℕ) where
       ∙ ap (λ (ps : List Port). begun h ps t) (replicate-append-replicate i 1 p ∙ ap (λ (n : ℕ). replicate n p) one)
 
   -- all records
-  pub filled-all : length t ≡ tableSize (h .count) → filled (h .count) p (putAt 0 (headerOctets h) t) ≡ tableOctets h (replicate (h .count) p)
+  filled-all : length t ≡ tableSize (h .count) → filled (h .count) p (putAt 0 (headerOctets h) t) ≡ tableOctets h (replicate (h .count) p)
   filled-all e =
       filled-is (h .count)
       ∙ begun-all h (replicate (h .count) p) t (e ∙ ap tableSize (sym (length-replicate (h .count) p)))

@@ -1,14 +1,13 @@
--- The octets of a header and of records in range are a table in range, which gives both back; a store into them is the list with the
--- record; and writing header and records one after the other into memory of any content makes them. Assumes nothing.
+-- The octets of a header and of records in range are a table in range, which gives both back; and writing header and records one after the other into memory of any content makes them. Assumes nothing.
 use Prim.Native.Nat.{ℕ, zero, suc, _+_, _*_, _≤_, _<_}
 use mathlib.Core.Path.{_≡_, refl, sym, ap, _∙_}
 use mathlib.Core.Bool.{true, _&&_}
 use mathlib.Core.List.{List, [], _∷_, _++_, append-assoc, append-nil}
 use native.Mathlib.Omega.{arith}
-use lib.ListN.{length, take, drop, getD, set, length-append, drop-of-length-le}
+use lib.ListN.{length, take, drop, getD, length-append, drop-of-length-le}
 use lib.Dec.{eqb}
 use borrow.Author.Tests.{eqb-true}
-use lib.Seq.{take-at, drop-at, drop-nil, drop-drop, drop-append-add, drop-cons, ext-getD}
+use lib.Seq.{take-at, drop-nil, drop-drop, drop-append-add, drop-cons, ext-getD}
 use Rattle.octets.specs.Octets.{Octets, putAt, high, low, numberOctets, fits, within}
 use Rattle.octets.proofs.Laws.{number-back, over-put, put-append}
 use Rattle.octets.proofs.OctetLists.{octets-of, append-octets}
@@ -25,7 +24,7 @@ use Rattle.table.specs.State.{State, stateInRange}
 use Rattle.table.specs.Table.{countIn, recordAt, decodedAt, ports, recordsOctets, tableOctets, tableInRange, stateOf, octetsOf}
 use Rattle.table.proofs.RecordLaws.{encoded-length, port-back, encoded-in-range, encoded-octets}
 use Rattle.table.proofs.StoreLaws.{ports-length, records-at, ports-at}
-use Rattle.table.proofs.TableLaws.{InRange, in-range-is, port-in-range, table-back}
+use Rattle.table.proofs.TableLaws.{InRange, in-range-is, port-in-range}
 
 -- ---- lists of records in range
 
@@ -39,14 +38,6 @@ pub ports-ranged : (count : ℕ) (ps : List Port) (d : Port) → ((i : ℕ) → 
 unfolding portsInRange
 ports-ranged count [] d f = refl
 ports-ranged count (p ∷ ps) d f = both-true (f 0 (omega arith)) (ports-ranged count ps d (λ i h. f (suc i) (omega arith)))
-
-pub set-ranged : (count : ℕ) (ps : List Port) (i : ℕ) (p : Port) → portsInRange count ps ≡ true → portInRange count p ≡ true → portsInRange count (set ps i p) ≡ true
-unfolding portsInRange
-set-ranged count [] i p e s = refl
-set-ranged count (q ∷ ps) zero p e s = both-true s (both (portInRange count q) (portsInRange count ps) e .1)
-set-ranged count (q ∷ ps) (suc i) p e s =
-    let e₀ = both (portInRange count q) (portsInRange count ps) e in
-    both-true (e₀ .0) (set-ranged count ps i p (e₀ .1) s)
 
 -- the records of a table in range
 pub table-ports-ranged : (t : List ℕ) → InRange t → Octets t → portsInRange (countIn t) (ports t) ≡ true
@@ -75,21 +66,6 @@ records-drop (suc i) (p ∷ ps) =
     ap (λ (n : ℕ). drop n (encoded p ++ recordsOctets ps)) far
     ∙ drop-append-add (encoded p) (recordsOctets ps) (recordSize * i)
     ∙ records-drop i ps
-
-records-put : (i : ℕ) (p : Port) (ps : List Port) → i < length ps → putAt (recordSize * i) (encoded p) (recordsOctets ps) ≡ recordsOctets (set ps i p)
-unfolding recordsOctets
-records-put i p [] h = absurd (omega arith)
-records-put zero p (q ∷ ps) h =
-    let none : recordSize * zero ≡ 0 = omega arith in
-    ap (λ (n : ℕ). putAt n (encoded p) (encoded q ++ recordsOctets ps)) none
-    ∙ sym (over-put (encoded p) (encoded q ++ recordsOctets ps))
-    ∙ ap (λ (l : List ℕ). encoded p ++ l) (drop-at (encoded q) (recordsOctets ps) (length (encoded p)) (encoded-length q ∙ sym (encoded-length p)))
-records-put (suc i) p (q ∷ ps) h =
-    let one : length (encoded q) ≡ recordSize = encoded-length q in
-    let far : recordSize * suc i ≡ length (encoded q) + recordSize * i = omega arith in
-    ap (λ (n : ℕ). putAt n (encoded p) (encoded q ++ recordsOctets ps)) far
-    ∙ put-append (encoded q) (recordsOctets ps) (encoded p) (recordSize * i)
-    ∙ ap (λ (l : List ℕ). encoded q ++ l) (records-put i p ps (omega arith))
 
 records-octets : (count : ℕ) (ps : List Port) → count < 256 → portsInRange count ps ≡ true → Octets (recordsOctets ps)
 unfolding recordsOctets portsInRange
@@ -125,7 +101,7 @@ unfolding tableOctets
 made-more h ps p = append-assoc (headerOctets h) (recordsOctets ps) (encoded p) ∙ ap (λ (l : List ℕ). headerOctets h ++ l) (records-more ps p)
 
 module _ (h : Header) (ps : List Port) where
-  pub made-length : length (tableOctets h ps) ≡ tableSize (length ps)
+  made-length : length (tableOctets h ps) ≡ tableSize (length ps)
   unfolding tableOctets
   made-length = length-append (headerOctets h) (recordsOctets ps) ∙ ap (λ (n : ℕ). headerSize + n) (records-length ps)
 
@@ -147,19 +123,12 @@ module _ (h : Header) (ps : List Port) where
   pub made-count : countIn (tableOctets h ps) ≡ h .count
   made-count = ap (λ (x : Header). x .count) made-header
 
-  pub made-record : (i : ℕ) (d : Port) → i < length ps → recordAt (tableOctets h ps) i ≡ encoded (getD ps i d)
+  made-record : (i : ℕ) (d : Port) → i < length ps → recordAt (tableOctets h ps) i ≡ encoded (getD ps i d)
   unfolding tableOctets recordAt recordsOctets
   made-record i d k =
       ap (λ (l : List ℕ). take recordSize l)
       (drop-append-add (headerOctets h) (recordsOctets ps) (recordSize * i) ∙ records-drop i ps ∙ ap recordsOctets (drop-cons ps i d k))
       ∙ take-at (encoded (getD ps i d)) (recordsOctets (drop (suc i) ps)) recordSize (encoded-length (getD ps i d))
-
-  -- a store into the octets of records is the list with the record
-  pub made-stored : (i : ℕ) (p : Port) → i < length ps → putAt (place i) (encoded p) (tableOctets h ps) ≡ tableOctets h (set ps i p)
-  unfolding tableOctets
-  made-stored i p k =
-      put-append (headerOctets h) (recordsOctets ps) (encoded p) (recordSize * i)
-      ∙ ap (λ (l : List ℕ). headerOctets h ++ l) (records-put i p ps k)
 
   module _ (n : h .count ≡ length ps) (r : portsInRange (length ps) ps ≡ true) where
     counted : countIn (tableOctets h ps) ≡ length ps
@@ -222,15 +191,6 @@ state-back s e =
       ranged = in-range-is (octetsOf s) (made-in-range (s .common) (s .ports) counted (e₂ .1) some few);
       octets = made-octets (s .common) (s .ports) counted (e₂ .1) (e₂ .0) few;
     }
-
--- ---- a store into a table in range
-
--- the octets afterwards are those of the header and of the records with this one among them
-pub stored-table : (i : ℕ) (p : Port) (t : List ℕ) → InRange t → Octets t → i < countIn t
-    → putAt (place i) (encoded p) t ≡ tableOctets (headerOf t) (set (ports t) i p)
-stored-table i p t r o h =
-    ap (putAt (place i) (encoded p)) (sym (table-back t r o))
-    ∙ made-stored (headerOf t) (ports t) i p (rw ports-length h)
 
 -- ---- memory of any content, of which header and the first records are written
 

@@ -30,7 +30,7 @@ pub record Coded (l : List ℕ) : Type 0 where
   pub up : getD l 6 0 ≤ 1
   pub full : getD l 7 0 ≤ 1
 
-pub coded : (l : List ℕ) → codesInRange l ≡ true → Coded l
+coded : (l : List ℕ) → codesInRange l ≡ true → Coded l
 unfolding codesInRange
 coded l e =
     let e₀ = both _ _ e in

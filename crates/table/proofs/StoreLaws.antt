@@ -24,10 +24,10 @@ use Rattle.table.proofs.RecordLaws.{encoded-length}
 -- ---- the octets of a store
 
 module _ (i : ℕ) (s t : List ℕ) (n : length s ≡ recordSize) (h : place i + recordSize ≤ length t) where
-  pub put-length : length (putAt (place i) s t) ≡ length t
+  put-length : length (putAt (place i) s t) ≡ length t
   put-length = length-put (place i) s t (omega arith)
 
-  pub put-header : headerOf (putAt (place i) s t) ≡ headerOf t
+  put-header : headerOf (putAt (place i) s t) ≡ headerOf t
   put-header =
       let u = putAt (place i) s t in
       let front : spread 0 headerSize u ≡ spread 0 headerSize t =

@@ -11,7 +11,7 @@ use lib.Dec.{leb, eqb}
 use borrow.Author.Tests.{leb-true, le-leb, eqb-true, eqb-false, eq-eqb}
 use Rattle.octets.specs.Octets.{Octets, putAt, within}
 use Rattle.octets.proofs.Laws.{spread-part}
-use Rattle.octets.proofs.OctetLists.{take-octets, drop-octets, put-octets, first-back, second-back}
+use Rattle.octets.proofs.OctetLists.{take-octets, drop-octets, first-back, second-back}
 use Rattle.octets.proofs.RangeLaws.{both, both-true, within-true, within-is}
 use Rattle.port.specs.declared.record.Port.{Port}
 use Rattle.port.specs.Range.{portInRange}
@@ -19,7 +19,7 @@ use Rattle.table.specs.Layout.{headerSize, recordSize, mostPorts, place,
 use Rattle.table.specs.Record.{encoded}
 use Rattle.table.specs.Range.{recordInRange}
 use Rattle.table.specs.Table.{countIn, recordAt, decodedAt, portsFrom, ports, portAt, recordsOctets, tableOctets, firstInRange, tableInRange, InTable, stateOf, octetsOf}
-use Rattle.table.proofs.RecordLaws.{encoded-length, encoded-in-range, encoded-octets, decoded-in-range, record-octets-back}
+use Rattle.table.proofs.RecordLaws.{encoded-length, encoded-in-range, decoded-in-range, record-octets-back}
 use Rattle.table.proofs.StoreLaws.{put-same, put-other, stored-length, stored-count, port-decoded}
 
 -- ---- the check taken apart, and put together
@@ -120,16 +120,6 @@ stored-in-range i p t r h e =
     at j false s k =
         ap (recordInRange (countIn t)) (put-other i (encoded p) t (encoded-length p) room j (eqb-false j i s))
         ∙ r .records j k
-
-pub stored-kept : (i : ℕ) (p : Port) (t : List ℕ) → tableInRange t ≡ true → i < countIn t → portInRange (countIn t) p ≡ true
-    → tableInRange (putAt (place i) (encoded p) t) ≡ true
-stored-kept i p t e h s = in-range-is (putAt (place i) (encoded p) t) (stored-in-range i p t (in-range t e) h s)
-
--- what was octets is octets
-pub stored-octets : (i : ℕ) (p : Port) (t : List ℕ) → InRange t → portInRange (countIn t) p ≡ true → Octets t → Octets (putAt (place i) (encoded p) t)
-stored-octets i p t r e o =
-    let few : countIn t ≤ mostPorts = r .most in
-    put-octets (place i) (encoded p) t (encoded-octets (countIn t) p (omega arith) e) o
 
 -- ---- header and records fix every octet
 

@@ -11,11 +11,11 @@ use frame::block::SystemId;
 use frame::wire::TensOfMicroseconds;
 
 // The octets of the header.
-pub const HEADER: usize = 11;
+pub(crate) const HEADER: usize = 11;
 // The octets of a record.
 pub const RECORD: usize = 57;
 // The most ports that a table has.
-pub const MOST_PORTS: u8 = 32;
+pub(crate) const MOST_PORTS: u8 = 32;
 
 pub struct Header {
     pub count: u8,
@@ -24,7 +24,7 @@ pub struct Header {
 }
 
 // Where record `i`, from 0, begins; for the port count, the octets of the table.
-pub fn place_of(i: usize) -> usize
+pub(crate) fn place_of(i: usize) -> usize
     requires { ⌜ place i ≤ 18446744073709551615 ⌝ }
     ensures { λ r. ⌜ r ≡ place i ⌝ }
 {
@@ -62,7 +62,7 @@ pub fn read_header(table: &[u8]) -> Header
 }
 
 // Writes the header at the front of a table; every other octet stays.
-pub fn write_header(table: &mut [u8], header: Header)
+pub(crate) fn write_header(table: &mut [u8], header: Header)
     requires { ⌜ headerSize ≤ length (now table) ⌝ }
     ensures { λ _. ⌜ now (table .exit) ≡ putAt 0 (headerOctets header) (now (table .entry)) ⌝ }
 {

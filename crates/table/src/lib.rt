@@ -27,9 +27,9 @@ use machine::states::Phase;
 use machine::states::Timers;
 use port::record::Port;
 
-pub mod codes;
+mod codes;
 pub mod layout;
-pub mod range;
+mod range;
 pub mod record;
 
 // The port count in the header.

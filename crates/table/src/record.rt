@@ -49,7 +49,7 @@ fn write_phase(phase: Phase, out: &mut [u8])
 }
 
 // The states in octets 0 to 3.
-pub fn phase_in(s: &[u8]) -> Phase
+pub(crate) fn phase_in(s: &[u8]) -> Phase
     requires { ⌜ length (now s) ≡ recordSize ⌝ }
     ensures { λ r. ⌜ r ≡ phaseIn (now (s .entry)) ⌝ }
 {
@@ -80,7 +80,7 @@ fn write_status(aggregator: u8, ntt: bool, line: Line, actor: PortState, out: &m
 }
 
 // The aggregator held in octet 4.
-pub fn aggregator_in(s: &[u8]) -> u8
+pub(crate) fn aggregator_in(s: &[u8]) -> u8
     requires { ⌜ length (now s) ≡ recordSize ⌝ }
     ensures { λ r. ⌜ r ≡ getD (now (s .entry)) 4 0 ⌝ }
 {
@@ -124,7 +124,7 @@ fn wide(n: u8) -> u16
 }
 
 // The timers in octets 9 to 13.
-pub fn timers_in(s: &[u8]) -> Timers
+pub(crate) fn timers_in(s: &[u8]) -> Timers
     requires { ⌜ length (now s) ≡ recordSize ⌝ }
     ensures { λ r. ⌜ r ≡ timersIn (now (s .entry)) ⌝ }
 {
@@ -147,7 +147,7 @@ fn write_ages(ages: Ages, out: &mut [u8])
 }
 
 // The ages in octets 14 to 16.
-pub fn ages_in(s: &[u8]) -> Ages
+pub(crate) fn ages_in(s: &[u8]) -> Ages
     requires { ⌜ length (now s) ≡ recordSize ⌝ }
     ensures { λ r. ⌜ r ≡ agesIn (now (s .entry)) ⌝ }
 {
@@ -205,7 +205,7 @@ pub fn write_record(p: Port, out: &mut [u8])
 }
 
 // The record that octets tell of.
-pub fn read_record(s: &[u8]) -> Port
+pub(crate) fn read_record(s: &[u8]) -> Port
     requires { ⌜ length (now s) ≡ recordSize ⌝ }
     ensures { λ r. ⌜ r ≡ decoded (now (s .entry)) ⌝ }
 {

@@ -74,7 +74,7 @@ module _ (ours : Header) (ps qs : List Port) (d : Port) (n : length ps ≡ lengt
     (same : (j : ℕ) → j < length ps → sharesGroup ours (map compared ps) i j ≡ sharesGroup ours (map compared qs) i j)
     (alike : (j : ℕ) → j < length ps → sharesGroup ours (map compared ps) i j ≡ true → getD ps j d ≡ getD qs j d) where
   -- the rule gives i the same in both
-  pub rule-depends : ruleOf ours (map compared ps) i ≡ ruleOf ours (map compared qs) i
+  rule-depends : ruleOf ours (map compared ps) i ≡ ruleOf ours (map compared qs) i
   rule-depends = rule-same ours (map compared ps) (map compared qs) i (λ j k. same j (omega arith))
 
   -- after steps 3 and 4 a port of i's group is the same in both, and another port does not hold its aggregator in either
@@ -122,7 +122,7 @@ module _ (ours : Header) (ps qs : List Port) (d : Port) (n : length ps ≡ lengt
       map-at compared ps j nobody d k ∙ ap (λ (p : Port). compared p) e ∙ sym (map-at compared qs j nobody d g)
 
   -- then the same ports share it in both
-  pub group-same : (j : ℕ) → j < length ps → sharesGroup ours (map compared ps) i j ≡ sharesGroup ours (map compared qs) i j
+  group-same : (j : ℕ) → j < length ps → sharesGroup ours (map compared ps) i j ≡ sharesGroup ours (map compared qs) i j
   group-same j k = by (sharesGroup ours (map compared ps) i j) (sharesGroup ours (map compared qs) i j) refl refl
     where
       agree : getD ps j d ≡ getD qs j d → sharesGroup ours (map compared ps) i j ≡ sharesGroup ours (map compared qs) i j

@@ -21,7 +21,7 @@ use Rattle.trunk.proofs.GroupLaws.{lowest-le}
 use Rattle.trunk.proofs.SettledLaws.{selected-at, settled-at, settled-length}
 
 -- the rule's aggregators are those of ports of the list
-pub rule-within : (ours : Header) (ps : List Port) (i : ℕ) → i < length ps
+rule-within : (ours : Header) (ps : List Port) (i : ℕ) → i < length ps
     → (1 ≤ ruleOf ours (map compared ps) i) × (ruleOf ours (map compared ps) i ≤ length ps)
 unfolding ruleOf
 rule-within ours ps i h =

@@ -50,13 +50,13 @@ together-is ours c d t =
     rw (t .first, t .second, eq-eqb (c .key) (d .key) (t .key), same-systems (c .system) (d .system) (t .system), eq-eqb (c .partnerKey) (d .partnerKey) (t .partnerKey))
 
 module _ (ours : Header) where
-  pub group-sym : (c d : Compared) → sameGroup ours c d ≡ true → sameGroup ours d c ≡ true
+  group-sym : (c d : Compared) → sameGroup ours c d ≡ true → sameGroup ours d c ≡ true
   group-sym c d e =
       let t = together ours c d e in
       together-is ours d c
       (record { first = t .second; second = t .first; key = sym (t .key); system = sym (t .system); partnerKey = sym (t .partnerKey) })
 
-  pub group-trans : (c d e : Compared) → sameGroup ours c d ≡ true → sameGroup ours d e ≡ true → sameGroup ours c e ≡ true
+  group-trans : (c d e : Compared) → sameGroup ours c d ≡ true → sameGroup ours d e ≡ true → sameGroup ours c e ≡ true
   group-trans c d e x y =
       let t = together ours c d x in
       let u = together ours d e y in
@@ -70,7 +70,7 @@ module _ (ours : Header) (cs : List Compared) where
   shares-refl i = rw (eq-eqb i i refl)
 
   -- two ports that join share a group
-  pub joins-shares : (i j : ℕ) → joins ours cs i j ≡ true → sharesGroup ours cs i j ≡ true
+  joins-shares : (i j : ℕ) → joins ours cs i j ≡ true → sharesGroup ours cs i j ≡ true
   unfolding sharesGroup
   joins-shares i j e = rw (e, or-true (eqb i j))
 
@@ -112,7 +112,7 @@ pub record First (f : ℕ → Bool) (j n r : ℕ) : Type 0 where
   pub passes : r < j + n → f r ≡ true
   pub none : (k : ℕ) → j ≤ k → k < r → f k ≡ false
 
-pub first-is : (f : ℕ → Bool) (j n : ℕ) → First f j n (firstFrom f j n)
+first-is : (f : ℕ → Bool) (j n : ℕ) → First f j n (firstFrom f j n)
 unfolding firstFrom
 first-is f j zero = record { above = omega arith; within = omega arith; passes = λ h. absurd (omega arith); none = λ k a b. absurd (omega arith) }
 first-is f j (suc n) = by (f j) refl (first-is f (j + 1) n)
@@ -131,7 +131,7 @@ first-is f j (suc n) = by (f j) refl (first-is f (j + 1) n)
         at k false q a b = let differ : j ≡ k → ⊥ = eqb-false j k q in t .none k (omega arith) b
 
 -- two tests that agree find the same
-pub first-same : (f g : ℕ → Bool) (j n : ℕ) → ((k : ℕ) → j ≤ k → k < j + n → f k ≡ g k) → firstFrom f j n ≡ firstFrom g j n
+first-same : (f g : ℕ → Bool) (j n : ℕ) → ((k : ℕ) → j ≤ k → k < j + n → f k ≡ g k) → firstFrom f j n ≡ firstFrom g j n
 unfolding firstFrom
 first-same f g j zero e = refl
 first-same f g j (suc n) e =
@@ -175,7 +175,7 @@ module _ (ours : Header) (cs : List Compared) where
       by false q = ltb-false k (lowest ours cs i) q
 
   -- a group has one
-  pub lowest-shared : (i j : ℕ) → sharesGroup ours cs i j ≡ true → lowest ours cs i ≡ lowest ours cs j
+  lowest-shared : (i j : ℕ) → sharesGroup ours cs i j ≡ true → lowest ours cs i ≡ lowest ours cs j
   lowest-shared i j e =
       let a = lowest ours cs i in
       let b = lowest ours cs j in
@@ -199,7 +199,7 @@ module _ (ours : Header) (cs : List Compared) where
 
 module _ (ours : Header) (cs ds : List Compared) (i : ℕ) where
   -- where the ports before i that share its group are the same, so is the lowest
-  pub lowest-same : ((j : ℕ) → j < i → sharesGroup ours cs i j ≡ sharesGroup ours ds i j) → lowest ours cs i ≡ lowest ours ds i
+  lowest-same : ((j : ℕ) → j < i → sharesGroup ours cs i j ≡ sharesGroup ours ds i j) → lowest ours cs i ≡ lowest ours ds i
   unfolding lowest
   lowest-same e = first-same (joins ours cs i) (joins ours ds i) 0 i (λ k a b. by k (omega arith))
     where
@@ -217,7 +217,7 @@ module _ (ours : Header) (cs ds : List Compared) (i : ℕ) where
   joins-same k a b = rw (a, b)
 
   -- where what is read of i, and of every port before it that joins it in one of the lists, is the same, so is the lowest
-  pub lowest-depends : getD cs i nobody ≡ getD ds i nobody → ((j : ℕ) → j ≤ i → joins ours cs i j ≡ true → getD cs j nobody ≡ getD ds j nobody)
+  lowest-depends : getD cs i nobody ≡ getD ds i nobody → ((j : ℕ) → j ≤ i → joins ours cs i j ≡ true → getD cs j nobody ≡ getD ds j nobody)
       → ((j : ℕ) → j ≤ i → joins ours ds i j ≡ true → getD cs j nobody ≡ getD ds j nobody) → lowest ours cs i ≡ lowest ours ds i
   unfolding lowest
   lowest-depends here left right = first-same (joins ours cs i) (joins ours ds i) 0 i (λ k a b. by k (omega arith) (joins ours cs i k) (joins ours ds i k) refl refl)

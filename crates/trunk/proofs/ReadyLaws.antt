@@ -69,7 +69,7 @@ or-parts true b e = absurd (true≢false e)
 or-parts false b e = (refl, e)
 
 -- where nobody holds an aggregator back, no member does
-pub none-holds : (k : ℕ) (ps : List Port) (i : ℕ) (d : Port) → i < length ps → heldBack k ps ≡ false → holdsBack k (getD ps i d) ≡ false
+none-holds : (k : ℕ) (ps : List Port) (i : ℕ) (d : Port) → i < length ps → heldBack k ps ≡ false → holdsBack k (getD ps i d) ≡ false
 unfolding heldBack
 none-holds k [] i d h e = absurd (omega arith)
 none-holds k (p ∷ ps) zero d h e = or-parts (holdsBack k p) (heldBack k ps) e .0
@@ -88,7 +88,7 @@ unfolding waitsFor
 waits-own p w = rw (eq-eqb (p .aggregator) (p .aggregator) refl, w)
 
 -- where no port changes whether it holds k back, nobody does for the list
-pub held-sweep : (k : ℕ) (f : ℕ → Port → Port) (i : ℕ) (ps : List Port) (d : Port)
+held-sweep : (k : ℕ) (f : ℕ → Port → Port) (i : ℕ) (ps : List Port) (d : Port)
     → ((j : ℕ) → j < length ps → holdsBack k (f (i + j) (getD ps j d)) ≡ holdsBack k (getD ps j d)) → heldBack k (mapFrom f i ps) ≡ heldBack k ps
 unfolding heldBack mapFrom
 held-sweep k f i [] d e = refl
@@ -129,7 +129,7 @@ module _ (ps : List Port) (d : Port) where
 
   module _ (chosen : (j : ℕ) → j < length ps → Chosen (getD ps j d)) where
     -- nor do the first i of them
-    pub held-meanwhile : (k i : ℕ) → heldBack k (doneTo (pointwise (attaching ps)) i ps) ≡ heldBack k ps
+    held-meanwhile : (k i : ℕ) → heldBack k (doneTo (pointwise (attaching ps)) i ps) ≡ heldBack k ps
     held-meanwhile k i = held-sweep k (below (pointwise (attaching ps)) i) 0 ps d (λ j h. by j h (ltb (0 + j) i))
       where
         by : (j : ℕ) → j < length ps → (b : Bool) → holdsBack k (cond b (attaching ps (getD ps j d)) (getD ps j d)) ≡ holdsBack k (getD ps j d)

@@ -103,7 +103,7 @@ unfolding holdsBack waitsFor
 cleared-holds k p = ap (λ (x : Port). holdsBack k x) (cleared-keeps p)
 
 -- one that holds an aggregator back goes on doing so
-pub muxed-back : (k : ℕ) (p : Port) → Chosen p → holdsBack k p ≡ true → holdsBack k (muxed p) ≡ true
+muxed-back : (k : ℕ) (p : Port) → Chosen p → holdsBack k p ≡ true → holdsBack k (muxed p) ≡ true
 muxed-back k p s e = ap (holdsBack k) (waiting-muxed p (holds-waits k p e) s) ∙ cleared-holds k p ∙ e
 
 -- one that is detached starts to
@@ -123,7 +123,7 @@ entered-holds : (p : Port) → holdsBack (p .aggregator) (muxEntered Waiting p) 
 unfolding holdsBack waitsFor
 entered-holds p = rw (eq-eqb (p .aggregator) (p .aggregator) refl)
 
-pub detached-back : (p : Port) → Chosen p → p .phase .mux ≡ Detached → holdsBack (p .aggregator) (muxed p) ≡ true
+detached-back : (p : Port) → Chosen p → p .phase .mux ≡ Detached → holdsBack (p .aggregator) (muxed p) ≡ true
 unfolding muxed
 detached-back p s e =
     ap (λ (x : Port). holdsBack (p .aggregator) (nttCleared x)) (detached-run p s e) ∙ cleared-holds (p .aggregator) (muxEntered Waiting p) ∙ entered-holds p
@@ -157,7 +157,7 @@ attached-waits Attached e = refl
 attached-waits Collecting e = refl
 attached-waits Distributing e = refl
 
-pub attached-muxed : (p : Port) → Chosen p → isAttached (p .phase .mux) ≡ true → waits (muxed p .phase .mux) ≡ false
+attached-muxed : (p : Port) → Chosen p → isAttached (p .phase .mux) ≡ true → waits (muxed p .phase .mux) ≡ false
 unfolding muxed muxRun
 attached-muxed p s e =
     let x = muxStep false p in

@@ -43,7 +43,7 @@ advanced-ages p = tick-ages p
 -- ---- a moved partner
 
 -- a port at rest is in PORT_DISABLED with its link down
-pub disabled-down : (l : Line) (s : Receive) → goesWith l s ≡ true → isDisabled s ≡ true → l .up ≡ false
+disabled-down : (l : Line) (s : Receive) → goesWith l s ≡ true → isDisabled s ≡ true → l .up ≡ false
 disabled-down l Initialize g e = absurd (false≢true e)
 disabled-down l PortDisabled g e = not-true (l .up) g
 disabled-down l Expired g e = absurd (false≢true e)
@@ -106,10 +106,10 @@ beside-resting p q e m r =
     })
     (calm-rests q (ap (λ (x : Port). calmPart (periodicPart x)) e ∙ rests-calm p (r .periodic)))
 
-pub reselected-resting : (k : ℕ) (p : Port) → Resting p → Resting (reselected k p)
+reselected-resting : (k : ℕ) (p : Port) → Resting p → Resting (reselected k p)
 reselected-resting k p r = beside-resting p (reselected k p) (reselected-beside k p) (reselected-agrees k p (standing p r .mux)) r
 
-pub attached-resting : (b : Bool) (p : Port) → Resting p → Resting (attachedIf b p)
+attached-resting : (b : Bool) (p : Port) → Resting p → Resting (attachedIf b p)
 attached-resting b p r = beside-resting p (attachedIf b p) (attached-beside b p) (attached-agrees b p (standing p r .mux)) r
 
 pub muxed-resting : (p : Port) → Resting p → Resting (muxed p)

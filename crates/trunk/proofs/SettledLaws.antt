@@ -39,7 +39,7 @@ stays-selected Unselected b e = absurd (true≢false e)
 stays-selected Selected b e = (refl, not-false b e)
 
 -- after steps 3 and 4 a port is SELECTED and holds aggregator k
-pub reselected-is : (k : ℕ) (p : Port) → Chosen (reselected k p) × (reselected k p .aggregator ≡ k)
+reselected-is : (k : ℕ) (p : Port) → Chosen (reselected k p) × (reselected k p .aggregator ≡ k)
 unfolding reselected mustMove Chosen
 reselected-is k p = by (mustMove k p) refl
   where
@@ -73,7 +73,7 @@ muxed-holds p = (
 
 -- ---- all ports
 
-pub attached-compares : (ps : List Port) → map compared (attachedAll ps) ≡ map compared ps
+attached-compares : (ps : List Port) → map compared (attachedAll ps) ≡ map compared ps
 unfolding attachedAll
 attached-compares ps =
     map-keeps compared (attaching ps) (λ p. attached-compared (ready (p .aggregator) ps) p) ps
@@ -89,7 +89,7 @@ attached-at ps i d h = map-at (attaching ps) ps i d d h
 
 module _ (ours : Header) (ps : List Port) where
   -- what the rule reads is kept by steps 3 and 4, and by all of them
-  pub selected-compares : map compared (selectedAll ours ps) ≡ map compared ps
+  selected-compares : map compared (selectedAll ours ps) ≡ map compared ps
   unfolding selectedAll
   selected-compares =
       sweep-keeps compared (selecting ours ps) (λ i p. reselected-compared (ruleOf ours (map compared ps) i) p) 0 ps
@@ -164,13 +164,13 @@ module _ (ours : Header) (ps : List Port) where
   -- ---- step 5 port by port, in the list that steps 3 and 4 leave
 
   -- while a port waits there, Ready of its aggregator is what it was before any port was attached
-  pub ready-selected : (i : ℕ) (d : Port) → i < length ps → waits (getD (selectedAll ours ps) i d .phase .mux) ≡ true
+  ready-selected : (i : ℕ) (d : Port) → i < length ps → waits (getD (selectedAll ours ps) i d .phase .mux) ≡ true
       → ready (getD (selectedAll ours ps) i d .aggregator) (doneTo (pointwise (attaching (selectedAll ours ps))) i (selectedAll ours ps))
       ≡ ready (getD (selectedAll ours ps) i d .aggregator) (selectedAll ours ps)
   ready-selected i d h w =
       ready-meanwhile (selectedAll ours ps) d (λ j k. selected-chosen j d (rw selected-length at k)) i (rw selected-length h) w
 
 -- so step 5 is a sweep
-pub attached-sweep : (ps : List Port) → mapFrom (pointwise (attaching ps)) 0 ps ≡ attachedAll ps
+attached-sweep : (ps : List Port) → mapFrom (pointwise (attaching ps)) 0 ps ≡ attachedAll ps
 unfolding attachedAll
 attached-sweep ps = sweep-map (attaching ps) 0 ps

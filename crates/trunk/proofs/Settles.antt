@@ -34,15 +34,15 @@ unfolding muxChoice
 cleared-chooses p = ap (λ (x : Port). muxChoice false x) (cleared-keeps p)
 
 -- where step 6 changes nothing, the mux machine stays and NTT is clear where it is to be
-pub muxed-stays : (p : Port) → Chosen p → muxed p ≡ p → muxChoice false p ≡ Stay
+muxed-stays : (p : Port) → Chosen p → muxed p ≡ p → muxChoice false p ≡ Stay
 unfolding muxed
 muxed-stays p s e = ap (muxChoice false) (sym e) ∙ cleared-chooses (muxRun p) ∙ rest-chooses (muxRun p) (chosen-rests p s)
 
-pub muxed-cleared : (p : Port) → muxed p ≡ p → nttCleared p ≡ p
+muxed-cleared : (p : Port) → muxed p ≡ p → nttCleared p ≡ p
 unfolding muxed
 muxed-cleared p e = ap nttCleared (sym e) ∙ cleared-twice (muxRun p) ∙ e
 
-pub muxed-is : (p : Port) → muxChoice false p ≡ Stay → nttCleared p ≡ p → muxed p ≡ p
+muxed-is : (p : Port) → muxChoice false p ≡ Stay → nttCleared p ≡ p → muxed p ≡ p
 unfolding muxed
 muxed-is p c q = ap nttCleared (mux-idle p (stays p c)) ∙ q
   where

@@ -45,7 +45,7 @@ unfolding ready
 ready-is k ps e = rw e
 
 -- a port that waits has a waiting port, itself; one that does not is left alone either way
-pub attach-ready : (ps : List Port) (i : ℕ) (d : Port) → i < length ps
+attach-ready : (ps : List Port) (i : ℕ) (d : Port) → i < length ps
     → attachedIf (not (heldBack (getD ps i d .aggregator) ps)) (getD ps i d) ≡ attaching ps (getD ps i d)
 attach-ready ps i d h = by (waits (getD ps i d .phase .mux)) refl
   where

@@ -27,7 +27,7 @@ unfoldable pub worked : Header → List Port → List Port
 worked h ps = settled h (map periodicRun ps)
 
 -- the same of a table whose ports have become these
-abbrev pub working : List Port → State → State
+abbrev working : List Port → State → State
 working ps s = withPorts (worked (s .common) ps) s
 
 -- port i becomes q, and everything settles
