@@ -5,9 +5,8 @@ use mathlib.Core.Path.{_≡_, refl, sym, ap, _∙_, subst}
 use mathlib.Core.Bool.{Bool, true, false, cond, _&&_, _||_, true≢false}
 use mathlib.Core.List.{List, [], _∷_, _++_}
 use lib.ListN.{length}
-use lib.Dec.{eqb, ltb}
-use Rattle.octets.specs.Octets.{Octets, within}
-use Rattle.octets.proofs.RangeLaws.{both, within-true}
+use lib.Dec.{ltb}
+use Rattle.octets.specs.Octets.{Octets}
 use Rattle.frame.specs.declared.class.Class.{Class}
 use Rattle.frame.specs.declared.class.Class.the-variants as class
 use Rattle.frame.specs.Class.{classOf, frameSize}
@@ -21,7 +20,6 @@ use Rattle.frame.specs.declared.block.SystemId.{SystemId}
 use Rattle.frame.specs.declared.wire.TensOfMicroseconds.{TensOfMicroseconds}
 use Rattle.settings.specs.declared.Settings.{Settings}
 use Rattle.settings.specs.Settings.{lawful}
-use Rattle.table.specs.Layout.{mostPorts, tableSize}
 use Rattle.table.proofs.FillLaws.{room-is}
 use Rattle.table.specs.Table.{isRoom, tableInRange, portAt, onOctets}
 use Rattle.control.specs.declared.answer.Answer.{Answer}

@@ -2,7 +2,7 @@
 -- group alone, whose records are as they were, and those were at rest. Assumes nothing.
 use Prim.Native.Nat.{ℕ, _+_, _-_, _<_}
 use mathlib.Core.Path.{_≡_, refl, sym, ap, _∙_}
-use mathlib.Core.Bool.{_&&_, Bool, true, false, cond, _||_, true≢false}
+use mathlib.Core.Bool.{_&&_, Bool, true, false, _||_, true≢false}
 use mathlib.Core.List.{List, [], map}
 use native.Mathlib.Omega.{arith}
 use lib.ListN.{length, getD, set, length-map, length-set}

@@ -1,12 +1,17 @@
-// What every port does in turn, the first port first. A further step for each port is one more variant, one more arm and one more line
-// of `stepped`.
+// What every port does in turn, the first port first. A further step for each port is one more variant, a function with its arm, and one
+// more line of `stepped`.
 ghost use mathlib.Core.Path.{_≡_};
 ghost use mathlib.Core.Bool.{true};
+ghost use Rattle.port.specs.Mux.{muxRun};
+ghost use Rattle.port.specs.Periodic.{periodicRun};
+ghost use Rattle.port.specs.Transmit.{advanced};
 ghost use Rattle.table.specs.Table.{tableInRange, InTable, ports, portAt};
+ghost use Rattle.trunk.specs.Settled.{muxed};
 ghost use Rattle.trunk.specs.Sweep.{stepped, swept};
 ghost use Rattle.table.specs.Leaves.{Leaves, Became};
 use crate::displace::displace_one;
 use frame::block::Block;
+use port::record::Port;
 
 pub enum Step {
     // Steps 1 and 2 of a tick: timers fall, sends grow older, and the receive machine runs.
@@ -19,6 +24,44 @@ pub enum Step {
     Displaced(usize, Block),
 }
 
+// Each step has a function of its own, so that the records of one lie in the stack where those of another do.
+
+// Timers, ages and the receive machine of port i.
+fn tick_one(table: &mut [u8], i: usize)
+    requires { ⌜ InTable (now table) i ⌝ }
+    ensures { λ _. ⌜ Became (now (table .entry)) (now (table .exit)) i (advanced (portAt (now (table .entry)) i)) ⌝ }
+{
+    let p = table::load(table, i);
+    table::store(table, i, p.tick().receive());
+}
+
+// The periodic machine of port i.
+fn periodic_one(table: &mut [u8], i: usize)
+    requires { ⌜ InTable (now table) i ⌝ }
+    ensures { λ _. ⌜ Became (now (table .entry)) (now (table .exit)) i (periodicRun (portAt (now (table .entry)) i)) ⌝ }
+{
+    let p = table::load(table, i);
+    table::store(table, i, p.periodic());
+}
+
+// What the mux machine makes of port i.
+fn after_mux(table: &[u8], i: usize) -> Port
+    requires { ⌜ InTable (now table) i ⌝ }
+    ensures { λ r. ⌜ r ≡ muxRun (portAt (now (table .entry)) i) ⌝ }
+{
+    let p = table::load(table, i);
+    p.mux()
+}
+
+// The mux machine of port i, and its NTT.
+fn mux_one(table: &mut [u8], i: usize)
+    requires { ⌜ InTable (now table) i ⌝ }
+    ensures { λ _. ⌜ Became (now (table .entry)) (now (table .exit)) i (muxed (portAt (now (table .entry)) i)) ⌝ }
+{
+    let p = after_mux(table, i);
+    table::store(table, i, p.clear_ntt());
+}
+
 // The step of port i.
 fn step_one(table: &mut [u8], i: usize, step: Step)
     requires { ⌜ InTable (now table) i ⌝ }
@@ -26,16 +69,13 @@ fn step_one(table: &mut [u8], i: usize, step: Step)
 {
     match step {
         Step::Tick => {
-            let p = table::load(table, i);
-            table::store(table, i, p.tick().receive());
+            tick_one(table, i);
         }
         Step::Periodic => {
-            let p = table::load(table, i);
-            table::store(table, i, p.periodic());
+            periodic_one(table, i);
         }
         Step::Mux => {
-            let p = table::load(table, i);
-            table::store(table, i, p.mux().clear_ntt());
+            mux_one(table, i);
         }
         Step::Displaced(r, a) => {
             displace_one(table, i, r, a);
