@@ -275,8 +275,8 @@ MUTANTS = [
     Mutant("4 at rest", "one step of the mux", ("at-rest",), "", (
         ("port/specs/Mux.antt", "muxRun p = muxStep false (muxStep false p)", "muxRun p = muxStep false p"),)),
     Mutant("5 read-back", "the two blocks exchanged", ("read-back",), "work::write_due", (
-        ("work/specs/Work.antt", "lacpduOf t i = lacpdu (portAt t i .own .address) (actorBlock (ours t .system) (i + 1) (portAt t i)) (portAt t i .partner) (ours t .delay)",
-         "lacpduOf t i = lacpdu (portAt t i .own .address) (portAt t i .partner) (actorBlock (ours t .system) (i + 1) (portAt t i)) (ours t .delay)"),
+        ("work/specs/Work.antt", "lacpduOf s i = lacpdu (portOf s i .own .address) (actorBlock (s .common .system) (i + 1) (portOf s i)) (portOf s i .partner) (s .common .delay)",
+         "lacpduOf s i = lacpdu (portOf s i .own .address) (portOf s i .partner) (actorBlock (s .common .system) (i + 1) (portOf s i)) (s .common .delay)"),
         ("work/src/lib.rt", "frame::wire::write_lacpdu(out, address, actor, partner, delay);", "frame::wire::write_lacpdu(out, address, partner, actor, delay);"))),
     Mutant("6 the live partner", "EXPIRED that records the default block", ("live-though-silent",), "port::record::Port::expire", (
         ("port/specs/Receive.antt", "expired p =\n    withReceive (expiredBit (withCurrent (withPartnerState p (withTimeout (withSynchronization (p .partner .state) false) true)) shortTimeoutTime) true) Expired",
@@ -307,7 +307,7 @@ MUTANTS = [
     Mutant("7 reports", "COLLECTING counted as distributing", ("narrowed-true",), "report::stands_to", (
         ("report/specs/Sets.antt", "stands Distributes k p = eqb (p .aggregator) k && distributes (p .phase .mux)",
          "stands Distributes k p = eqb (p .aggregator) k && Rattle.machine.specs.Mux.collects (p .phase .mux)"),
-        ("report/src/lib.rt", "Standing::Distributes => (held == k) & m.distributes()", "Standing::Distributes => (held == k) & m.collects()"),
+        ("report/src/lib.rt", "Role::Distributes => (held == k) & m.distributes()", "Role::Distributes => (held == k) & m.collects()"),
         ("report/proofs/stands_to/Proof.antt", "distributes-requires : tie.Need-distributes-requires\ndistributes-requires c",
          "collects-requires : tie.Need-collects-requires\ncollects-requires c"),
         ("report/proofs/stands_to/Proof.antt", "c .distributes .ensures", "c .collects .ensures"),
