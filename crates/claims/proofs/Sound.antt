@@ -19,7 +19,7 @@ use Rattle.port.specs.Periodic.{periodicRun}
 use Rattle.port.specs.Transmit.{sent, advanced}
 use Rattle.port.specs.Rest.{Resting}
 use Rattle.port.proofs.RestParts.{Standing, standing, periodic-standing}
-use Rattle.port.proofs.RestKept.{received-standing, lined-standing, sent-resting}
+use Rattle.port.proofs.RestKept.{received-standing, lined-standing, sent-resting, advanced-standing}
 use Rattle.port.specs.Range.{portsInRange, ownFits}
 use Rattle.port.proofs.RangeLaws.{received-ranged, lined-ranged, sent-ranged, advanced-ranged}
 use Rattle.settings.specs.declared.Settings.{Settings}
@@ -39,7 +39,7 @@ use Rattle.trunk.specs.Displaced.{displacedIf, displaced}
 use Rattle.trunk.proofs.EachLaws.{Fits, settled-fits}
 use Rattle.trunk.proofs.SettledLaws.{settled-length}
 use Rattle.trunk.proofs.RestLaws.{settled-twice}
-use Rattle.trunk.proofs.RestingLaws.{advanced-standing, displaced-standing, settled-resting}
+use Rattle.trunk.proofs.RestingLaws.{displaced-standing, settled-resting}
 use Rattle.trunk.proofs.RangeKept.{displaced-ranged}
 use Rattle.work.specs.Work.{worked, afterOne, afterStart, receivedAt, afterReceived, afterTick, afterLine, afterSettings, afterSend}
 use Rattle.settings.proofs.RangeLaws.{configured-ranged, started-ranged}

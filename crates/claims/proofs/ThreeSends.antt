@@ -28,7 +28,7 @@ use Rattle.port.specs.declared.record.Port.{Port}
 use Rattle.port.specs.declared.transmit.Due.the-variants as due
 use Rattle.port.specs.Receive.{moved, lined}
 use Rattle.port.specs.Transmit.{due as dueOf, sent, advanced}
-use Rattle.port.proofs.RestKept.{received-ages, moved-ages, lined-ages}
+use Rattle.port.proofs.RestKept.{received-ages, moved-ages, lined-ages, advanced-ages}
 use Rattle.port.specs.Range.{ownFits}
 use Rattle.settings.specs.declared.Settings.{Settings}
 use Rattle.settings.specs.Settings.{configured, sameSettings, ownOf, blank, started}
@@ -39,7 +39,6 @@ use Rattle.table.specs.Record.{decoded}
 use Rattle.table.specs.Table.{tableInRange, countIn, portAt, ports, ours, again, onOctets, octetsOf, stateOf}
 use Rattle.table.proofs.StoreLaws.{ports-length, ports-at}
 use Rattle.trunk.specs.Displaced.{isDisplaced, displacedIf, displaced}
-use Rattle.trunk.proofs.RestingLaws.{advanced-ages}
 use Rattle.work.specs.Work.{worked, afterOne, afterStart, receivedAt, afterReceived, afterTick, afterLine, afterSettings, afterSend}
 use Rattle.control.specs.declared.answer.Answer.{Answer}
 use Rattle.control.specs.declared.answer.Answer.the-variants.{Done, Lacpdu, Marker, Refused}

@@ -17,14 +17,14 @@ use Rattle.machine.specs.declared.receive.ReceiveStep.{ReceiveStep}
 use Rattle.machine.specs.declared.receive.ReceiveStep.the-variants.{Stay, Enter}
 use Rattle.machine.specs.Ages.{agesTicked}
 use Rattle.machine.specs.Compare.{sameParty, sameView}
-use Rattle.machine.specs.Receive.{receiveNext}
+use Rattle.machine.specs.Receive.{isDisabled, receiveNext}
 use Rattle.machine.specs.Time.{slowPeriodicTime, ranOut, timeoutTime}
 use Rattle.port.specs.declared.record.Port.{Port}
 use Rattle.port.specs.Record.{withLine, withNtt, actorBlock}
 use Rattle.port.specs.Receive.{recordDefault, recordPdu, updateSelected, updateDefaultSelected, updateNtt, unselected, initialized, portDisabled, expired, lacpDisabled, defaulted, pduRecorded, current, receiveEntered, receiveTaken, receiveChoice, receiveStep, receiveRun, moved, received, down, lined}
 use Rattle.port.specs.Rest.{goesWith, Resting}
 use Rattle.port.specs.Timing.{Timed, usesPeriodic, CurrentTimed}
-use Rattle.port.specs.Transmit.{sent, ticked}
+use Rattle.port.specs.Transmit.{sent, ticked, advanced}
 use Rattle.port.proofs.TimerLaws.{disabled-timed, expired-timed, off-timed, defaulted-timed, current-timed, ticked-timed}
 use Rattle.port.proofs.RestParts.{receivePart, MuxPart, muxPart, ReceiveRests, MuxAgrees, Standing, resting-is, standing, calm-rests, rests-calm}
 
@@ -209,8 +209,9 @@ ticked-steady p c s =
     let t = ticked-timed p (c, s .timed, s .mux .timed) in
     (record { says = s .mux .says; timed = t .2 }, t .1)
 
-pub tick-standing : (p : Port) → Standing p → Standing (receiveRun (ticked p))
-tick-standing p s =
+pub advanced-standing : (p : Port) → Standing p → Standing (advanced p)
+unfolding advanced
+advanced-standing p s =
     run-standing (ticked p) (ticked-steady p (s .receive .timed) s) (ticked-leads p (s .receive)) (ticked-timed p (s .receive .timed, s .timed, s .mux .timed) .0)
 
 -- ---- an accepted LACPDU
@@ -288,7 +289,16 @@ both-up : (up other : Bool) → up && other ≡ true → up ≡ false → ⊥
 both-up true other e u = true≢false u
 both-up false other e u = false≢true e
 
--- a port at rest with its link down is in PORT_DISABLED
+-- a port at rest is in PORT_DISABLED with its link down
+pub disabled-down : (l : Line) (s : Receive) → goesWith l s ≡ true → isDisabled s ≡ true → l .up ≡ false
+disabled-down l Initialize g e = absurd (false≢true e)
+disabled-down l PortDisabled g e = not-true (l .up) g
+disabled-down l Expired g e = absurd (false≢true e)
+disabled-down l LacpDisabled g e = absurd (false≢true e)
+disabled-down l Defaulted g e = absurd (false≢true e)
+disabled-down l Current g e = absurd (false≢true e)
+
+-- and with its link down it is in PORT_DISABLED
 down-disabled : (l : Line) (s : Receive) → goesWith l s ≡ true → l .up ≡ false → s ≡ PortDisabled
 down-disabled l Initialize g u = absurd (false≢true g)
 down-disabled l PortDisabled g u = refl
@@ -372,8 +382,9 @@ ticked-ages : (p : Port) → ticked p .ages ≡ agesTicked (p .ages)
 unfolding ticked
 ticked-ages p = refl
 
-pub tick-ages : (p : Port) → receiveRun (ticked p) .ages ≡ agesTicked (p .ages)
-tick-ages p = aside-ages (ticked p) (receiveRun (ticked p)) (run-aside (ticked p)) ∙ ticked-ages p
+pub advanced-ages : (p : Port) → advanced p .ages ≡ agesTicked (p .ages)
+unfolding advanced
+advanced-ages p = aside-ages (ticked p) (receiveRun (ticked p)) (run-aside (ticked p)) ∙ ticked-ages p
 
 pub received-ages : (system : SystemId) (n : ℕ) (a b : Block) (p : Port) → received system n a b p .ages ≡ p .ages
 unfolding received

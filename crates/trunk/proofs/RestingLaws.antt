@@ -1,55 +1,30 @@
 -- What a tick, a moved partner and steps 3 to 6 do to one port keeps its rest. Assumes nothing.
 use Prim.Native.Nat.{ℕ}
 use mathlib.Core.Path.{_≡_, refl, sym, ap, _∙_, subst}
-use mathlib.Core.Bool.{Bool, true, false, cond, not, _&&_, false≢true}
+use mathlib.Core.Bool.{Bool, true, false, cond, not, _&&_}
 use mathlib.Core.List.{List}
 use lib.Dec.{eqb}
-use borrow.Author.Tests.{not-true}
 use Rattle.octets.specs.Lists.{Each}
 use Rattle.frame.specs.declared.block.Block.{Block}
-use Rattle.machine.specs.declared.states.Line.{Line}
-use Rattle.machine.specs.declared.states.Receive.{Receive}
-use Rattle.machine.specs.declared.states.Receive.the-variants.{Initialize, PortDisabled, Expired, LacpDisabled, Defaulted, Current}
 use Rattle.machine.specs.declared.states.Selection.the-variants.{Unselected, Selected}
-use Rattle.machine.specs.Ages.{agesTicked}
 use Rattle.machine.specs.Mux.{waits}
 use Rattle.port.specs.declared.record.Port.{Port}
 use Rattle.port.specs.Record.{withAggregator, withSelected}
 use Rattle.port.specs.Mux.{muxStep, muxRun, detached, placed, attachedIf}
 use Rattle.port.specs.Receive.{moved}
-use Rattle.port.specs.Rest.{goesWith, Resting}
+use Rattle.port.specs.Rest.{Resting}
 use Rattle.port.proofs.TransmitLaws.{cleared-keeps}
 use Rattle.port.proofs.RestParts.{receivePart, periodicPart, muxPart, ReceiveRests, PeriodicPartTimed, MuxAgrees, calmPart, Standing, resting-is, standing, calm-rests, rests-calm, step-agrees}
-use Rattle.port.proofs.RestKept.{tick-standing, moved-standing, tick-ages}
+use Rattle.port.proofs.RestKept.{moved-standing, disabled-down}
 use Rattle.octets.proofs.RangeLaws.{both}
 use Rattle.table.specs.declared.layout.Header.{Header}
-use Rattle.port.specs.Transmit.{advanced}
 use Rattle.machine.specs.Receive.{isDisabled}
 use Rattle.trunk.specs.Displaced.{isDisplaced, displacedIf}
 use Rattle.trunk.specs.Settled.{mustMove, reselected, muxed, settled}
 use Rattle.trunk.proofs.EachLaws.{each-settled}
 use Rattle.trunk.proofs.BesideLaws.{besideSettled, reselected-beside, attached-beside, muxed-beside}
 
--- ---- a tick
-
-pub advanced-standing : (p : Port) → Standing p → Standing (advanced p)
-unfolding advanced
-advanced-standing p s = tick-standing p s
-
-pub advanced-ages : (p : Port) → advanced p .ages ≡ agesTicked (p .ages)
-unfolding advanced
-advanced-ages p = tick-ages p
-
 -- ---- a moved partner
-
--- a port at rest is in PORT_DISABLED with its link down
-disabled-down : (l : Line) (s : Receive) → goesWith l s ≡ true → isDisabled s ≡ true → l .up ≡ false
-disabled-down l Initialize g e = absurd (false≢true e)
-disabled-down l PortDisabled g e = not-true (l .up) g
-disabled-down l Expired g e = absurd (false≢true e)
-disabled-down l LacpDisabled g e = absurd (false≢true e)
-disabled-down l Defaulted g e = absurd (false≢true e)
-disabled-down l Current g e = absurd (false≢true e)
 
 -- a port that is displaced has its link down
 pub displaced-standing : (r : ℕ) (a : Block) (i : ℕ) (p : Port) → Standing p → Standing (displacedIf r a i p)
