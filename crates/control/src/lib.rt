@@ -133,12 +133,16 @@ pub fn fetch(table: &mut [u8], n: u32, out: &mut [u8]) -> Answer
     }
 }
 
+// Mostly nothing is due because NTT is clear, which is seen without the rest of the record.
 fn fetch_at(table: &mut [u8], i: usize, out: &mut [u8]) -> Answer
     requires { ⌜ InTable (now table) i ⌝ }
     ensures { λ r. ⌜ MeetsFetch (now (table .entry)) i (now (out .entry)) r (now (table .exit)) (now (out .exit)) ⌝ }
 {
     if out.len() < FRAME {
         return Answer::Refused(Reason::Buffer);
+    }
+    if !table::ntt(table, i) {
+        return Answer::Refused(Reason::NothingToSend);
     }
     let p = table::load(table, i);
     match p.due() {

@@ -19,6 +19,7 @@ use crate::layout::write_header;
 use crate::range::is_record;
 use crate::range::within;
 use crate::record::aggregator_in;
+use crate::record::ntt_in;
 use crate::record::phase_in;
 use crate::record::read_record;
 use crate::record::timers_in;
@@ -71,6 +72,14 @@ pub fn aggregator(table: &[u8], i: usize) -> u8
     ensures { λ r. ⌜ r ≡ portAt (now (table .entry)) i .aggregator ⌝ }
 {
     aggregator_in(record_at(table, i))
+}
+
+// NTT of port `i`, from 0.
+pub fn ntt(table: &[u8], i: usize) -> bool
+    requires { ⌜ InTable (now table) i ⌝ }
+    ensures { λ r. ⌜ r ≡ portAt (now (table .entry)) i .ntt ⌝ }
+{
+    ntt_in(record_at(table, i))
 }
 
 // The timers of port `i`, from 0.

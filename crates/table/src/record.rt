@@ -3,6 +3,7 @@ ghost use mathlib.Core.Path.{_≡_};
 ghost use lib.ListN.{length, getD};
 ghost use Rattle.octets.specs.Octets.{putAt};
 ghost use Rattle.port.specs.Absent.{noPort};
+ghost use Rattle.table.specs.Codes.{flagOf};
 ghost use Rattle.table.specs.Layout.{recordSize};
 ghost use Rattle.table.specs.Record.{phaseOctets, phaseIn, statusOctets, lineIn, timersOctets, timersIn, agesOctets, agesIn, ownOctets, ownIn, encoded, decoded};
 use crate::codes::flag_octet;
@@ -85,6 +86,14 @@ pub(crate) fn aggregator_in(s: &[u8]) -> u8
     ensures { λ r. ⌜ r ≡ getD (now (s .entry)) 4 0 ⌝ }
 {
     s[4]
+}
+
+// NTT in octet 5.
+pub(crate) fn ntt_in(s: &[u8]) -> bool
+    requires { ⌜ length (now s) ≡ recordSize ⌝ }
+    ensures { λ r. ⌜ r ≡ flagOf (getD (now (s .entry)) 5 0) ⌝ }
+{
+    flag_of(s[5])
 }
 
 // Link and duplex in octets 6 and 7.
