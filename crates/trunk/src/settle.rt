@@ -10,8 +10,9 @@ use crate::select::select_all;
 use crate::sweep::Step;
 use crate::sweep::sweep;
 
-// Steps 3 to 5 for all ports, by themselves, so that the frame that they need, which is large, is gone before step 6.
-fn join_all(table: &mut [u8])
+// Steps 3 to 5 for all ports. A start calls it too, beside `settle`: with two callers it keeps a frame of its own, which is large, and gone
+// before step 6.
+pub fn join_all(table: &mut [u8])
     requires { ⌜ tableInRange (now table) ≡ true ⌝ }
     ensures { λ _. ⌜ Leaves (now (table .entry)) (now (table .exit)) (attachedAll (selectedAll (headerOf (now (table .entry))) (ports (now (table .entry))))) ⌝ }
 {

@@ -140,11 +140,12 @@ pub fn respond(p: Port, frame: &[u8], out: &mut [u8])
     frame::wire::write_response(out, address, frame);
 }
 
-// A table of memory with any content: every port begins alike, and steps 3 to 6.
+// A table of memory with any content: every port begins alike, and steps 3 to 5, and 6.
 pub fn begin(table: &mut [u8], header: Header, settings: Settings)
     requires { ⌜ isRoom (now table) (header .count) ≡ true ⌝ }
     ensures { λ _. ⌜ now (table .exit) ≡ octetsOf (afterStart header settings) ⌝ }
 {
     table::fill(table, header, settings.start());
-    trunk::settle::settle(table);
+    trunk::settle::join_all(table);
+    sweep(table, Step::Mux);
 }
