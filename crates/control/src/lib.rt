@@ -9,8 +9,8 @@ use crate::answer::AggregatorReport;
 use crate::answer::Answer;
 use crate::answer::PortReport;
 use crate::answer::Reason;
-use crate::constants::no_sets;
 use crate::checks::Found;
+use crate::constants::no_sets;
 use frame::block::SystemId;
 use frame::class::FRAME;
 use frame::wire::TensOfMicroseconds;
@@ -20,8 +20,8 @@ use settings::Settings;
 use table::layout::Header;
 
 pub mod answer;
-mod constants;
 mod checks;
+mod constants;
 
 // Starts a table of `count` ports in memory of any content; every port begins with these settings.
 pub fn start(

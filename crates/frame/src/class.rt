@@ -38,6 +38,7 @@ pub enum Class {
 pub const FRAME: usize = 124;
 // The type of the Slow Protocols.
 pub(crate) const SLOW_TYPE: u16 = 0x8809;
+
 pub(crate) const DESTINATION: [u8; 6] = [0x01, 0x80, 0xc2, 0x00, 0x00, 0x02];
 
 // R5.1: too short for a header, or sent to somebody else.

@@ -119,7 +119,11 @@ pub extern "C" fn myrkosti_settings(
 
 // The record of a port, as it lies in the table; zeros beside a refusal.
 #[no_mangle]
-pub extern "C" fn myrkosti_port(table: &[u8], port: u32, record: &mut [u8; table::layout::RECORD]) -> u32
+pub extern "C" fn myrkosti_port(
+    table: &[u8],
+    port: u32,
+    record: &mut [u8; table::layout::RECORD],
+) -> u32
     ensures { λ r. ⌜ MeetsPort port (now (table .entry)) r (now («record» .exit)) ⌝ }
 {
     let r = control::report_port(table, port);

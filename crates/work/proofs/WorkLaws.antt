@@ -31,7 +31,6 @@ use Rattle.trunk.proofs.SettledLaws.{settled-length}
 use Rattle.port.proofs.RangeLaws.{periodic-ranged}
 use Rattle.work.specs.Work.{worked}
 
-
 -- a port of a table in range is one of the most that there are
 pub below-most : (t : List ℕ) → tableInRange t ≡ true → (i : ℕ) → i < countIn t → i < mostPorts
 below-most t e i h = let most : countIn t ≤ mostPorts = in-range t e .most in omega arith
