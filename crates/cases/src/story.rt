@@ -96,12 +96,12 @@ fn settle(p: Port) -> Port {
     let h = q.phase;
     let selected = h.selected;
     match selected {
-        Selection::Unselected => climb(q.detach().place(1)),
-        Selection::Selected => climb(q),
+        Selection::Unselected => last_steps(q.detach().place(1)),
+        Selection::Selected => last_steps(q),
     }
 }
 
-fn climb(p: Port) -> Port {
+fn last_steps(p: Port) -> Port {
     p.attach(p.timers.wait.0 == 0).mux().clear_ntt()
 }
 
