@@ -15,10 +15,10 @@ use Rattle.table.specs.Table.{portAt, ports, ours}
 use Rattle.trunk.specs.Selection.{individual}
 use Rattle.trunk.proofs.SelectLaws.{joins-at}
 use Rattle.trunk.proofs.GroupLaws.{Together, together, shares-other}
-use Rattle.claims.specs.Lag.{isIndividual, lagOf, lagAt, anyPort}
+use Rattle.claims.specs.Lag.{individualLink, lagOf, lagAt, anyPort}
 use Rattle.claims.specs.Claims.{GroupHasLag}
 
-aggregatable : (s : Header) (p : Port) → individual s (compared p) ≡ false → isIndividual p ≡ false
+aggregatable : (s : Header) (p : Port) → individual s (compared p) ≡ false → individualLink p ≡ false
 unfolding individual
 aggregatable s p e = by (p .actor .aggregation) (p .partner .state .aggregation) e
   where
@@ -33,8 +33,8 @@ same-lag s m n p q g =
     let y : PortId = record { priority = q .own .priority; number = n } in
     let f = aggregatable s p (g .first) in
     let h = aggregatable s q (g .second) in
-    let one : cond (isIndividual p) x anyPort ≡ cond (isIndividual q) y anyPort = rw (f, h) in
-    let two : cond (isIndividual p) (p .partner .port) anyPort ≡ cond (isIndividual q) (q .partner .port) anyPort = rw (f, h) in
+    let one : cond (individualLink p) x anyPort ≡ cond (individualLink q) y anyPort = rw (f, h) in
+    let two : cond (individualLink p) (p .partner .port) anyPort ≡ cond (individualLink q) (q .partner .port) anyPort = rw (f, h) in
     λ i. record {
       system = s .system;
       key = g .key i;

@@ -16,8 +16,8 @@ pub record LagId : Type 0 where
   pub partnerPort : PortId
 
 -- an Individual link: one end or the other may not aggregate (43.3.5). R10.1 has one kind more, a partner that is our own system.
-abbrev pub isIndividual : Port → Bool
-isIndividual p = not (p .actor .aggregation) || not (p .partner .state .aggregation)
+abbrev pub individualLink : Port → Bool
+individualLink p = not (p .actor .aggregation) || not (p .partner .state .aggregation)
 
 -- a port that may aggregate is not told apart by its number
 abbrev pub anyPort : PortId
@@ -28,10 +28,10 @@ abbrev pub lagOf : SystemId → ℕ → Port → LagId
 lagOf s number p = record {
   system = s;
   key = p .own .key;
-  port = cond (isIndividual p) (record { priority = p .own .priority; number = number }) anyPort;
+  port = cond (individualLink p) (record { priority = p .own .priority; number = number }) anyPort;
   partnerSystem = p .partner .system;
   partnerKey = p .partner .key;
-  partnerPort = cond (isIndividual p) (p .partner .port) anyPort;
+  partnerPort = cond (individualLink p) (p .partner .port) anyPort;
 }
 
 -- ports are counted from 0 here
