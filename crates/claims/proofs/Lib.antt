@@ -10,5 +10,6 @@ pub mod Recent
 pub mod ThreeSends
 pub mod LineCall
 pub mod Reports
+pub mod Carries
 pub mod ReadBack
 pub mod Witness

@@ -7,6 +7,7 @@ pub mod LivePartner
 pub mod ThreeSends
 pub mod LineCall
 pub mod Reports
+pub mod Carries
 pub mod ReadBack
 pub mod Speakers
 pub mod Witness
