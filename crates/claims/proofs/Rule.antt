@@ -25,7 +25,7 @@ use Rattle.port.proofs.RestKept.{stays-idle}
 use Rattle.table.specs.Record.{decoded}
 use Rattle.table.specs.Table.{countIn, portAt, ports, ours}
 use Rattle.table.proofs.StoreLaws.{ports-at}
-use Rattle.trunk.specs.Selection.{ruleOf}
+use Rattle.trunk.specs.Selection.{ruleOf, sharesGroup}
 use Rattle.trunk.specs.Ready.{ready}
 use Rattle.trunk.specs.Settled.{settled, Chosen}
 use Rattle.trunk.proofs.GroupLaws.{together, rule-apart}
@@ -35,6 +35,7 @@ use Rattle.claims.specs.AtRest.{Sound}
 use Rattle.claims.specs.Claims.{Ruled, RuleAfresh, DistributingEarned, BitsTrue, StaysAtRest}
 use Rattle.claims.proofs.Sound.{in-ports, port-resting}
 use Rattle.claims.proofs.Calls.{never-stuck}
+use Rattle.claims.proofs.Lag.{group-has-lag}
 
 -- ---- the rule
 
@@ -91,8 +92,14 @@ distributing-earned t m i h d =
       up = is-up (portAt t i .line .up) (portAt t i .partner .state .synchronization) (port-resting t s i h .unheard) (e .0);
       synchronization = e .0;
       collecting = e .1;
-      group = λ j k a x. rule-apart (ours t) (map compared (ports t)) i j (sym (f .rule) ∙ sym x ∙ port-firm t s j k .rule);
+      group = λ j k a x. shares j k x;
+      lag = λ j k a x. group-has-lag t i j h k (shares j k x);
     }
+  where
+    shares : (j : ℕ) → j < countIn t → portAt t j .aggregator ≡ portAt t i .aggregator → sharesGroup (ours t) (map compared (ports t)) i j ≡ true
+    shares j k x =
+        let s = never-stuck t m in
+        rule-apart (ours t) (map compared (ports t)) i j (sym (port-firm t s i h .rule) ∙ sym x ∙ port-firm t s j k .rule)
 
 pub bits-true : BitsTrue
 bits-true t m i h = port-resting t (never-stuck t m) i h .says

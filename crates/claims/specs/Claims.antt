@@ -4,6 +4,7 @@ use mathlib.Core.Path.{_≡_}
 use mathlib.Core.Bool.{Bool, true, false}
 use mathlib.Core.List.{List, map}
 use mathlib.Core.Logic.{_≢_}
+use Rattle.machine.specs.Compare.{sameSystem}
 use Rattle.machine.specs.Mux.{isAttached, distributes}
 use Rattle.port.specs.Compared.{compared}
 use Rattle.port.specs.Receive.{receiveRun}
@@ -55,14 +56,15 @@ pub record Ruled (t : List ℕ) (i : ℕ) : Type 0 where
 abbrev pub RuleAfresh : Type 0
 RuleAfresh = (t : List ℕ) → Made t → (i : ℕ) → i < countIn t → Ruled t i
 
--- 2: a port distributes only with its link up and its partner in sync and collecting, and shares its group with every port that is
--- attached to its aggregator
+-- 2: a port distributes only with its link up and its partner in sync and collecting, and shares its group, and so its Link Aggregation Group
+-- Identifier, with every port that is attached to its aggregator
 pub record Earned (t : List ℕ) (i : ℕ) : Type 0 where
   pub up : portAt t i .line .up ≡ true
   pub synchronization : portAt t i .partner .state .synchronization ≡ true
   pub collecting : portAt t i .partner .state .collecting ≡ true
   pub group : (j : ℕ) → j < countIn t → isAttached (portAt t j .phase .mux) ≡ true → portAt t j .aggregator ≡ portAt t i .aggregator
       → sharesGroup (ours t) (map compared (ports t)) i j ≡ true
+  pub lag : (j : ℕ) → j < countIn t → isAttached (portAt t j .phase .mux) ≡ true → portAt t j .aggregator ≡ portAt t i .aggregator → lagAt t i ≡ lagAt t j
 
 abbrev pub DistributingEarned : Type 0
 DistributingEarned = (t : List ℕ) → Made t → (i : ℕ) → i < countIn t → distributes (portAt t i .phase .mux) ≡ true → Earned t i
@@ -71,10 +73,14 @@ DistributingEarned = (t : List ℕ) → Made t → (i : ℕ) → i < countIn t �
 abbrev pub BitsTrue : Type 0
 BitsTrue = (t : List ℕ) → Made t → (i : ℕ) → i < countIn t → SaysMux (portAt t i)
 
--- ports that share a group have one Link Aggregation Group Identifier (43.3.6). The converse is not claimed: two links from this system to
--- itself may have one, and R10.1 keeps them apart
+-- ports that share a group have one Link Aggregation Group Identifier (43.3.6), in any memory
 abbrev pub GroupHasLag : Type 0
 GroupHasLag = (t : List ℕ) (i j : ℕ) → i < countIn t → j < countIn t → sharesGroup (ours t) (map compared (ports t)) i j ≡ true → lagAt t i ≡ lagAt t j
+
+-- and the other way round, but where the partner is our own system: two links from this system to itself may have one, and R10.1 keeps them apart
+abbrev pub LagHasGroup : Type 0
+LagHasGroup = (t : List ℕ) (i j : ℕ) → i < countIn t → j < countIn t → sameSystem (portAt t i .partner .system) (ours t .system) ≡ false
+    → lagAt t i ≡ lagAt t j → sharesGroup (ours t) (map compared (ports t)) i j ≡ true
 
 -- 4: steps 2 to 6 once more, the receive machine without an event, change nothing
 abbrev pub StaysAtRest : Type 0
