@@ -30,6 +30,7 @@ use Rattle.table.proofs.StoreLaws.{ports-length, ports-at}
 use Rattle.trunk.specs.Ready.{waitsFor, hasWaiting, holdsBack, heldBack, ready}
 use Rattle.trunk.specs.Settled.{Chosen}
 use Rattle.trunk.proofs.EachLaws.{Fits}
+use Rattle.trunk.proofs.ReadyLaws.{some-waits, waits-own}
 use Rattle.control.specs.declared.answer.Answer.the-variants.{Done}
 use Rattle.control.specs.Call.{aggregator}
 use Rattle.control.specs.After.{answer}
@@ -85,17 +86,6 @@ holder k (p ∷ ps) e = by (holdsBack k p) refl (λ g. holder k ps g)
     by true g rest = record { index = 0; inside = omega arith; holds = λ d. g }
     by false g rest = further (rest (ap (λ (x : Bool). x || heldBack k ps) (sym g) ∙ e))
 
--- one of the list waits for k
-waiting-in : (k : ℕ) (ps : List Port) (i : ℕ) (d : Port) → i < length ps → waitsFor k (getD ps i d) ≡ true → hasWaiting k ps ≡ true
-unfolding hasWaiting
-waiting-in k [] i d h e = absurd (omega arith)
-waiting-in k (p ∷ ps) zero d h e = ap (λ (x : Bool). x || hasWaiting k ps) e
-waiting-in k (p ∷ ps) (suc i) d h e = by (waitsFor k p) (waiting-in k ps i d (omega arith) e)
-  where
-    by : (b : Bool) → hasWaiting k ps ≡ true → b || hasWaiting k ps ≡ true
-    by true g = refl
-    by false g = g
-
 held-if : (k : ℕ) (ps : List Port) → hasWaiting k ps ≡ true → ready k ps ≡ false → heldBack k ps ≡ true
 unfolding ready
 held-if k ps w r = by (heldBack k ps) (ap (λ (x : Bool). x && not (heldBack k ps)) (sym w) ∙ r)
@@ -109,8 +99,8 @@ waiting-for-someone t m i h w =
     let s = never-stuck t m in
     let p = portAt t i in
     let k = p .aggregator in
-    let itself : waitsFor k (getD (ports t) i (decoded [])) ≡ true = unfold waitsFor in rw (ports-at t i (decoded []) h, eq-eqb k k refl, w) in
-    let x = holder k (ports t) (held-if k (ports t) (waiting-in k (ports t) i (decoded []) (in-ports t s i h) itself) (port-firm t s i h .unready w)) in
+    let itself : waitsFor k (getD (ports t) i (decoded [])) ≡ true = ap (waitsFor k) (ports-at t i (decoded []) h) ∙ waits-own p w in
+    let x = holder k (ports t) (held-if k (ports t) (some-waits k (ports t) i (decoded []) (in-ports t s i h) itself) (port-firm t s i h .unready w)) in
     let there : x .index < countIn t = rw ports-length at (x .inside) in
     record { port = x .index; there = there; holds = ap (holdsBack k) (sym (ports-at t (x .index) (decoded []) there)) ∙ x .holds (decoded []) }
 

@@ -12,4 +12,5 @@ pub mod LineCall
 pub mod Reports
 pub mod Carries
 pub mod ReadBack
+pub mod Demands
 pub mod Witness

@@ -9,5 +9,6 @@ pub mod LineCall
 pub mod Reports
 pub mod Carries
 pub mod ReadBack
+pub mod Demands
 pub mod Speakers
 pub mod Witness
