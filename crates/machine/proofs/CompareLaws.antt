@@ -1,17 +1,18 @@
 -- Each comparison is true exactly for values that are equal in what it compares. Assumes nothing.
 use Prim.Native.Nat.{ℕ}
-use mathlib.Core.Path.{_≡_, refl}
-use mathlib.Core.Bool.{Bool, true, false, _&&_, and-eq-true-iff, false≢true}
+use mathlib.Core.Path.{_≡_, refl, ap}
+use mathlib.Core.Logic.{_⊎_, inl, inr}
+use mathlib.Core.Bool.{Bool, true, false, not, _&&_, _||_, or-true, and-eq-true-iff, false≢true}
 use lib.Dec.{eqb}
-use borrow.Author.Tests.{eqb-true, eq-eqb}
+use borrow.Author.Tests.{eqb-true, eq-eqb, not-true}
 use Rattle.frame.specs.declared.block.Address.{Address}
 use Rattle.frame.specs.declared.block.Block.{Block}
 use Rattle.frame.specs.declared.block.SystemId.{SystemId}
 use Rattle.frame.specs.declared.state.PortState.{PortState}
 use Rattle.machine.specs.declared.states.Line.{Line}
 use Rattle.machine.specs.Bits.{alike}
-use Rattle.machine.specs.Compare.{sameAddress, sameSystem, sameNumbers, sameParty, sameState, sameBlock, party}
-use Rattle.machine.specs.States.{sameLine}
+use Rattle.machine.specs.Compare.{sameAddress, sameSystem, sameNumbers, sameParty, sameView, maintained, inSync, sameState, sameBlock, Party, party, View, view, InSync}
+use Rattle.machine.specs.States.{silentOn, sameLine}
 
 -- ---- from a test to an equation
 
@@ -115,3 +116,93 @@ numbers-refl x = rw (system-refl (x .system), eqb-self (x .key), eqb-self (x .po
 pub party-refl : (x : Block) → sameParty x x ≡ true
 unfolding sameParty
 party-refl x = rw (numbers-refl x, alike-refl (x .state .aggregation))
+
+-- ---- each test of 43.4.9, exactly if
+
+pub party-is : (x y : Block) → party x ≡ party y → sameParty x y ≡ true
+unfolding sameParty sameNumbers
+party-is x y e =
+    let system : x .system ≡ y .system = ap (λ (z : Party). z .system) e in
+    let key : x .key ≡ y .key = ap (λ (z : Party). z .key) e in
+    let port : x .port ≡ y .port = ap (λ (z : Party). z .port) e in
+    let aggregation : x .state .aggregation ≡ y .state .aggregation = ap (λ (z : Party). z .aggregation) e in
+    rw (system, key, port, aggregation, system-refl (y .system), eqb-self (y .key), eqb-self (y .port .priority), eqb-self (y .port .number), alike-refl (y .state .aggregation))
+
+pub view-true : (x y : Block) → sameView x y ≡ true → view x ≡ view y
+unfolding sameView
+view-true x y e =
+    let h = both (sameParty x y) _ e in
+    let a = both (alike (x .state .activity) (y .state .activity)) _ (h .1) in
+    let b = both (alike (x .state .timeout) (y .state .timeout)) _ (a .1) in
+    λ i. record {
+      party = party-true x y (h .0) i;
+      activity = alike-true (x .state .activity) (y .state .activity) (a .0) i;
+      timeout = alike-true (x .state .timeout) (y .state .timeout) (b .0) i;
+      synchronization = alike-true (x .state .synchronization) (y .state .synchronization) (b .1) i;
+    }
+
+pub view-is : (x y : Block) → view x ≡ view y → sameView x y ≡ true
+unfolding sameView
+view-is x y e =
+    let same : sameParty x y ≡ true = party-is x y (ap (λ (z : View). z .party) e) in
+    let activity : x .state .activity ≡ y .state .activity = ap (λ (z : View). z .activity) e in
+    let timeout : x .state .timeout ≡ y .state .timeout = ap (λ (z : View). z .timeout) e in
+    let synchronization : x .state .synchronization ≡ y .state .synchronization = ap (λ (z : View). z .synchronization) e in
+    rw (same, activity, timeout, synchronization, alike-refl (y .state .activity), alike-refl (y .state .timeout), alike-refl (y .state .synchronization))
+
+-- one of two
+either : (a b : Bool) → a || b ≡ true → (a ≡ true) ⊎ (b ≡ true)
+either true b e = inl e
+either false b e = inr e
+
+is-either : (a b : Bool) → (a ≡ true) ⊎ (b ≡ true) → a || b ≡ true
+is-either a b (inl e) = rw e
+is-either a b (inr e) = rw (e, or-true a)
+
+alive-true : (x y z : Bool) → (x ≡ true) ⊎ (y && z ≡ true) → (x ≡ true) ⊎ ((y ≡ true) × (z ≡ true))
+alive-true x y z (inl e) = inl e
+alive-true x y z (inr e) = inr (both y z e)
+
+alive-is : (x y z : Bool) → (x ≡ true) ⊎ ((y ≡ true) × (z ≡ true)) → (x ≡ true) ⊎ (y && z ≡ true)
+alive-is x y z (inl e) = inl e
+alive-is x y z (inr e) = inr (rw (e .0, e .1))
+
+agreed-true : (us a b : Block) → (sameParty b us ≡ true) ⊎ (not (a .state .aggregation) ≡ true) → (party b ≡ party us) ⊎ (a .state .aggregation ≡ false)
+agreed-true us a b (inl e) = inl (party-true b us e)
+agreed-true us a b (inr e) = inr (not-true (a .state .aggregation) e)
+
+agreed-is : (us a b : Block) → (party b ≡ party us) ⊎ (a .state .aggregation ≡ false) → (sameParty b us ≡ true) ⊎ (not (a .state .aggregation) ≡ true)
+agreed-is us a b (inl e) = inl (party-is b us e)
+agreed-is us a b (inr e) = inr (rw e)
+
+pub in-sync-true : (us a b : Block) → inSync us a b ≡ true → InSync us a b
+unfolding inSync maintained
+in-sync-true us a b e =
+    let h = both (a .state .synchronization) _ e in
+    let k = both (a .state .activity || (us .state .activity && b .state .activity)) _ (h .1) in
+    record {
+      says = h .0;
+      alive = alive-true (a .state .activity) (us .state .activity) (b .state .activity) (either (a .state .activity) _ (k .0));
+      agreed = agreed-true us a b (either (sameParty b us) _ (k .1));
+    }
+
+pub in-sync-is : (us a b : Block) → InSync us a b → inSync us a b ≡ true
+unfolding inSync maintained
+in-sync-is us a b h =
+    let alive : a .state .activity || (us .state .activity && b .state .activity) ≡ true =
+    is-either (a .state .activity) (us .state .activity && b .state .activity) (alive-is (a .state .activity) (us .state .activity) (b .state .activity) (h .alive)) in
+    let agreed : sameParty b us || not (a .state .aggregation) ≡ true =
+    is-either (sameParty b us) (not (a .state .aggregation)) (agreed-is us a b (h .agreed)) in
+    rw (h .says, alive, agreed)
+
+-- LACP is off, or the port is up and both ends are passive
+pub silent-true : (l : Line) (passive : Bool) → silentOn l passive ≡ true → (l .full ≡ false) ⊎ ((l .up ≡ true) × (passive ≡ true))
+silent-true l passive e = by (either (not (l .full)) (l .up && passive) e)
+  where
+    by : (not (l .full) ≡ true) ⊎ (l .up && passive ≡ true) → (l .full ≡ false) ⊎ ((l .up ≡ true) × (passive ≡ true))
+    by (inl x) = inl (not-true (l .full) x)
+    by (inr x) = inr (both (l .up) passive x)
+
+pub silent-is : (l : Line) (passive : Bool) → (l .full ≡ false) ⊎ ((l .up ≡ true) × (passive ≡ true)) → silentOn l passive ≡ true
+silent-is l passive (inl x) = rw x
+silent-is l passive (inr x) = rw (x .0, x .1, or-true (not (l .full)))

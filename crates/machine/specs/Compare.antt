@@ -1,6 +1,8 @@
 -- The comparisons of 43.4.9, over information blocks.
 use Prim.Native.Nat.{ℕ}
-use mathlib.Core.Bool.{Bool, not, _&&_, _||_}
+use mathlib.Core.Path.{_≡_}
+use mathlib.Core.Logic.{_⊎_}
+use mathlib.Core.Bool.{Bool, true, false, not, _&&_, _||_}
 use lib.Dec.{eqb}
 use Rattle.frame.specs.declared.block.Address.{Address}
 use Rattle.frame.specs.declared.block.Block.{Block}
@@ -42,6 +44,16 @@ sameView x y =
     && (alike (x .state .activity) (y .state .activity)
     && (alike (x .state .timeout) (y .state .timeout) && alike (x .state .synchronization) (y .state .synchronization)))
 
+-- how a block presents its port: the party, and just these three bits
+pub record View : Type 0 where
+  pub party : Party
+  pub activity : Bool
+  pub timeout : Bool
+  pub synchronization : Bool
+
+abbrev pub view : Block → View
+view b = record { party = party b; activity = b .state .activity; timeout = b .state .timeout; synchronization = b .state .synchronization }
+
 -- whether one end at least is active, and known to be: `us` is what we say of ourselves, the frame says `a` of its sender and `b` of us
 unfoldable pub maintained : Block → Block → Block → Bool
 maintained us a b = a .state .activity || (us .state .activity && b .state .activity)
@@ -49,6 +61,12 @@ maintained us a b = a .state .activity || (us .state .activity && b .state .acti
 -- Partner_Oper_Port_State.Synchronization, as recordPDU sets it (43.4.9)
 unfoldable pub inSync : Block → Block → Block → Bool
 inSync us a b = a .state .synchronization && (maintained us a b && (sameParty b us || not (a .state .aggregation)))
+
+-- the same in full: the sender says so, an active end keeps the link alive, and the sender has us right or does not aggregate
+pub record InSync (us a b : Block) : Type 0 where
+  pub says : a .state .synchronization ≡ true
+  pub alive : (a .state .activity ≡ true) ⊎ ((us .state .activity ≡ true) × (b .state .activity ≡ true))
+  pub agreed : (party b ≡ party us) ⊎ (a .state .aggregation ≡ false)
 
 -- all eight bits
 unfoldable pub sameState : PortState → PortState → Bool
