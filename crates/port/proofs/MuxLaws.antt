@@ -14,7 +14,7 @@ use Rattle.machine.specs.Mux.{muxNext, waits, isAttached, collects, distributes
 use Rattle.machine.specs.Bits.{withSynchronization, withCollecting, withDistributing}
 use Rattle.port.specs.declared.record.Port.{Port}
 use Rattle.port.specs.Record.{withNtt, withWait, withMux, withActor, withAggregator, withSelected}
-use Rattle.port.specs.Mux.{muxEntered, muxTaken, muxChoice, muxStep, muxRun, detached, placed, attachedIf, SaysMux}
+use Rattle.port.specs.Mux.{muxEntered, muxTaken, muxChoice, muxStep, muxRun, detached, placed, attachedIf, descent, enteredAll, SaysMux}
 
 -- what the transitions look at, beside Ready
 record Seen (p : Port) (m : Mux) (s : Selection) (sync coll : Bool) : Type 0 where
@@ -130,28 +130,35 @@ attached-keeps ready p = if-keeps (waits (p .phase .mux)) ready p
 three : (q x y z : Port) → muxStep false q ≡ x → muxStep false x ≡ y → muxStep false y ≡ z → muxStep false (muxStep false (muxStep false q)) ≡ z
 three q x y z a b c = rw (a, b, c)
 
--- an UNSELECTED port ends as one that has just entered DETACHED, or has never left it
-down : {q : Port} (m : Mux) {sync coll : Bool} → Seen q m Unselected sync coll → muxStep false (muxStep false (muxStep false q)) .phase .mux ≡ Detached
-down {q} Detached h = ap (λ (r : Port). r .phase .mux) (three q q q q (stays h refl) (stays h refl) (stays h refl)) ∙ h .state
-down {q} Waiting h =
-    let x = enters Detached h in
-    ap (λ (r : Port). r .phase .mux) (three q _ _ (muxEntered Detached q) (moves Detached h refl) (stays x refl) (stays x refl))
-down {q} Attached h =
-    let x = enters Detached h in
-    ap (λ (r : Port). r .phase .mux) (three q _ _ (muxEntered Detached q) (moves Detached h refl) (stays x refl) (stays x refl))
+-- an UNSELECTED port enters every state that leads down
+down : {q : Port} (m : Mux) {sync coll : Bool} → Seen q m Unselected sync coll → muxStep false (muxStep false (muxStep false q)) ≡ enteredAll (descent m) q
+unfolding enteredAll
+down {q} Detached h = three q q q q (stays h refl) (stays h refl) (stays h refl)
+down {q} Waiting h = let x = enters Detached h in three q _ _ (muxEntered Detached q) (moves Detached h refl) (stays x refl) (stays x refl)
+down {q} Attached h = let x = enters Detached h in three q _ _ (muxEntered Detached q) (moves Detached h refl) (stays x refl) (stays x refl)
 down {q} Collecting h =
     let x = enters Attached h in
-    ap (λ (r : Port). r .phase .mux)
-    (three q _ _ (muxEntered Detached (muxEntered Attached q)) (moves Attached h refl) (moves Detached x refl) (stays (enters Detached x) refl))
+    three q _ _ (muxEntered Detached (muxEntered Attached q)) (moves Attached h refl) (moves Detached x refl) (stays (enters Detached x) refl)
 down {q} Distributing h =
     let x = enters Collecting h in
     let y = enters Attached x in
-    ap (λ (r : Port). r .phase .mux)
-    (three q _ _ (muxEntered Detached (muxEntered Attached (muxEntered Collecting q))) (moves Collecting h refl) (moves Attached x refl) (moves Detached y refl))
+    three q _ _ (muxEntered Detached (muxEntered Attached (muxEntered Collecting q))) (moves Collecting h refl) (moves Attached x refl) (moves Detached y refl)
+
+pub detached-descends : (p : Port) → detached p ≡ enteredAll (descent (p .phase .mux)) (withSelected p Unselected)
+unfolding detached
+detached-descends p = down (p .phase .mux) (record { state = refl; selected = refl; synchronization = refl; collecting = refl })
+
+-- and ends in DETACHED
+ends-detached : (m : Mux) (q : Port) → q .phase .mux ≡ m → enteredAll (descent m) q .phase .mux ≡ Detached
+unfolding enteredAll
+ends-detached Detached q e = e
+ends-detached Waiting q e = refl
+ends-detached Attached q e = refl
+ends-detached Collecting q e = refl
+ends-detached Distributing q e = refl
 
 pub detached-is : (p : Port) → detached p .phase .mux ≡ Detached
-unfolding detached
-detached-is p = down (p .phase .mux) (record { state = refl; selected = refl; synchronization = refl; collecting = refl })
+detached-is p = ap (λ (r : Port). r .phase .mux) (detached-descends p) ∙ ends-detached (p .phase .mux) (withSelected p Unselected) refl
 
 -- a detached port that is placed waits, with the timer started
 pub placed-is : (k : ℕ) (p : Port) → p .phase .mux ≡ Detached → placed k p ≡ muxEntered Waiting (withSelected (withAggregator p k) Selected)

@@ -109,6 +109,22 @@ pub receive-idle : (p : Port) → receiveStep p ≡ p → receiveRun p ≡ p
 unfolding receiveRun
 receive-idle p e = ap receiveStep e ∙ e
 
+-- a step, and a run of one step, by what the machine chooses
+pub step-stays : (p : Port) → receiveChoice p ≡ Stay → receiveStep p ≡ p
+unfolding receiveStep
+step-stays p e = rw e
+
+step-enters : (p : Port) (r : Receive) → receiveChoice p ≡ Enter r → receiveStep p ≡ receiveEntered r p
+unfolding receiveStep
+step-enters p r e = rw e
+
+pub run-stays : (p : Port) → receiveChoice p ≡ Stay → receiveRun p ≡ p
+run-stays p e = receive-idle p (step-stays p e)
+
+pub run-enters : (p : Port) (r : Receive) → receiveChoice p ≡ Enter r → receiveChoice (receiveEntered r p) ≡ Stay → receiveRun p ≡ receiveEntered r p
+unfolding receiveRun
+run-enters p r e f = ap receiveStep (step-enters p r e) ∙ step-stays (receiveEntered r p) f
+
 -- ---- what is kept
 
 -- everything but the receive state, its timer, Expired and the partner's Synchronization and Timeout

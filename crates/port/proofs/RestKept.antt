@@ -9,6 +9,7 @@ use Rattle.frame.specs.declared.block.Block.{Block}
 use Rattle.frame.specs.declared.block.SystemId.{SystemId}
 use Rattle.machine.specs.declared.states.Ages.{Ages}
 use Rattle.machine.specs.declared.states.Line.{Line}
+use Rattle.machine.specs.declared.states.Mux.{Mux}
 use Rattle.machine.specs.declared.states.Periodic.{Periodic}
 use Rattle.machine.specs.declared.states.Ticks.{Ticks}
 use Rattle.machine.specs.declared.states.Receive.{Receive}
@@ -30,15 +31,16 @@ use Rattle.port.proofs.RestParts.{receivePart, MuxPart, muxPart, Receiv
 
 -- ---- what the receive machine leaves alone
 
--- the mux part, the periodic machine's state and timer, and the ages of sends
+-- the mux part and the aggregator, the periodic machine's state and timer, and the ages of sends
 pub record AsidePart : Type 0 where
   pub mux : MuxPart
+  pub aggregator : ℕ
   pub state : Periodic
   pub timer : Ticks
   pub ages : Ages
 
 abbrev pub aside : Port → AsidePart
-aside p = record { mux = muxPart p; state = p .phase .periodic; timer = p .timers .periodic; ages = p .ages }
+aside p = record { mux = muxPart p; aggregator = p .aggregator; state = p .phase .periodic; timer = p .timers .periodic; ages = p .ages }
 
 default-aside : (b : Bool) (p : Port) → aside (recordDefault (cond b p (unselected p))) ≡ aside p
 unfolding recordDefault
@@ -386,15 +388,42 @@ pub advanced-ages : (p : Port) → advanced p .ages ≡ agesTicked (p .ages)
 unfolding advanced
 advanced-ages p = aside-ages (ticked p) (receiveRun (ticked p)) (run-aside (ticked p)) ∙ ticked-ages p
 
-pub received-ages : (system : SystemId) (n : ℕ) (a b : Block) (p : Port) → received system n a b p .ages ≡ p .ages
+pub received-aside : (system : SystemId) (n : ℕ) (a b : Block) (p : Port) → aside (received system n a b p) ≡ aside p
 unfolding received
-received-ages system n a b p = let us = actorBlock system n p in aside-ages p (current us a b p) (current-aside us a b p)
+received-aside system n a b p = current-aside (actorBlock system n p) a b p
+
+pub received-ages : (system : SystemId) (n : ℕ) (a b : Block) (p : Port) → received system n a b p .ages ≡ p .ages
+received-ages system n a b p = aside-ages p (received system n a b p) (received-aside system n a b p)
 
 pub moved-ages : (p : Port) → moved p .ages ≡ p .ages
 moved-ages p = aside-ages p (moved p) (moved-aside p)
 
-pub lined-ages : (l : Line) (p : Port) → lined l p .ages ≡ p .ages
+pub lined-aside : (l : Line) (p : Port) → aside (lined l p) ≡ aside p
 unfolding lined
-lined-ages l p =
-    let low = receiveRun (withLine p (down (p .line))) in
-    aside-ages low (receiveRun (withLine low l)) (run-aside (withLine low l)) ∙ aside-ages p low (run-aside (withLine p (down (p .line))))
+lined-aside l p = run-aside (withLine (receiveRun (withLine p (down (p .line)))) l) ∙ run-aside (withLine p (down (p .line)))
+
+pub lined-ages : (l : Line) (p : Port) → lined l p .ages ≡ p .ages
+lined-ages l p = aside-ages p (lined l p) (lined-aside l p)
+
+-- ---- where a port is: its mux state and the aggregator it holds, which steps 1 and 2 leave
+
+pub record Seat : Type 0 where
+  pub mux : Mux
+  pub aggregator : ℕ
+
+abbrev pub seat : Port → Seat
+seat p = record { mux = p .phase .mux; aggregator = p .aggregator }
+
+abbrev seatOf : AsidePart → Seat
+seatOf v = record { mux = v .mux .state; aggregator = v .aggregator }
+
+pub aside-seat : (p q : Port) → aside q ≡ aside p → seat q ≡ seat p
+aside-seat p q e = ap (λ (v : AsidePart). seatOf v) e
+
+ticked-seat : (p : Port) → seat (ticked p) ≡ seat p
+unfolding ticked
+ticked-seat p = refl
+
+pub advanced-seat : (p : Port) → seat (advanced p) ≡ seat p
+unfolding advanced
+advanced-seat p = aside-seat (ticked p) (receiveRun (ticked p)) (run-aside (ticked p)) ∙ ticked-seat p

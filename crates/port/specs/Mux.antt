@@ -1,8 +1,10 @@
 -- The Mux machine on a record (43.4.15), and steps 3 to 6 (R4) for one port.
 use mathlib.Core.Path.{_≡_}
 use mathlib.Core.Bool.{Bool, false, cond, _||_}
+use mathlib.Core.List.{List, [], _∷_}
 use Prim.Native.Nat.{ℕ}
 use Rattle.machine.specs.declared.states.Mux.{Mux}
+use Rattle.machine.specs.declared.states.Mux.the-variants.{Detached, Waiting, Attached, Collecting, Distributing}
 use Rattle.machine.specs.declared.states.Selection.the-variants.{Unselected, Selected}
 use Rattle.port.specs.declared.record.Port.{Port}
 use Rattle.machine.specs.declared.mux.MuxStep.{MuxStep}
@@ -39,6 +41,18 @@ attachedIf ready p = cond (waits (p .phase .mux)) (muxStep ready p) p
 -- step 6: up or down as the partner's bits say; two steps lead to rest (law `mux-rests`)
 unfoldable pub muxRun : Port → Port
 muxRun p = muxStep false (muxStep false p)
+
+-- the states that lead down to DETACHED, in their order (figure 43-13), and a port that enters some states one after the other
+abbrev pub descent : Mux → List Mux
+descent Detached = []
+descent Waiting = Detached ∷ []
+descent Attached = Detached ∷ []
+descent Collecting = Attached ∷ Detached ∷ []
+descent Distributing = Collecting ∷ Attached ∷ Detached ∷ []
+
+unfoldable pub enteredAll : List Mux → Port → Port
+enteredAll [] p = p
+enteredAll (m ∷ ms) p = enteredAll ms (muxEntered m p)
 
 -- the actor's Synchronization, Collecting and Distributing say what the mux state is: of a state and three bits, and of a port
 pub record BitsAgree (m : Mux) (sync coll dist : Bool) : Type 0 where

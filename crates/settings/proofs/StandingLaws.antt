@@ -56,8 +56,11 @@ started-resting s =
     (standing-is (moved (blank s)) (moved-rests (blank s) (blank-down s)) (subst Steady (sym (moved-aside (blank s))) (blank-steady s)))
     (calm-rests (moved (blank s)) (blank-calm s))
 
--- ---- the ages of sends
+-- ---- what settings leave alone
+
+pub settings-aside : (s : Settings) (p : Port) → aside (configured s p) ≡ aside p
+unfolding configured regrouped
+settings-aside s p = configured-aside (sameGrouping s p) s p
 
 pub configured-ages : (s : Settings) (p : Port) → configured s p .ages ≡ p .ages
-unfolding configured regrouped
-configured-ages s p = aside-ages p (configured s p) (configured-aside (sameGrouping s p) s p)
+configured-ages s p = aside-ages p (configured s p) (settings-aside s p)

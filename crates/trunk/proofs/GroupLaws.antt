@@ -197,6 +197,11 @@ module _ (ours : Header) (cs : List Compared) where
 
 -- ---- what the rule depends on
 
+-- from cs to ds, another port has become the lowest of i's group
+pub data Shift (ours : Header) (cs ds : List Compared) (i : ℕ) : Type 0 where
+  lower-joined : (k : ℕ) → k < lowest ours cs i → sharesGroup ours cs i k ≡ false → sharesGroup ours ds i k ≡ true → Shift ours cs ds i
+  lowest-left : sharesGroup ours cs i (lowest ours cs i) ≡ true → sharesGroup ours ds i (lowest ours cs i) ≡ false → Shift ours cs ds i
+
 module _ (ours : Header) (cs ds : List Compared) (i : ℕ) where
   -- where the ports before i that share its group are the same, so is the lowest
   lowest-same : ((j : ℕ) → j < i → sharesGroup ours cs i j ≡ sharesGroup ours ds i j) → lowest ours cs i ≡ lowest ours ds i
@@ -226,3 +231,15 @@ module _ (ours : Header) (cs ds : List Compared) (i : ℕ) where
       by k h true b x y = joins-same k here (left k h x)
       by k h false true x y = joins-same k here (right k h y)
       by k h false false x y = x ∙ sym y
+
+  -- where the rule gives i another aggregator, a port below the lowest of its group has joined it, or the lowest has left it
+  pub rule-shifts : (ruleOf ours cs i ≡ ruleOf ours ds i → ⊥) → Shift ours cs ds i
+  unfolding ruleOf
+  rule-shifts e = by (sharesGroup ours ds i (lowest ours cs i)) refl
+    where
+      by : (b : Bool) → sharesGroup ours ds i (lowest ours cs i) ≡ b → Shift ours cs ds i
+      by true x =
+          let differ : lowest ours ds i ≡ lowest ours cs i → ⊥ = λ q. e (ap (λ (n : ℕ). n + 1) (sym q)) in
+          let below : lowest ours ds i < lowest ours cs i = omega (arith, not-before ours ds i (lowest ours cs i) x) in
+          lower-joined (lowest ours ds i) below (lowest-none ours cs i (lowest ours ds i) below) (lowest-shares ours ds i)
+      by false x = lowest-left (lowest-shares ours cs i) x

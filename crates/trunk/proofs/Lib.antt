@@ -12,3 +12,4 @@ pub mod Settles
 pub mod BesideLaws
 pub mod RestingLaws
 pub mod DependLaws
+pub mod MoveLaws

@@ -86,7 +86,7 @@ muxed-twice p s =
 -- ---- one port in step 6
 
 -- a SELECTED port that waits goes on waiting
-waiting-muxed : (p : Port) → waits (p .phase .mux) ≡ true → Chosen p → muxed p ≡ nttCleared p
+pub waiting-muxed : (p : Port) → waits (p .phase .mux) ≡ true → Chosen p → muxed p ≡ nttCleared p
 unfolding muxed
 waiting-muxed p w s = ap nttCleared (mux-idle p (stays p w s))
   where
@@ -119,7 +119,7 @@ detached-run : (p : Port) → Chosen p → p .phase .mux ≡ Detached → muxRun
 unfolding muxRun
 detached-run p s e = ap (muxStep false) (first-step p s e) ∙ second-step p s
 
-entered-holds : (p : Port) → holdsBack (p .aggregator) (muxEntered Waiting p) ≡ true
+pub entered-holds : (p : Port) → holdsBack (p .aggregator) (muxEntered Waiting p) ≡ true
 unfolding holdsBack waitsFor
 entered-holds p = rw (eq-eqb (p .aggregator) (p .aggregator) refl)
 
@@ -168,7 +168,7 @@ attached-muxed p s e =
 -- ---- all ports
 
 -- a member that holds an aggregator back
-some-holds : (k : ℕ) (ps : List Port) (i : ℕ) (d : Port) → i < length ps → holdsBack k (getD ps i d) ≡ true → heldBack k ps ≡ true
+pub some-holds : (k : ℕ) (ps : List Port) (i : ℕ) (d : Port) → i < length ps → holdsBack k (getD ps i d) ≡ true → heldBack k ps ≡ true
 unfolding heldBack
 some-holds k [] i d h e = absurd (omega arith)
 some-holds k (p ∷ ps) zero d h e = rw e
@@ -188,7 +188,7 @@ held-map k f (p ∷ ps) d keeps e =
     by false q x r = rw (r x, or-true (holdsBack k (f p)))
 
 -- an aggregator that is held back is not Ready; one with a waiting port that is not Ready is held back
-held-unready : (k : ℕ) (ps : List Port) → heldBack k ps ≡ true → ready k ps ≡ false
+pub held-unready : (k : ℕ) (ps : List Port) → heldBack k ps ≡ true → ready k ps ≡ false
 unfolding ready
 held-unready k ps e = rw (e, and-false (hasWaiting k ps))
 
