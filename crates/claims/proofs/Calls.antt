@@ -108,12 +108,12 @@ made-start m o count system delay x k e = record {
   gives = refl;
 }
 
-run-more : (t : List ℕ) (cs : List Call) (c : Call) → run t (cs ++ (c ∷ [])) ≡ after c (run t cs)
+pub run-more : (t : List ℕ) (cs : List Call) (c : Call) → run t (cs ++ (c ∷ [])) ≡ after c (run t cs)
 unfolding run
 run-more t [] c = refl
 run-more t (b ∷ cs) c = run-more (after b t) cs c
 
-all-more : (cs : List Call) (c : Call) → AllTake cs → Takes c → AllTake (cs ++ (c ∷ []))
+pub all-more : (cs : List Call) (c : Call) → AllTake cs → Takes c → AllTake (cs ++ (c ∷ []))
 all-more [] c a k = (k, tt)
 all-more (b ∷ cs) c a k = (a .0, all-more cs c (a .1) k)
 

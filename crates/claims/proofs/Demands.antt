@@ -1,5 +1,5 @@
 -- The demands, and what goes beyond them, each from its own theorem; ports by their numbers. Assumes nothing.
-use Prim.Native.Nat.{ℕ, _+_, _-_, _<_, _≤_}
+use Prim.Native.Nat.{ℕ, _+_, _-_, _<_}
 use mathlib.Core.Path.{_≡_, ap, _∙_, subst}
 use mathlib.Core.Bool.{true}
 use mathlib.Core.List.{List}
@@ -17,6 +17,9 @@ use Rattle.claims.proofs.ThreeSends.{three-sends, four-sends-apart}
 use Rattle.claims.proofs.LineCall.{line-taken, line-repeated, half-silent, stays-silent}
 use Rattle.claims.proofs.Reports.{port-true, aggregator-true}
 use Rattle.claims.proofs.Carries.{distributing-given, waiting-for-someone, register-adds-up}
+use Rattle.claims.proofs.Moves.{one-aggregator, moved-forgets}
+use Rattle.claims.proofs.Thinner.{thinner-for-a-reason}
+use Rattle.claims.proofs.Spoke.{partner-spoke}
 use Rattle.claims.proofs.ReadBack.{read-back}
 
 below : (t : List ℕ) (n : ℕ) → IsPort t n → n - 1 < countIn t
@@ -54,6 +57,8 @@ demands = record {
 pub further : Further
 further = record {
   live-partner = live-partner;
+  partner-spoke = partner-spoke;
+  moved-forgets = moved-forgets;
   three-sends = three-sends;
   four-sends-apart = four-sends-apart;
   line-taken = line-taken;
@@ -66,5 +71,7 @@ further = record {
   bits-true = bits-true;
   distributing-given = distributing-given;
   waiting-for-someone = waiting-for-someone;
+  one-aggregator = one-aggregator;
+  thinner-for-a-reason = thinner-for-a-reason;
   lag-has-group = lag-has-group;
 }

@@ -12,5 +12,9 @@ pub mod LineCall
 pub mod Reports
 pub mod Carries
 pub mod ReadBack
+pub mod Course
+pub mod Moves
+pub mod Thinner
+pub mod Spoke
 pub mod Demands
 pub mod Witness

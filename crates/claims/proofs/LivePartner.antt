@@ -1,6 +1,6 @@
 -- The partner information in force lasts: of all that a call does to a port, only recordDefault and recordPDU change it but for two bits,
 -- and each way to one of them is one of the ends. By cases on the call and on the receive state. Assumes nothing.
-use Prim.Native.Nat.{ℕ, _+_, _-_, _<_}
+use Prim.Native.Nat.{ℕ, _-_, _<_}
 use mathlib.Core.Path.{_≡_, refl, sym, ap, _∙_, subst}
 use mathlib.Core.Bool.{Bool, true, false, cond, not, _&&_, _||_, true≢false, false≢true}
 use mathlib.Core.List.{List, [], _∷_, map}
@@ -10,7 +10,7 @@ use lib.ListN.{length, getD, set, length-set}
 use lib.Seq.{getD-set-same}
 use lib.Dec.{eqb}
 use borrow.Author.Tests.{eqb-true, eqb-false, eq-eqb}
-use Rattle.octets.proofs.ListLaws.{map-at, sweep-at}
+use Rattle.octets.proofs.ListLaws.{map-at}
 use Rattle.octets.specs.Octets.{Octets}
 use Rattle.frame.specs.declared.block.Block.{Block}
 use Rattle.frame.specs.Block.{blockOf}
@@ -25,9 +25,10 @@ use Rattle.machine.specs.States.{sameLine}
 use Rattle.machine.specs.Time.{ranOut}
 use Rattle.port.specs.declared.record.Port.{Port}
 use Rattle.port.specs.Record.{withLine, withNtt, withActor, withOwn}
-use Rattle.port.specs.Receive.{recordPdu, unselected, portDisabled, expired, pduRecorded, current, receiveChoice, receiveStep, receiveRun, received, down, lined}
+use Rattle.port.specs.Receive.{recordPdu, unselected, portDisabled, expired, pduRecorded, current, receiveChoice, receiveRun, received, down, lined}
 use Rattle.port.specs.Transmit.{sent, due, ticked, advanced}
 use Rattle.port.specs.Rest.{goesWith}
+use Rattle.port.proofs.ReceiveLaws.{run-stays, run-enters}
 use Rattle.port.proofs.RestParts.{Standing, receivePart, ReceiveRests}
 use Rattle.port.proofs.RestKept.{lined-falls}
 use Rattle.port.specs.Range.{ownFits}
@@ -37,6 +38,7 @@ use Rattle.table.specs.Record.{decoded}
 use Rattle.table.specs.Table.{countIn, portAt, ports, ours, again, onOctets, stateOf, octetsOf}
 use Rattle.table.proofs.StoreLaws.{ports-length, ports-at}
 use Rattle.trunk.specs.Displaced.{isDisplaced, displacedIf, displaced}
+use Rattle.trunk.proofs.MoveLaws.{displaced-at}
 use Rattle.work.specs.Work.{worked, afterOne, receivedAt, afterReceived, afterTick, afterLine, afterSettings, afterSend}
 use Rattle.control.specs.declared.answer.Answer.{Answer}
 use Rattle.control.specs.declared.answer.Answer.the-variants.{Done, Lacpdu, Marker, Refused}
@@ -56,11 +58,11 @@ use Rattle.claims.proofs.Views.{work-view, set-view}
 
 -- ---- what is to last
 
-record Lasting : Type 0 where
-  partner : Block
-  defaulted : Bool
+pub record Lasting : Type 0 where
+  pub partner : Block
+  pub defaulted : Bool
 
-abbrev lastingOf : Port → Lasting
+abbrev pub lastingOf : Port → Lasting
 lastingOf p = record { partner = lasting (p .partner); defaulted = p .actor .defaulted }
 
 live-is : (frame : List ℕ) (p q : Port) → lastingOf q ≡ lastingOf p → Live frame p → Live frame q
@@ -75,18 +77,6 @@ live-is frame p q e l = record {
 data Gentle (k : ReceiveStep) : Type 0 where
   stays : k ≡ Stay → Gentle k
   expires : k ≡ Enter Expired → Gentle k
-
-step-stays : (p : Port) → receiveChoice p ≡ Stay → receiveStep p ≡ p
-unfolding receiveStep
-step-stays p e = rw e
-
-step-expires : (p : Port) → receiveChoice p ≡ Enter Expired → receiveStep p ≡ expired p
-unfolding receiveStep
-step-expires p e = rw e
-
-step-falls : (p : Port) → receiveChoice p ≡ Enter PortDisabled → receiveStep p ≡ portDisabled p
-unfolding receiveStep
-step-falls p e = rw e
 
 -- EXPIRED has started its timer
 after-expired : (p : Port) → p .line .up ≡ true → receiveChoice (expired p) ≡ Stay
@@ -107,22 +97,15 @@ disabled-lasting p = refl
 
 -- a run that begins so keeps what lasts
 run-lasting : (p : Port) → p .line .up ≡ true → Gentle (receiveChoice p) → lastingOf (receiveRun p) ≡ lastingOf p
-unfolding receiveRun
-run-lasting p u (stays e) = ap (λ (x : Port). lastingOf (receiveStep x)) (step-stays p e) ∙ ap (λ (x : Port). lastingOf x) (step-stays p e)
-run-lasting p u (expires e) =
-    ap (λ (x : Port). lastingOf (receiveStep x)) (step-expires p e)
-    ∙ ap (λ (x : Port). lastingOf x) (step-stays (expired p) (after-expired p u)) ∙ expired-lasting p
+run-lasting p u (stays e) = ap (λ (x : Port). lastingOf x) (run-stays p e)
+run-lasting p u (expires e) = ap (λ (x : Port). lastingOf x) (run-enters p Expired e (after-expired p u)) ∙ expired-lasting p
 
 -- and so does one with the link down
 still-lasting : (p : Port) → receiveChoice p ≡ Stay → lastingOf (receiveRun p) ≡ lastingOf p
-unfolding receiveRun
-still-lasting p e = ap (λ (x : Port). lastingOf (receiveStep x)) (step-stays p e) ∙ ap (λ (x : Port). lastingOf x) (step-stays p e)
+still-lasting p e = ap (λ (x : Port). lastingOf x) (run-stays p e)
 
 falls-lasting : (p : Port) → p .line .up ≡ false → receiveChoice p ≡ Enter PortDisabled → lastingOf (receiveRun p) ≡ lastingOf p
-unfolding receiveRun
-falls-lasting p u e =
-    ap (λ (x : Port). lastingOf (receiveStep x)) (step-falls p e)
-    ∙ ap (λ (x : Port). lastingOf x) (step-stays (portDisabled p) (after-disabled p u)) ∙ disabled-lasting p
+falls-lasting p u e = ap (λ (x : Port). lastingOf x) (run-enters p PortDisabled e (after-disabled p u)) ∙ disabled-lasting p
 
 -- ---- a tick
 
@@ -266,9 +249,9 @@ work-lasting : (t : List ℕ) (s : Sound t) (i : ℕ) → i < countIn t → (ps 
     → lastingOf (portAt (again t (worked (ours t) ps)) i) ≡ lastingOf (getD ps i (decoded []))
 work-lasting t s i h ps b = work-view (λ p. lastingOf p) (λ p. refl) (λ p. refl) t s i h ps b
 
-record Goes (t u : List ℕ) (i : ℕ) : Type 0 where
-  count : countIn u ≡ countIn t
-  lasts : lastingOf (portAt u i) ≡ lastingOf (portAt t i)
+pub record Goes (t u : List ℕ) (i : ℕ) : Type 0 where
+  pub count : countIn u ≡ countIn t
+  pub lasts : lastingOf (portAt u i) ≡ lastingOf (portAt t i)
 
 unchanged : (t : List ℕ) (i : ℕ) → Goes t t i
 unchanged t i = record { count = refl; lasts = refl }
@@ -364,7 +347,7 @@ module _ (t : List ℕ) (s : Sound t) (i : ℕ) (h : i < countIn t) where
   unless-goes Marker u f = f refl
   unless-goes (Refused r) u f = unchanged t i
 
-  call-goes : (c : Call) → Takes c → ends c t i ≡ false → Goes t (after c t) i
+  pub call-goes : (c : Call) → Takes c → ends c t i ≡ false → Goes t (after c t) i
   call-goes c k f = unfold after in unless-goes (answer c t) (changedBy c t) (λ e. changed-goes c k e f)
 
 -- ---- runs
@@ -380,16 +363,13 @@ run-live frame i t (c ∷ cs) s h l k f =
 -- the frame itself, on the port that hears it
 module _ (t : List ℕ) (s : Sound t) (i : ℕ) (h : i < countIn t) (frame : List ℕ) where
   own-kept : getD (displaced i (blockOf (actorPart frame)) (set (ports t) i (receivedAt i frame (stateOf t)))) i (decoded []) ≡ receivedAt i frame (stateOf t)
-  unfolding displaced displacedIf
+  unfolding displacedIf
   own-kept =
       let a = blockOf (actorPart frame) in
       let q = receivedAt i frame (stateOf t) in
       let here : i < length (set (ports t) i q) = rw (length-set (ports t) i q, ports-length) h in
-      let z : 0 + i ≡ i = omega arith in
-      sweep-at (displacedIf i a) 0 (set (ports t) i q) i (decoded []) here
-      ∙ ap (λ (m : ℕ). displacedIf i a m (getD (set (ports t) i q) i (decoded []))) z
-      ∙ ap (λ (p : Port). displacedIf i a i p) (getD-set-same (ports t) i q (decoded []) (in-ports t s i h))
-      ∙ rw (eq-eqb i i refl)
+      displaced-at i a (set (ports t) i q) i (decoded []) here
+      ∙ ap (λ (p : Port). displacedIf i a i p) (getD-set-same (ports t) i q (decoded []) (in-ports t s i h)) ∙ rw (eq-eqb i i refl)
 
   begins : Octets frame → portAt t i .line .up ≡ true → portAt t i .line .full ≡ true → Live frame (portAt (onOctets (afterReceived i frame) t) i)
   unfolding afterReceived
@@ -403,7 +383,7 @@ module _ (t : List ℕ) (s : Sound t) (i : ℕ) (h : i < countIn t) (frame : Lis
   received-count = again-count t (worked (ours t) (displaced i (blockOf (actorPart frame)) (set (ports t) i (receivedAt i frame (stateOf t)))))
 
 -- what an accepted LACPDU leaves
-after-received : (t : List ℕ) (n : ℕ) (frame out : List ℕ) → answer (receive n frame out) t ≡ Lacpdu → after (receive n frame out) t ≡ onOctets (afterReceived (n - 1) frame) t
+pub after-received : (t : List ℕ) (n : ℕ) (frame out : List ℕ) → answer (receive n frame out) t ≡ Lacpdu → after (receive n frame out) t ≡ onOctets (afterReceived (n - 1) frame) t
 unfolding effect
 after-received t n frame out e =
     after-accepted t (receive n frame out) (ap accepted e) ∙ ap (λ (a : Answer). onOctets (afterFrame a (n - 1) frame) t) e

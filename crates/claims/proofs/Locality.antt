@@ -1,15 +1,14 @@
 -- A port that shares a group, before and after, with none that a call touches is as it was: what settling makes of it depends on its
 -- group alone, whose records are as they were, and those were at rest. Assumes nothing.
-use Prim.Native.Nat.{ℕ, _+_, _-_, _<_}
+use Prim.Native.Nat.{ℕ, _-_, _<_}
 use mathlib.Core.Path.{_≡_, refl, sym, ap, _∙_}
 use mathlib.Core.Bool.{_&&_, Bool, true, false, _||_, true≢false}
 use mathlib.Core.List.{List, [], map}
-use native.Mathlib.Omega.{arith}
 use lib.ListN.{length, getD, set, length-map, length-set}
 use lib.Seq.{getD-set-other}
 use lib.Dec.{eqb}
 use borrow.Author.Tests.{eqb-false}
-use Rattle.octets.proofs.ListLaws.{map-at, sweep-at}
+use Rattle.octets.proofs.ListLaws.{map-at}
 use Rattle.octets.specs.Octets.{Octets}
 use Rattle.frame.specs.declared.block.Block.{Block}
 use Rattle.frame.specs.Block.{blockOf}
@@ -33,6 +32,7 @@ use Rattle.trunk.specs.Displaced.{isDisplaced, displacedIf, displaced}
 use Rattle.trunk.proofs.GroupLaws.{shares-refl}
 use Rattle.trunk.proofs.SettledLaws.{settled-compares}
 use Rattle.trunk.proofs.DependLaws.{settled-reach}
+use Rattle.trunk.proofs.MoveLaws.{displaced-at}
 use Rattle.work.specs.Work.{worked, afterOne, receivedAt, afterReceived, afterLine, afterSettings, afterSend}
 use Rattle.control.specs.declared.answer.Answer.{Answer}
 use Rattle.control.specs.declared.answer.Answer.the-variants.{Done, Lacpdu, Marker, Refused}
@@ -54,6 +54,10 @@ use Rattle.claims.proofs.Counts.{again-count}
 pub again-at : (t : List ℕ) (qs : List Port) → ports (again t qs) ≡ qs → (i : ℕ) (d : Port) → i < countIn t → portAt (again t qs) i ≡ getD qs i d
 again-at t qs e i d h =
     sym (ports-at (again t qs) i d (rw (again-count t qs) h)) ∙ ap (λ (l : List Port). getD l i d) e
+
+-- what the rule reads afterwards is what it read before steps 3 to 6
+pub work-read : (t : List ℕ) (s : Sound t) (ps : List Port) (b : Before t ps) → map compared (ports (again t (worked (ours t) ps))) ≡ map compared (map periodicRun ps)
+work-read t s ps b = ap (λ (l : List Port). map compared l) (work-ports t s ps b) ∙ unfold worked in settled-compares (ours t) (map periodicRun ps)
 
 module _ (t : List ℕ) (s : Sound t) (ps : List Port) (b : Before t ps) (touched : ℕ → Bool)
     (kept : (k : ℕ) → k < countIn t → touched k ≡ false → getD ps k (decoded []) ≡ portAt t k)
@@ -78,10 +82,9 @@ module _ (t : List ℕ) (s : Sound t) (ps : List Port) (b : Before t ps) (touche
       ports-at t k (decoded []) g ∙ sym (periodic-idle (portAt t k) (port-resting t s k g .periodic)) ∙ ap periodicRun (sym (kept k g e))
       ∙ sym (map-at periodicRun ps k (decoded []) (decoded []) here)
 
-  -- what the rule reads afterwards
   read : map compared (ports (again t (worked (ours t) ps))) ≡ map compared qs
   unfolding qs
-  read = ap (λ (l : List Port). map compared l) (work-ports t s ps b) ∙ unfold worked in settled-compares (ours t) (map periodicRun ps)
+  read = work-read t s ps b
 
   in-count : (k : ℕ) → k < length (ports t) → k < countIn t
   in-count k g = rw ports-length at g
@@ -170,16 +173,12 @@ module _ (t : List ℕ) (s : Sound t) (j : ℕ) (h : j < countIn t) where
   -- a frame: the records but the port's own and those that are displaced
   pub displaced-kept : (i : ℕ) (q : Port) (a : Block) (k : ℕ) → k < countIn t → eqb k i || isDisplaced a (portAt t k) ≡ false
       → getD (displaced i a (set (ports t) i q)) k (decoded []) ≡ portAt t k
-  unfolding displaced displacedIf
+  unfolding displacedIf
   displaced-kept i q a k g e =
       let other : eqb k i ≡ false = or-left (eqb k i) (isDisplaced a (portAt t k)) e in
       let still : isDisplaced a (portAt t k) ≡ false = or-right (eqb k i) (isDisplaced a (portAt t k)) e in
       let here : k < length (set (ports t) i q) = rw (length-set (ports t) i q, ports-length) g in
-      let z : 0 + k ≡ k = omega arith in
-      sweep-at (displacedIf i a) 0 (set (ports t) i q) k (decoded []) here
-      ∙ ap (λ (m : ℕ). displacedIf i a m (getD (set (ports t) i q) k (decoded []))) z
-      ∙ ap (λ (p : Port). displacedIf i a k p) (set-kept t i q k g other)
-      ∙ rw (other, still)
+      displaced-at i a (set (ports t) i q) k (decoded []) here ∙ ap (λ (p : Port). displacedIf i a k p) (set-kept t i q k g other) ∙ rw (other, still)
     where
       or-left : (x y : Bool) → x || y ≡ false → x ≡ false
       or-left true y e = e

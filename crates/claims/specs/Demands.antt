@@ -27,6 +27,9 @@ use Rattle.claims.specs.LivePartner.{LivePartner}
 use Rattle.claims.specs.ThreeSends.{ThreeSends, FourSendsApart}
 use Rattle.claims.specs.LineCall.{LineTaken, LineRepeated, HalfSilent, StaysSilent}
 use Rattle.claims.specs.Reports.{PortTrue, AggregatorTrue}
+use Rattle.claims.specs.Moves.{OneAggregator, MovedForgets}
+use Rattle.claims.specs.Thinner.{ThinnerForAReason}
+use Rattle.claims.specs.Spoke.{PartnerSpoke}
 use Rattle.claims.specs.Carries.{DistributingGiven, WaitingForSomeone, RegisterAddsUp}
 
 -- ---- words: ports by their numbers
@@ -85,8 +88,11 @@ pub record Demands : Type 0 where
 -- ---- beyond the demands
 
 pub record Further : Type 0 where
-  -- what a partner said of itself stays until one of five events
+  -- what a partner said of itself stays until one of five events; and a port that is not defaulted has a partner that spoke, and nothing has ended it
   pub live-partner : LivePartner
+  pub partner-spoke : PartnerSpoke
+  -- an LACPDU makes a disabled port forget the partner that it shows elsewhere, and no other port but its own do more than settle anew
+  pub moved-forgets : MovedForgets
   -- the fetch rule along any run
   pub three-sends : ThreeSends
   pub four-sends-apart : FourSendsApart
@@ -103,5 +109,8 @@ pub record Further : Type 0 where
   pub bits-true : BitsTrue
   pub distributing-given : DistributingGiven
   pub waiting-for-someone : WaitingForSomeone
+  -- who gets another aggregator is detached from the old one first, and waits; who stops carrying does so for one of seven reasons
+  pub one-aggregator : OneAggregator
+  pub thinner-for-a-reason : ThinnerForAReason
   -- one LAG ID is one group, but for links from this system to itself
   pub lag-has-group : LagHasGroup

@@ -9,6 +9,9 @@ pub mod LineCall
 pub mod Reports
 pub mod Carries
 pub mod ReadBack
+pub mod Moves
+pub mod Thinner
+pub mod Spoke
 pub mod Demands
 pub mod Speakers
 pub mod Witness
