@@ -18,3 +18,4 @@ pub mod Thinner
 pub mod Spoke
 pub mod Demands
 pub mod Witness
+pub mod Applied

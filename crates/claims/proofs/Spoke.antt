@@ -230,7 +230,7 @@ heard-now t m i n frame out is =
       gives = unfold run in refl;
     })
 
-lacpdu-is : (a : Answer) → isLacpdu a ≡ true → a ≡ Lacpdu
+pub lacpdu-is : (a : Answer) → isLacpdu a ≡ true → a ≡ Lacpdu
 lacpdu-is Done e = absurd (false≢true e)
 lacpdu-is Lacpdu e = refl
 lacpdu-is Marker e = absurd (false≢true e)

@@ -36,22 +36,22 @@ use Rattle.control.specs.Call.{Call}
 use Rattle.claims.specs.Run.{Takes, AllTake, run}
 use Rattle.claims.specs.ThreeSends.{sends}
 use Rattle.claims.specs.Speakers.{system, noDelay, settings}
-use Rattle.claims.specs.Witness.{Witness, said, hears, memory, ticks, later, calls, tables, begun, trunk, parted, narrowed, fallen, halved, dropped, rekeyed, silent, every, fourth}
+use Rattle.claims.specs.Witness.{Witness, said, hears, memory, ticks, later, calls, tables, begun, trunk, parted, narrowed, fallen, halved, dropped, rekeyed, silent, restarted, threeGroups, pluggedOver, twoLags, every, noneEnds, fourth}
 
-abbrev isOctet : ℕ → Bool
+abbrev pub isOctet : ℕ → Bool
 isOctet o = ltb o 256
 
-octets : (l : List ℕ) → every isOctet l ≡ true → Octets l
+pub octets : (l : List ℕ) → every isOctet l ≡ true → Octets l
 unfolding every
 octets [] h i = omega arith
 octets (x ∷ xs) h zero = ltb-true x 256 (and-eq-true-iff (isOctet x) (every isOctet xs) .0 h .0)
 octets (x ∷ xs) h (suc i) = octets xs (and-eq-true-iff (isOctet x) (every isOctet xs) .0 h .1) i
 
-received-takes : (k n o : ℕ) → every isOctet (said k n o) ≡ true → Takes (hears k n o)
+pub received-takes : (k n o : ℕ) → every isOctet (said k n o) ≡ true → Takes (hears k n o)
 unfolding every
 received-takes k n o h = (octets (said k n o) h, octets (zeros frameSize) refl)
 
-ticks-take : (n : ℕ) (cs : List Call) → AllTake cs → AllTake (ticks n cs)
+pub ticks-take : (n : ℕ) (cs : List Call) → AllTake cs → AllTake (ticks n cs)
 unfolding ticks
 ticks-take zero cs a = a
 ticks-take (suc n) cs a = (tt, ticks-take n cs a)
@@ -63,8 +63,9 @@ takes =
     (tt, (tt, (tt, (refl, (received-takes 1 1 0x3F refl, (received-takes 1 2 0x3F refl, ticks-take 10 later then))))))
 
 pub witness : Witness
-unfolding sameAddress sameSystem sameNumbers sameParty sameView maintained inSync sameState sameBlock recordDefault recordPdu updateSelected updateDefaultSelected updateNtt initialized portDisabled expired lacpDisabled defaulted pduRecorded current moved received receiveChoice receiveStep receiveRun lined periodicChoice periodicStep periodicRun due sent Port·silent nttCleared ticked muxChoice muxStep detached placed attachedIf muxRun sameGrouping sameSettings regrouped configured lawful blank started advanced individual sameKeys sameGroup joins sharesGroup firstFrom lowest ruleOf waitsFor hasWaiting holdsBack heldBack ready mapFrom mustMove reselected selectedAll attachedAll muxed settled isDisplaced displacedIf displaced sameOctets foreign unknown wrongLength wrongMarkerType illegal classOf stands setOf setsOf codesInRange timersInRange agesInRange valuesInRange recordInRange blockFits ownFits headerFits encoded decoded recordAt decodedAt portIn portsFrom ports recordsOctets tableOctets firstInRange tableInRange worked afterOne afterStart receivedAt afterReceived afterTick afterLine afterSettings afterSend lacpduOf found answer effect after writtenBy outgoing portReport aggregatorReport ones onesIn trailingZeros run ticks tables begun trunk parted narrowed fallen halved dropped rekeyed silent every fourth sends
+unfolding sameAddress sameSystem sameNumbers sameParty sameView maintained inSync sameState sameBlock recordDefault recordPdu updateSelected updateDefaultSelected updateNtt initialized portDisabled expired lacpDisabled defaulted pduRecorded current moved received receiveChoice receiveStep receiveRun lined periodicChoice periodicStep periodicRun due sent Port·silent nttCleared ticked muxChoice muxStep detached placed attachedIf muxRun sameGrouping sameSettings regrouped configured lawful blank started advanced individual sameKeys sameGroup joins sharesGroup firstFrom lowest ruleOf waitsFor hasWaiting holdsBack heldBack ready mapFrom mustMove reselected selectedAll attachedAll muxed settled isDisplaced displacedIf displaced sameOctets foreign unknown wrongLength wrongMarkerType illegal classOf stands setOf setsOf codesInRange timersInRange agesInRange valuesInRange recordInRange blockFits ownFits headerFits encoded decoded recordAt decodedAt portIn portsFrom ports recordsOctets tableOctets firstInRange tableInRange worked afterOne afterStart receivedAt afterReceived afterTick afterLine afterSettings afterSend lacpduOf found answer effect after writtenBy outgoing portReport aggregatorReport ones onesIn trailingZeros run ticks tables begun trunk parted narrowed fallen halved dropped rekeyed silent restarted threeGroups pluggedOver twoLags every noneEnds fourth sends
 witness = record {
+  started = refl;
   made = record {
     memory = memory;
     octets = octets memory refl;
@@ -89,6 +90,11 @@ witness = record {
   two-groups = refl;
   locality-received = refl;
   locality-fallen = refl;
+  apart-received = refl;
+  apart-fallen = refl;
+  apart-rekeyed = refl;
+  apart-displaced = refl;
+  not-apart = refl;
   at-rest = refl;
   read-back = refl;
   live-in-trunk = refl;
@@ -96,6 +102,12 @@ witness = record {
   live-though-dropped = refl;
   live-though-set = refl;
   live-though-silent = refl;
+  heard = refl;
+  none-ends = refl;
+  all-end = refl;
+  displaced-ends = refl;
+  expiry-ends = refl;
+  marker-answered = refl;
   port-true = refl;
   trunk-true = refl;
   narrowed-true = refl;
@@ -107,4 +119,17 @@ witness = record {
   line-taken = refl;
   line-repeated = refl;
   half-silent = refl;
+  carrying-trunk = refl;
+  carrying-twice = refl;
+  two-lags = refl;
+  waiting = refl;
+  held = refl;
+  moved-over = refl;
+  thinner = refl;
+  thinner-by-one = refl;
+  heard-elsewhere = refl;
+  displaced = refl;
+  forgotten = refl;
+  unspoken = refl;
+  spoken = refl;
 }

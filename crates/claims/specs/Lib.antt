@@ -15,3 +15,4 @@ pub mod Spoke
 pub mod Demands
 pub mod Speakers
 pub mod Witness
+pub mod Applied

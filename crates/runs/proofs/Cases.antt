@@ -21,10 +21,10 @@ use Rattle.table.specs.Table.{recordAt, portsFrom, ports, recordsOctets, tableO
 use Rattle.work.specs.Work.{worked, afterOne, afterStart, receivedAt, afterReceived, afterTick, afterLine}
 use Rattle.control.specs.After.{answer, after, effect}
 use Rattle.claims.specs.Run.{run}
-use Rattle.runs.specs.Cases.{Cases, started, ticks, receiveFrom, up, alone, four, fourSix, threeFive, twoGroups, passiveSays}
+use Rattle.runs.specs.Cases.{Cases, started, ticks, receiveFrom, up, alone, four, fourSix, threeFive, twoGroups, passiveSays, passiveWrong}
 
 pub cases : Cases
-unfolding sameAddress sameSystem sameNumbers sameParty sameView maintained inSync recordDefault recordPdu updateSelected updateDefaultSelected updateNtt initialized portDisabled expired lacpDisabled defaulted pduRecorded current moved received receiveChoice receiveStep receiveRun lined periodicChoice periodicStep periodicRun silent nttCleared ticked muxChoice muxStep detached placed attachedIf muxRun lawful blank Settings·started advanced individual sameKeys sameGroup joins firstFrom lowest ruleOf waitsFor hasWaiting holdsBack heldBack ready mapFrom mustMove reselected selectedAll attachedAll muxed settled isDisplaced displacedIf displaced sameOctets foreign unknown wrongLength wrongMarkerType illegal classOf codesInRange timersInRange agesInRange valuesInRange recordInRange encoded decoded recordAt decodedAt portIn portsFrom ports recordsOctets tableOctets firstInRange tableInRange worked afterOne afterStart receivedAt afterReceived afterTick afterLine answer effect after run started ticks receiveFrom up alone four fourSix threeFive twoGroups passiveSays
+unfolding sameAddress sameSystem sameNumbers sameParty sameView maintained inSync recordDefault recordPdu updateSelected updateDefaultSelected updateNtt initialized portDisabled expired lacpDisabled defaulted pduRecorded current moved received receiveChoice receiveStep receiveRun lined periodicChoice periodicStep periodicRun silent nttCleared ticked muxChoice muxStep detached placed attachedIf muxRun lawful blank Settings·started advanced individual sameKeys sameGroup joins firstFrom lowest ruleOf waitsFor hasWaiting holdsBack heldBack ready mapFrom mustMove reselected selectedAll attachedAll muxed settled isDisplaced displacedIf displaced sameOctets foreign unknown wrongLength wrongMarkerType illegal classOf codesInRange timersInRange agesInRange valuesInRange recordInRange encoded decoded recordAt decodedAt portIn portsFrom ports recordsOctets tableOctets firstInRange tableInRange worked afterOne afterStart receivedAt afterReceived afterTick afterLine answer effect after run started ticks receiveFrom up alone four fourSix threeFive twoGroups passiveSays passiveWrong
 cases = record {
   active-short = refl;
   in-trunk = refl;
@@ -49,4 +49,5 @@ cases = record {
   subtype-11 = refl;
   says-passive = refl;
   says-active = refl;
+  rest-differs = refl;
 }

@@ -4,8 +4,9 @@ use mathlib.Core.Path.{_≡_}
 use mathlib.Core.Bool.{Bool, true, false}
 use mathlib.Core.List.{List, [], _∷_, _++_, map}
 use lib.ListN.{take, set}
+use Rattle.frame.specs.declared.block.Block.{Block}
 use Rattle.frame.specs.State.{stateOctet}
-use Rattle.frame.specs.Wire.{zeros}
+use Rattle.frame.specs.Wire.{zeros, lacpdu}
 use Rattle.machine.specs.declared.states.Receive.{Receive}
 use Rattle.machine.specs.declared.states.Receive.the-variants.{Expired, Defaulted, Current}
 use Rattle.machine.specs.declared.states.Mux.{Mux}
@@ -17,7 +18,7 @@ use Rattle.control.specs.Answer.{answerNumber}
 use Rattle.control.specs.Call.{Call, start, receive, tick, line}
 use Rattle.control.specs.After.{answer, after}
 use Rattle.claims.specs.Run.{run}
-use Rattle.claims.specs.Speakers.{system, noDelay, settings, upFull, frame}
+use Rattle.claims.specs.Speakers.{address, system, noDelay, block, settings, upFull, frame}
 
 -- ---- calls; every default partner is individual
 
@@ -105,6 +106,10 @@ withSubtype k = set lacpdu124 14 k
 unfoldable pub passiveSays : ℕ → List ℕ
 passiveSays v = run up (receive 1 (frame 5 1 0x0C 1 v) (zeros 124) ∷ [])
 
+-- the same sender, that says `b` of it
+unfoldable pub passiveWrong : Block → List ℕ
+passiveWrong b = run up (receive 1 (lacpdu (address 5) (block 5 1 0x0C) b noDelay) (zeros 124) ∷ [])
+
 pub record Cases : Type 0 where
   -- R16.1: state octets
   pub active-short : stateOctet (state true true true false false false false false) ≡ 0x07
@@ -140,3 +145,5 @@ pub record Cases : Type 0 where
   -- R16.10: a passive sender, by what it says of us
   pub says-passive : partnerInSync 1 (passiveSays 0x04) ≡ false
   pub says-active : partnerInSync 1 (passiveSays 0x05) ≡ true
+  -- and where the rest does not agree, since it takes us for another port, for one that does not aggregate, or for another's
+  pub rest-differs : map (partnerInSync 1) (passiveWrong (block 9 2 0x05) ∷ passiveWrong (block 9 1 0x01) ∷ passiveWrong (block 8 1 0x05) ∷ []) ≡ false ∷ false ∷ false ∷ []
