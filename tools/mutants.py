@@ -9,7 +9,8 @@ tried in two copies of the repository:
   facts   definitions and types without code and laws, which would refuse it first; `claims` keeps its computed witness (what each theorem
           says of one run), and `runs` its computed cases. One of the facts that the mutant aims at must be refused.
 
-Where the changed code has another shape, its proof is changed with it. A mutant without a function changes a definition alone.
+Where the changed code has another shape, its proof is changed with it. A mutant without a function changes a definition alone. One that aims at
+a law is tried in the first copy alone: the law must refuse it.
 
 Then the edits of tools/mutants/CRATE/*.edit, in the format of the gate's own (crates/CRATE/must-fail): a definition, a contract or a statement that
 is wrong, or one more wrong program for a contract that has its two in the gate. Each is tried in the first copy, and its crate must be refused
@@ -32,9 +33,9 @@ CODE, FACTS = ROOT / "target" / "mutants" / "code", ROOT / "target" / "mutants" 
 
 @dataclass
 class Mutant:
-    aim: str  # the theorem or case that it is to break
+    aim: str  # the theorem, case or law that it is to break
     name: str
-    facts: tuple  # of `claims`' witness or `runs`' cases, one of which must be refused
+    facts: tuple  # of `claims`' witness or `runs`' cases, or laws of the function's crate, one of which must be refused
     function: str  # whose code follows the definition; '' for none
     edits: tuple  # (file under crates/, old, new)..
 
@@ -170,6 +171,8 @@ def tried(mutant):
         held, laws = follows(mutant)
         code = f"{mutant.function} {'meets it' if held else 'DOES NOT MEET IT'}"
         code += f"; laws that refuse it: {', '.join(laws)}" if laws else "; no law of its crate refuses it"
+        if mutant.aim.startswith("law"):
+            return f"{mutant.aim}: {mutant.name}\n    {code} ({time.time() - began:.0f} s)", held and any(law in mutant.facts for law in laws)
     facts = breaks(mutant)
     hit = any(fact in mutant.facts for _, fact in facts)
     named = ", ".join(f"{crate} {fact}" for crate, fact in facts) or "NOTHING"
@@ -325,6 +328,46 @@ MUTANTS = [
     Mutant("9 the line call", "NTT kept at half duplex", ("half-silent",), "machine::states::Line::is_silent", (
         ("machine/specs/States.antt", "silentOn l passive = not (l .full) || (l .up && passive)", "silentOn l passive = l .full && (l .up && passive)"),
         ("machine/src/states.rt", "!self.full | (self.up & passive)", "self.full & (self.up & passive)"))),
+    Mutant("10 distributing is given", "a mux that never distributes", ("distributing", "carrying-trunk"), "machine::mux::next", (
+        ("machine/specs/Mux.antt", "muxNext Collecting Selected ready true true = Enter Distributing", "muxNext Collecting Selected ready true true = Stay"),
+        ("machine/src/mux.rt", "                        return MuxStep::Enter(Mux::Distributing);", "                        return MuxStep::Stay;"))),
+    Mutant("11 waiting for someone", "a port that waits until its own timer alone runs again", ("carrying-twice",), "", (
+        ("trunk/specs/Ready.antt", "ready k ps = hasWaiting k ps && not (heldBack k ps)", "ready k ps = hasWaiting k ps && heldBack k ps"),)),
+    Mutant("13 one aggregator", "a port that goes over without being detached", ("thinner",), "port::record::Port::detach", (
+        ("port/specs/Mux.antt", "detached p = muxStep false (muxStep false (muxStep false (withSelected p Unselected)))",
+         "detached p = muxStep false (muxStep false (muxStep false (withSelected p Selected)))"),
+        ("port/src/mux.rt", "        self.with_selected(Selection::Unselected)\n            .mux_step(false)\n            .mux_step(false)",
+         "        self.with_selected(Selection::Selected)\n            .mux_step(false)\n            .mux_step(false)"))),
+    Mutant("14 a moved partner is forgotten", "a displaced port that is left as it is", ("forgotten",), "trunk::displace::displace_one", (
+        ("trunk/specs/Displaced.antt", "cond (not (eqb i r) && isDisplaced a p) (moved p) p", "cond (not (eqb i i) && isDisplaced a p) (moved p) p"),
+        ("trunk/src/displace.rt", "if !(i == r) & is_displaced(p, a) {", "if !(i == i) & is_displaced(p, a) {"))),
+    Mutant("15 thinner for a reason", "any other settings make a port UNSELECTED", ("still-carries",), "settings::Settings::regroup", (
+        ("settings/specs/Settings.antt", "regrouped s p = cond (sameGrouping s p) p (unselected p)", "regrouped s p = cond (sameSettings s p) p (unselected p)"),
+        ("settings/src/lib.rt", "        if self.has_grouping(p) {", "        if self.is_held(p) {"),
+        ("settings/proofs/Settings/regroup/Proof.antt", "has-grouping-requires : tie.Need-has-grouping-requires\nhas-grouping-requires c κs = search needs",
+         "is-held-requires : tie.Need-is-held-requires\nis-held-requires c κs = search needs"),
+        ("settings/proofs/Settings/regroup/Proof.antt", "(c .before .has-grouping .ensures) ∙ (c .if1 .taken)", "(c .before .is-held .ensures) ∙ (c .if1 .taken)"),
+        ("settings/proofs/Settings/regroup/Proof.antt", "c .before .before .has-grouping .ensures", "c .before .before .is-held .ensures"),
+        ("settings/proofs/Settings/regroup/Proof.antt", "tie.spec has-grouping-requires returns", "tie.spec is-held-requires returns"))),
+    Mutant("16 the partner spoke", "recordDefault that clears Defaulted", ("unspoken",), "port::record::Port::record_default", (
+        ("port/specs/Receive.antt", "(withPartner p (p .own .default)) (withDefaulted (p .actor) true)", "(withPartner p (p .own .default)) (withDefaulted (p .actor) false)"),
+        ("port/src/receive.rt", "self.actor.defaulted = true;", "self.actor.defaulted = false;"))),
+    Mutant("law update_NTT", "Timeout not compared", ("view-true",), "machine::compare::same_view", (
+        ("machine/specs/Compare.antt", "&& (alike (x .state .timeout) (y .state .timeout) && alike (x .state .synchronization) (y .state .synchronization)))",
+         "&& (alike (x .state .timeout) (x .state .timeout) && alike (x .state .synchronization) (y .state .synchronization)))"),
+        ("machine/src/compare.rt", "            & (alike(x.state.timeout, y.state.timeout)\n                & alike(x.state.synchronization, y.state.synchronization)))",
+         "            & (alike(x.state.timeout, x.state.timeout)\n                & alike(x.state.synchronization, y.state.synchronization)))"))),
+    Mutant("law Synchronization", "a sender that does not aggregate is never in sync", ("in-sync-is",), "machine::compare::in_sync", (
+        ("machine/specs/Compare.antt", "(sameParty b us || not (a .state .aggregation))", "(sameParty b us || a .state .aggregation)"),
+        ("machine/src/compare.rt", "(same_party(b, us) | !a.state.aggregation)", "(same_party(b, us) | a.state.aggregation)"),
+        )),
+    Mutant("law NTT cleared", "a port that is down, with both ends passive, is silent too", ("silent-true",), "machine::states::Line::is_silent", (
+        ("machine/specs/States.antt", "silentOn l passive = not (l .full) || (l .up && passive)", "silentOn l passive = not (l .full) || (passive && passive)"),
+        ("machine/src/states.rt", "!self.full | (self.up & passive)", "!self.full | (passive & passive)"))),
+    Mutant("law the order of periodicNext", "in FAST_PERIODIC a timer that ran out is not looked at", ("out-second",), "machine::periodic::next", (
+        ("machine/specs/Periodic.antt", "periodicNext FastPeriodic false true short = Enter PeriodicTx", "periodicNext FastPeriodic false true short = Stay"),
+        ("machine/src/periodic.rt", "        Periodic::FastPeriodic => {\n            if out {\n                return PeriodicStep::Enter(Periodic::PeriodicTx);",
+         "        Periodic::FastPeriodic => {\n            if out {\n                return PeriodicStep::Stay;"))),
     Mutant("case 07, 3F, 3D", "Aggregation and Defaulted exchanged", ("active-short", "in-trunk", "in-trunk-long"), "frame::state::PortState::octet", (
         ("frame/specs/State.antt", "weighed (s .aggregation) 4", "weighed (s .defaulted) 4"),
         ("frame/specs/State.antt", "weighed (s .defaulted) 64", "weighed (s .aggregation) 64"),
@@ -364,6 +407,9 @@ MUTANTS = [
         ("frame/specs/Class.antt", "oddSubtype l = eqb (octet l 14) 0 || leb 11 (octet l 14)", "oddSubtype l = eqb (octet l 14) 0 || leb 10 (octet l 14)"),
         ("frame/src/class.rt", "(3 <= s[14]) & (s[14] <= 10)", "(3 <= s[14]) & (s[14] <= 9)"),
         ("frame/src/class.rt", "(s[14] == 0) | (11 <= s[14])", "(s[14] == 0) | (10 <= s[14])"))),
+    Mutant("case passive sender", "a sender in sync though it takes us for another port", ("rest-differs",), "machine::compare::in_sync", (
+        ("machine/specs/Compare.antt", "(sameParty b us || not (a .state .aggregation))", "(sameParty us us || not (a .state .aggregation))"),
+        ("machine/src/compare.rt", "(same_party(b, us) | !a.state.aggregation)", "(same_party(us, us) | !a.state.aggregation)"))),
     Mutant("case passive sender", "a sender taken to be in sync though both ends may be passive", ("says-passive",), "machine::compare::in_sync", (
         ("machine/specs/Compare.antt", "maintained us a b = a .state .activity || (us .state .activity && b .state .activity)",
          "maintained us a b = a .state .activity || (us .state .activity && us .state .activity)"),

@@ -1,5 +1,6 @@
 pub mod Sound
 pub mod Calls
+pub mod Typed
 pub mod Rule
 pub mod Lag
 pub mod Counts

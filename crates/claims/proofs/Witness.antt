@@ -127,6 +127,7 @@ witness = record {
   moved-over = refl;
   thinner = refl;
   thinner-by-one = refl;
+  still-carries = refl;
   heard-elsewhere = refl;
   displaced = refl;
   forgotten = refl;

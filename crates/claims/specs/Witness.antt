@@ -328,6 +328,8 @@ pub record Witness : Type 0 where
   pub moved-over : map (λ i. portAt parted i .aggregator) indices ≡ 1 ∷ 2 ∷ 3 ∷ []
   pub thinner : map (carriesIn parted) indices ≡ false ∷ false ∷ false ∷ []
   pub thinner-by-one : map (carriesIn narrowed) indices ≡ true ∷ false ∷ false ∷ []
+  -- settings with another Timeout alone leave a port carrying
+  pub still-carries : carriesIn (after (configure 1 (settings false 0)) trunk) 0 ≡ true
   -- 14
   pub heard-elsewhere : isLacpdu·answer (answer plugsOver threeGroups) ≡ true
   pub displaced : map (λ i. isDisplaced (blockOf (actorPart elsewhere)) (portAt threeGroups i)) indices ≡ true ∷ false ∷ false ∷ []

@@ -1,0 +1,29 @@
+-- `claims::receive` leaves a table that a start and calls made, by `made-call`; that its arguments are what `Takes` asks for, their types say. Assumes nothing.
+use mathlib.Core.Path.{sym, subst}
+use denote.Ref.{now}
+use Rattle.control.specs.Call.{receive as Call·receive}
+use Rattle.claims.specs.Run.{Made}
+use Rattle.claims.proofs.Calls.{made-call}
+use borrow.Author.Needs.{needs}
+use Rattle.claims.proofs.receive.Statement.{statement}
+use Rattle.claims.proofs.receive.Tie as tie
+
+receive-requires : tie.Need-receive-requires
+receive-requires c κs = search needs
+
+same-length : tie.Need-same-length
+same-length c = search needs
+
+same-length-2 : tie.Need-same-length-2
+same-length-2 c = search needs
+
+returns : tie.Need-returns
+returns c =
+    let start = c .before .before .before .before .before .before .before .before .before .before in
+    let a = start .args in
+    subst Made (sym (c .before .before .before .before .receive .ensures .1))
+    (made-call (now (a .table)) (start .pre) (Call·receive (a .n) (now (a .frame)) (now (a .out)))
+    (λ j. c .before .before .before .before .before .before .before .before .shared-slice-known .given j .fits, λ j. c .before .before .before .before .before .before .before .slice-known2 .given j .fits))
+
+pub receive-spec : {M : Type 1} → statement M
+receive-spec = tie.close (tie.spec receive-requires same-length same-length-2 returns)

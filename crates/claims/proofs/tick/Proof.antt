@@ -1,0 +1,23 @@
+-- `claims::tick` leaves a table that a start and calls made, by `made-call`; that its arguments are what `Takes` asks for, their types say. Assumes nothing.
+use mathlib.Core.Path.{sym, subst}
+use denote.Ref.{now}
+use Rattle.control.specs.Call.{tick as Call·tick}
+use Rattle.claims.specs.Run.{Made}
+use Rattle.claims.proofs.Calls.{made-call}
+use borrow.Author.Needs.{needs}
+use Rattle.claims.proofs.tick.Statement.{statement}
+use Rattle.claims.proofs.tick.Tie as tie
+
+tick-requires : tie.Need-tick-requires
+tick-requires c κs = search needs
+
+same-length : tie.Need-same-length
+same-length c = search needs
+
+returns : tie.Need-returns
+returns c =
+    let a = c .before .before .before .before .before .args in
+    subst Made (sym (c .before .before .tick .ensures .1)) (made-call (now (a .table)) (c .before .before .before .before .before .pre) Call·tick tt)
+
+pub tick-spec : {M : Type 1} → statement M
+tick-spec = tie.close (tie.spec tick-requires same-length returns)
