@@ -6,3 +6,4 @@ pub mod TimerLaws
 pub mod RestParts
 pub mod RestKept
 pub mod RangeLaws
+pub mod RuleLaws

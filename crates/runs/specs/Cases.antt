@@ -15,7 +15,7 @@ use Rattle.machine.specs.Bits.{state}
 use Rattle.table.specs.Layout.{tableSize}
 use Rattle.table.specs.Table.{portAt}
 use Rattle.control.specs.Answer.{answerNumber}
-use Rattle.control.specs.Call.{Call, start, receive, tick, line}
+use Rattle.control.specs.Call.{Call, start, receive, tick, line, fetch}
 use Rattle.control.specs.After.{answer, after}
 use Rattle.claims.specs.Run.{run}
 use Rattle.claims.specs.Speakers.{address, system, noDelay, block, settings, upFull, frame}
@@ -39,6 +39,9 @@ ticks (suc n) t = ticks n (after tick t)
 
 abbrev pub actorOf : ℕ → List ℕ → ℕ
 actorOf n t = stateOctet (portAt t (n - 1) .actor)
+
+abbrev pub isDue : ℕ → List ℕ → Bool
+isDue n t = portAt t (n - 1) .ntt
 
 abbrev pub partnerInSync : ℕ → List ℕ → Bool
 partnerInSync n t = portAt t (n - 1) .partner .state .synchronization
@@ -110,6 +113,14 @@ passiveSays v = run up (receive 1 (frame 5 1 0x0C 1 v) (zeros 124) ∷ [])
 unfoldable pub passiveWrong : Block → List ℕ
 passiveWrong b = run up (receive 1 (lacpdu (address 5) (block 5 1 0x0C) b noDelay) (zeros 124) ∷ [])
 
+-- port 1 has heard a partner with a short timeout, and has sent
+unfoldable pub fast : List ℕ
+fast = run up (receive 1 (frame 5 1 0x07 1 0x05) (zeros 124) ∷ fetch 1 (zeros 124) ∷ [])
+
+-- port 1 has heard one with a long timeout, has attached 20 ticks later, and has sent
+unfoldable pub slow : List ℕ
+slow = run (ticks 20 alone) (fetch 1 (zeros 124) ∷ [])
+
 pub record Cases : Type 0 where
   -- R16.1: state octets
   pub active-short : stateOctet (state true true true false false false false false) ≡ 0x07
@@ -147,3 +158,6 @@ pub record Cases : Type 0 where
   pub says-active : partnerInSync 1 (passiveSays 0x05) ≡ true
   -- and where the rest does not agree, since it takes us for another port, for one that does not aggregate, or for another's
   pub rest-differs : map (partnerInSync 1) (passiveWrong (block 9 2 0x05) ∷ passiveWrong (block 9 1 0x01) ∷ passiveWrong (block 8 1 0x05) ∷ []) ≡ false ∷ false ∷ false ∷ []
+  -- beyond document 01, R3.11 and R9.4: an LACPDU is due again 10 ticks after a partner with a short timeout was heard, and 300 after one with a long one
+  pub fast-pace : map (isDue 1) (ticks 9 fast ∷ ticks 10 fast ∷ []) ≡ false ∷ true ∷ []
+  pub slow-pace : map (isDue 1) (ticks 279 slow ∷ ticks 280 slow ∷ []) ≡ false ∷ true ∷ []

@@ -1,3 +1,4 @@
 pub mod SettingsLaws
 pub mod StandingLaws
 pub mod RangeLaws
+pub mod RuleLaws

@@ -6,3 +6,4 @@ pub mod TableLaws
 pub mod MadeLaws
 pub mod FillLaws
 pub mod LeavesLaws
+pub mod RuleLaws

@@ -13,3 +13,4 @@ pub mod BesideLaws
 pub mod RestingLaws
 pub mod DependLaws
 pub mod MoveLaws
+pub mod RuleLaws
