@@ -232,8 +232,8 @@ def main(words):
 
 MUTANTS = [
     Mutant("0 never stuck", "a long timeout that starts the timer at 901", ("never-stuck",), "machine::receive::timeout_time", (
-        ("machine/specs/Time.antt", "timeoutTime short = cond short shortTimeoutTime longTimeoutTime", "timeoutTime short = cond short shortTimeoutTime 901"),
-        ("machine/src/receive.rt", "        LONG_TIMEOUT_TIME\n", "        901\n"))),
+        ("machine/specs/Time.antt", "timeoutTime short = ticks (cond short shortTimeoutTime longTimeoutTime)", "timeoutTime short = ticks (cond short shortTimeoutTime 901)"),
+        ("machine/src/receive.rt", "        LONG_TIMEOUT_TIME\n", "        Ticks(901)\n"))),
     Mutant("0 refusals are silent", "a refusal that writes the table", ("refused-line", "refused-fetch"), "", (
         ("control/specs/After.antt", "after c t = unless (answer c t) t (changedBy c t)", "after c t = unless (answer c t) (changedBy c t) (changedBy c t)"),)),
     Mutant("0 refusals are silent", "a refusal that clears the buffer", ("refused-line", "refused-fetch"), "", (
@@ -246,10 +246,10 @@ MUTANTS = [
         ("machine/src/mux.rt", "                    return MuxStep::Enter(Mux::Collecting);\n                }\n                MuxStep::Enter(Mux::Collecting)",
          "                    return MuxStep::Stay;\n                }\n                MuxStep::Enter(Mux::Collecting)"))),
     Mutant("2 distributing is earned", "a port without a link whose partner is in sync", ("distributing-earned",), "port::record::Port::port_disabled", (
-        ("port/specs/Receive.antt", "portDisabled p = withReceive (withCurrent (withPartnerState p (withSynchronization (p .partner .state) false)) 0) PortDisabled",
-         "portDisabled p = withReceive (withCurrent (withPartnerState p (withSynchronization (p .partner .state) true)) 0) PortDisabled"),
-        ("port/src/receive.rt", "        self.partner.state.synchronization = false;\n        self.in_state(Receive::PortDisabled, 0)",
-         "        self.partner.state.synchronization = true;\n        self.in_state(Receive::PortDisabled, 0)"))),
+        ("port/specs/Receive.antt", "portDisabled p = withReceive (withCurrent (withPartnerState p (withSynchronization (p .partner .state) false)) (ticks 0)) PortDisabled",
+         "portDisabled p = withReceive (withCurrent (withPartnerState p (withSynchronization (p .partner .state) true)) (ticks 0)) PortDisabled"),
+        ("port/src/receive.rt", "        self.partner.state.synchronization = false;\n        self.in_state(Receive::PortDisabled, Ticks(0))",
+         "        self.partner.state.synchronization = true;\n        self.in_state(Receive::PortDisabled, Ticks(0))"))),
     Mutant("2 the actor's bits", "DISTRIBUTING that clears its bit", ("bits-true",), "machine::states::Mux::bits", (
         ("machine/specs/Mux.antt", "muxBits Distributing s = withDistributing s true", "muxBits Distributing s = withDistributing s false"),
         ("machine/src/entry.rt", "            Mux::Distributing => {\n                s.distributing = true;", "            Mux::Distributing => {\n                s.distributing = false;"))),
@@ -282,8 +282,8 @@ MUTANTS = [
          "lacpduOf s i = lacpdu (portOf s i .own .address) (portOf s i .partner) (actorBlock (s .common .system) (i + 1) (portOf s i)) (s .common .delay)"),
         ("work/src/lib.rt", "frame::wire::write_lacpdu(out, address, actor, partner, delay);", "frame::wire::write_lacpdu(out, address, partner, actor, delay);"))),
     Mutant("6 the live partner", "EXPIRED that records the default block", ("live-though-silent",), "port::record::Port::expire", (
-        ("port/specs/Receive.antt", "expired p =\n    withReceive (expiredBit (withCurrent (withPartnerState p (withTimeout (withSynchronization (p .partner .state) false) true)) shortTimeoutTime) true) Expired",
-         "expired p =\n    let d = recordDefault p in\n    withReceive (expiredBit (withCurrent (withPartnerState d (withTimeout (withSynchronization (d .partner .state) false) true)) shortTimeoutTime) true) Expired"),
+        ("port/specs/Receive.antt", "expired p =\n    withReceive (expiredBit (withCurrent (withPartnerState p (withTimeout (withSynchronization (p .partner .state) false) true)) (ticks shortTimeoutTime)) true) Expired",
+         "expired p =\n    let d = recordDefault p in\n    withReceive (expiredBit (withCurrent (withPartnerState d (withTimeout (withSynchronization (d .partner .state) false) true)) (ticks shortTimeoutTime)) true) Expired"),
         ("port/src/receive.rt", "fn expire(mut self)", "fn expire(self)"),
         ("port/src/receive.rt", "        self.partner.state.synchronization = false;\n        self.partner.state.timeout = true;\n        self.actor.expired = true;\n        self.in_state(Receive::Expired,",
          "        let mut p = self.record_default();\n        p.partner.state.synchronization = false;\n        p.partner.state.timeout = true;\n        p.actor.expired = true;\n        p.in_state(Receive::Expired,"),
@@ -293,14 +293,14 @@ MUTANTS = [
         ("port/proofs/record/Port/expire/Proof.antt", "{expired}", "{expired, recordDefault}"),
         ("port/proofs/record/Port/expire/Proof.antt", "tie.spec in-state-requires", "tie.spec record-default-requires in-state-requires"))),
     Mutant("6 the live partner", "EXPIRED that clears the partner's Aggregation", ("live-though-silent",), "port::record::Port::expire", (
-        ("port/specs/Receive.antt", "(withTimeout (withSynchronization (p .partner .state) false) true)) shortTimeoutTime) true) Expired",
-         "(withAggregation (withSynchronization (p .partner .state) false) false)) shortTimeoutTime) true) Expired"),
+        ("port/specs/Receive.antt", "(withTimeout (withSynchronization (p .partner .state) false) true)) (ticks shortTimeoutTime)) true) Expired",
+         "(withAggregation (withSynchronization (p .partner .state) false) false)) (ticks shortTimeoutTime)) true) Expired"),
         ("port/src/receive.rt", "        self.partner.state.timeout = true;\n", "        self.partner.state.aggregation = false;\n"))),
     Mutant("6 the live partner", "a link that falls clears the partner's Collecting", ("live-though-fallen",), "port::record::Port::port_disabled", (
-        ("port/specs/Receive.antt", "portDisabled p = withReceive (withCurrent (withPartnerState p (withSynchronization (p .partner .state) false)) 0) PortDisabled",
-         "portDisabled p = withReceive (withCurrent (withPartnerState p (Rattle.machine.specs.Bits.withCollecting (p .partner .state) false)) 0) PortDisabled"),
-        ("port/src/receive.rt", "        self.partner.state.synchronization = false;\n        self.in_state(Receive::PortDisabled, 0)",
-         "        self.partner.state.collecting = false;\n        self.in_state(Receive::PortDisabled, 0)"))),
+        ("port/specs/Receive.antt", "portDisabled p = withReceive (withCurrent (withPartnerState p (withSynchronization (p .partner .state) false)) (ticks 0)) PortDisabled",
+         "portDisabled p = withReceive (withCurrent (withPartnerState p (Rattle.machine.specs.Bits.withCollecting (p .partner .state) false)) (ticks 0)) PortDisabled"),
+        ("port/src/receive.rt", "        self.partner.state.synchronization = false;\n        self.in_state(Receive::PortDisabled, Ticks(0))",
+         "        self.partner.state.collecting = false;\n        self.in_state(Receive::PortDisabled, Ticks(0))"))),
     Mutant("6 the live partner", "settings that put the default block in force", ("live-though-set",), "", (
         ("settings/specs/Settings.antt", "configured s p = withNtt (withActor (withOwn (regrouped s p) (ownOf s)) (ownBits s (p .actor))) true",
          "configured s p = withNtt (withActor (Rattle.port.specs.Record.withPartner (withOwn (regrouped s p) (ownOf s)) (s .default)) (ownBits s (p .actor))) true"),)),
@@ -382,7 +382,7 @@ MUTANTS = [
         ("port/src/receive.rt", "self.actor.defaulted = true;", "self.actor.defaulted = false;"))),
     Mutant("case alone; case 4 and 6", "a wait of 19 ticks", ("alone-19", "joined-24"), "machine::states::Mux::wait_time", (
         ("machine/specs/Time.antt", "aggregateWaitTime = 20", "aggregateWaitTime = 19"),
-        ("machine/src/entry.rt", "AGGREGATE_WAIT_TIME: u16 = 20", "AGGREGATE_WAIT_TIME: u16 = 19"))),
+        ("machine/src/entry.rt", "AGGREGATE_WAIT_TIME: Ticks = Ticks(20)", "AGGREGATE_WAIT_TIME: Ticks = Ticks(19)"))),
     Mutant("case 4 and 6", "each port attached on its own timer", ("joined-24",), "", (
         ("trunk/specs/Settled.antt", "attachedAll ps = map (attaching ps) ps", "attachedAll ps = map (λ p. attachedIf (eqb (p .timers .wait .0) 0) p) ps"),)),
     Mutant("case 3, 5 and 2", "a partner that aggregates taken for individual", ("sharing", "learned"), "trunk::select::is_individual", (
@@ -393,9 +393,9 @@ MUTANTS = [
         ("trunk/specs/Selection.antt", "(sameSystem (c .system) (d .system) &&", "(sameSystem (c .system) (c .system) &&"),
         ("trunk/src/select.rt", "(same_system(s, t) & (a.key == b.key))", "(same_system(s, s) & (a.key == b.key))"))),
     Mutant("case silence", "a long timeout of 899 ticks", ("silence",), "machine::receive::timeout_time", (
-        ("machine/specs/Time.antt", "longTimeoutTime = 900", "longTimeoutTime = 899"), ("machine/src/receive.rt", "LONG_TIMEOUT_TIME: u16 = 900", "LONG_TIMEOUT_TIME: u16 = 899"))),
+        ("machine/specs/Time.antt", "longTimeoutTime = 900", "longTimeoutTime = 899"), ("machine/src/receive.rt", "LONG_TIMEOUT_TIME: Ticks = Ticks(900)", "LONG_TIMEOUT_TIME: Ticks = Ticks(899)"))),
     Mutant("case silence", "EXPIRED for 29 ticks", ("silence",), "machine::receive::timeout_time", (
-        ("machine/specs/Time.antt", "shortTimeoutTime = 30", "shortTimeoutTime = 29"), ("machine/src/receive.rt", "SHORT_TIMEOUT_TIME: u16 = 30", "SHORT_TIMEOUT_TIME: u16 = 29"))),
+        ("machine/specs/Time.antt", "shortTimeoutTime = 30", "shortTimeoutTime = 29"), ("machine/src/receive.rt", "SHORT_TIMEOUT_TIME: Ticks = Ticks(30)", "SHORT_TIMEOUT_TIME: Ticks = Ticks(29)"))),
     Mutant("case the line changes", "a change on an up port that does not act as down, then up", ("from-up-full", "from-up-half"), "port::record::Port::set_line", (
         ("port/specs/Receive.antt", "down l = record { up = false; full = l .full }", "down l = record { up = l .up; full = l .full }"),
         ("port/src/receive.rt", "        self.line.up = false;", "        let old = self.line;\n        self.line.up = old.up;"))),

@@ -1,5 +1,4 @@
 -- The transitions of the Mux machine, independent control (43.4.15, figure 43-13). A second kind of control is a second `muxNext`.
-use Prim.Native.Nat.{ℕ}
 use mathlib.Core.Bool.{Bool, true, false}
 use Rattle.machine.specs.declared.states.Mux.{Mux}
 use Rattle.machine.specs.declared.states.Mux.the-variants.{Detached, Waiting, Attached, Collecting, Distributing}
@@ -9,6 +8,8 @@ use Rattle.machine.specs.declared.mux.MuxStep.{MuxStep}
 use Rattle.machine.specs.declared.mux.MuxStep.the-variants.{Stay, Enter}
 use Rattle.frame.specs.declared.state.PortState.{PortState}
 use Rattle.machine.specs.Bits.{withSynchronization, withCollecting, withDistributing}
+use Rattle.machine.specs.declared.states.Ticks.{Ticks}
+use Rattle.machine.specs.States.{ticks}
 use Rattle.machine.specs.Time.{aggregateWaitTime}
 
 -- what a state means to others; nothing compares state numbers
@@ -79,9 +80,9 @@ setsNtt Attached = true
 setsNtt Collecting = true
 setsNtt Distributing = false
 
-abbrev pub waitTime : Mux → ℕ
-waitTime Detached = 0
-waitTime Waiting = aggregateWaitTime
-waitTime Attached = 0
-waitTime Collecting = 0
-waitTime Distributing = 0
+abbrev pub waitTime : Mux → Ticks
+waitTime Detached = ticks 0
+waitTime Waiting = ticks aggregateWaitTime
+waitTime Attached = ticks 0
+waitTime Collecting = ticks 0
+waitTime Distributing = ticks 0

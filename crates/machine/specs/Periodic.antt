@@ -1,10 +1,11 @@
 -- The transitions of the Periodic Transmission machine (43.4.13, figure 43-11).
-use Prim.Native.Nat.{ℕ}
 use mathlib.Core.Bool.{Bool, true, false}
 use Rattle.machine.specs.declared.states.Periodic.{Periodic}
 use Rattle.machine.specs.declared.states.Periodic.the-variants.{NoPeriodic, FastPeriodic, SlowPeriodic, PeriodicTx}
 use Rattle.machine.specs.declared.periodic.PeriodicStep.{PeriodicStep}
 use Rattle.machine.specs.declared.periodic.PeriodicStep.the-variants.{Stay, Enter}
+use Rattle.machine.specs.declared.states.Ticks.{Ticks}
+use Rattle.machine.specs.States.{ticks}
 use Rattle.machine.specs.Time.{fastPeriodicTime, slowPeriodicTime}
 
 -- by whether the machine is to be quiet, the timer has run out and the partner's Timeout is short: the open-ended transition first, then a timer that ran out, then the partner's Timeout (short or not)
@@ -21,11 +22,11 @@ periodicNext PeriodicTx false out true = Enter FastPeriodic
 periodicNext PeriodicTx false out false = Enter SlowPeriodic
 
 -- the actions on entry: the timer that the state starts (0 stops it), and NTT in PERIODIC_TX
-abbrev pub periodicTime : Periodic → ℕ
-periodicTime NoPeriodic = 0
-periodicTime FastPeriodic = fastPeriodicTime
-periodicTime SlowPeriodic = slowPeriodicTime
-periodicTime PeriodicTx = 0
+abbrev pub periodicTime : Periodic → Ticks
+periodicTime NoPeriodic = ticks 0
+periodicTime FastPeriodic = ticks fastPeriodicTime
+periodicTime SlowPeriodic = ticks slowPeriodicTime
+periodicTime PeriodicTx = ticks 0
 
 abbrev pub isTx : Periodic → Bool
 isTx NoPeriodic = false

@@ -32,14 +32,14 @@ ticks n = record { 0 = n }
 abbrev pub timers : Ticks → Ticks → Ticks → Timers
 timers c q w = record { current = c; periodic = q; wait = w }
 
-abbrev pub timersCurrent : ℕ → Timers → Timers
-timersCurrent n t = timers (ticks n) (t .periodic) (t .wait)
+abbrev pub timersCurrent : Ticks → Timers → Timers
+timersCurrent time t = timers time (t .periodic) (t .wait)
 
-abbrev pub timersPeriodic : ℕ → Timers → Timers
-timersPeriodic n t = timers (t .current) (ticks n) (t .wait)
+abbrev pub timersPeriodic : Ticks → Timers → Timers
+timersPeriodic time t = timers (t .current) time (t .wait)
 
-abbrev pub timersWait : ℕ → Timers → Timers
-timersWait n t = timers (t .current) (t .periodic) (ticks n)
+abbrev pub timersWait : Ticks → Timers → Timers
+timersWait time t = timers (t .current) (t .periodic) time
 
 -- LACP is not enabled, the port is not enabled, or both ends are passive
 abbrev pub quietOn : Line → Bool → Bool

@@ -27,8 +27,8 @@ abbrev pub aggregateWaitTime : ℕ
 aggregateWaitTime = 20
 
 -- the time of the current-while timer, by a Timeout bit (short or not)
-abbrev pub timeoutTime : Bool → ℕ
-timeoutTime short = cond short shortTimeoutTime longTimeoutTime
+abbrev pub timeoutTime : Bool → Ticks
+timeoutTime short = ticks (cond short shortTimeoutTime longTimeoutTime)
 
 -- a timer that holds 0 in a state that uses it has run out
 abbrev pub ranOut : Ticks → Bool

@@ -2,9 +2,10 @@
 ghost use mathlib.Core.Path.{_≡_};
 ghost use Rattle.machine.specs.Mux.{muxBits, setsNtt, waitTime};
 use crate::states::Mux;
+use crate::states::Ticks;
 use frame::state::PortState;
 
-pub const AGGREGATE_WAIT_TIME: u16 = 20;
+pub const AGGREGATE_WAIT_TIME: Ticks = Ticks(20);
 
 impl Mux {
     // The actor's bits on entry to a state.
@@ -51,15 +52,15 @@ impl Mux {
     }
 
     // What the wait timer is started with; 0 stops it.
-    pub fn wait_time(self) -> u16
+    pub fn wait_time(self) -> Ticks
         ensures { λ r. ⌜ r ≡ waitTime self ⌝ }
     {
         match self {
-            Mux::Detached => 0,
+            Mux::Detached => Ticks(0),
             Mux::Waiting => AGGREGATE_WAIT_TIME,
-            Mux::Attached => 0,
-            Mux::Collecting => 0,
-            Mux::Distributing => 0,
+            Mux::Attached => Ticks(0),
+            Mux::Collecting => Ticks(0),
+            Mux::Distributing => Ticks(0),
         }
     }
 }

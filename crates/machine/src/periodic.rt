@@ -2,10 +2,11 @@
 ghost use mathlib.Core.Path.{_≡_};
 ghost use Rattle.machine.specs.Periodic.{periodicNext, periodicTime, isTx};
 use crate::states::Periodic;
+use crate::states::Ticks;
 
-pub const FAST_PERIODIC_TIME: u16 = 10;
+pub const FAST_PERIODIC_TIME: Ticks = Ticks(10);
 
-pub const SLOW_PERIODIC_TIME: u16 = 300;
+pub const SLOW_PERIODIC_TIME: Ticks = Ticks(300);
 
 pub enum PeriodicStep {
     Stay,
@@ -49,14 +50,14 @@ pub fn next(state: Periodic, quiet: bool, out: bool, short: bool) -> PeriodicSte
 }
 
 // What the periodic timer is started with; 0 stops it.
-pub fn time(state: Periodic) -> u16
+pub fn time(state: Periodic) -> Ticks
     ensures { λ r. ⌜ r ≡ periodicTime state ⌝ }
 {
     match state {
-        Periodic::NoPeriodic => 0,
+        Periodic::NoPeriodic => Ticks(0),
         Periodic::FastPeriodic => FAST_PERIODIC_TIME,
         Periodic::SlowPeriodic => SLOW_PERIODIC_TIME,
-        Periodic::PeriodicTx => 0,
+        Periodic::PeriodicTx => Ticks(0),
     }
 }
 

@@ -3,10 +3,11 @@ ghost use mathlib.Core.Path.{_≡_};
 ghost use Rattle.machine.specs.Receive.{isDisabled, receiveNext};
 ghost use Rattle.machine.specs.Time.{timeoutTime};
 use crate::states::Receive;
+use crate::states::Ticks;
 
-pub const SHORT_TIMEOUT_TIME: u16 = 30;
+pub const SHORT_TIMEOUT_TIME: Ticks = Ticks(30);
 
-pub const LONG_TIMEOUT_TIME: u16 = 900;
+pub const LONG_TIMEOUT_TIME: Ticks = Ticks(900);
 
 pub enum ReceiveStep {
     Stay,
@@ -76,7 +77,7 @@ pub fn next(state: Receive, up: bool, full: bool, out: bool) -> ReceiveStep
 }
 
 // The time of the current-while timer, by a Timeout bit.
-pub fn timeout_time(short: bool) -> u16
+pub fn timeout_time(short: bool) -> Ticks
     ensures { λ r. ⌜ r ≡ timeoutTime short ⌝ }
 {
     if short {

@@ -126,27 +126,24 @@ impl Phase {
 
 // A timer is started with its time, or stopped with 0.
 impl Timers {
-    pub fn with_current(mut self, n: u16) -> Self
-        ensures { λ r. ⌜ r ≡ timersCurrent n self ⌝ }
+    pub fn with_current(mut self, time: Ticks) -> Self
+        ensures { λ r. ⌜ r ≡ timersCurrent time self ⌝ }
     {
-        let t = Ticks(n);
-        self.current = t;
+        self.current = time;
         self
     }
 
-    pub fn with_periodic(mut self, n: u16) -> Self
-        ensures { λ r. ⌜ r ≡ timersPeriodic n self ⌝ }
+    pub fn with_periodic(mut self, time: Ticks) -> Self
+        ensures { λ r. ⌜ r ≡ timersPeriodic time self ⌝ }
     {
-        let t = Ticks(n);
-        self.periodic = t;
+        self.periodic = time;
         self
     }
 
-    pub fn with_wait(mut self, n: u16) -> Self
-        ensures { λ r. ⌜ r ≡ timersWait n self ⌝ }
+    pub fn with_wait(mut self, time: Ticks) -> Self
+        ensures { λ r. ⌜ r ≡ timersWait time self ⌝ }
     {
-        let t = Ticks(n);
-        self.wait = t;
+        self.wait = time;
         self
     }
 }

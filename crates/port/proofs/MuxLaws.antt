@@ -10,6 +10,7 @@ use Rattle.machine.specs.declared.states.Selection.{Selection}
 use Rattle.machine.specs.declared.states.Selection.the-variants.{Unselected, Selected}
 use Rattle.machine.specs.declared.mux.MuxStep.{MuxStep}
 use Rattle.machine.specs.declared.mux.MuxStep.the-variants.{Stay, Enter}
+use Rattle.machine.specs.States.{ticks}
 use Rattle.machine.specs.Mux.{muxNext, waits, isAttached, collects, distributes}
 use Rattle.machine.specs.Bits.{withSynchronization, withCollecting, withDistributing}
 use Rattle.port.specs.declared.record.Port.{Port}
@@ -89,7 +90,7 @@ mux-idle p e = ap (muxStep false) e ∙ e
 -- everything but its own state, its timer, NTT and the actor's three bits
 abbrev pub besideMux : Port → Port
 besideMux p =
-    withMux (withWait (withNtt (withActor p (withSynchronization (withCollecting (withDistributing (p .actor) false) false) false)) false) 0) Detached
+    withMux (withWait (withNtt (withActor p (withSynchronization (withCollecting (withDistributing (p .actor) false) false) false)) false) (ticks 0)) Detached
 
 taken-keeps : (k : MuxStep) (p : Port) → besideMux (muxTaken k p) ≡ besideMux p
 taken-keeps Stay p = refl

@@ -2,12 +2,12 @@
 -- what the transitions look at: the state, whether the machine is to be quiet, the timer, the partner's Timeout. Assumes nothing.
 use mathlib.Core.Path.{_≡_, refl, ap, _∙_}
 use mathlib.Core.Bool.{Bool, true, false}
-use lib.Dec.{eqb}
 use Rattle.machine.specs.declared.states.Periodic.{Periodic}
 use Rattle.machine.specs.declared.states.Periodic.the-variants.{NoPeriodic, FastPeriodic, SlowPeriodic, PeriodicTx}
 use Rattle.machine.specs.declared.periodic.PeriodicStep.{PeriodicStep}
 use Rattle.machine.specs.declared.periodic.PeriodicStep.the-variants.{Stay, Enter}
 use Rattle.machine.specs.Periodic.{periodicNext, periodicTime}
+use Rattle.machine.specs.States.{ticks}
 use Rattle.machine.specs.Time.{ranOut}
 use Rattle.port.specs.declared.record.Port.{Port}
 use Rattle.port.specs.Record.{withNtt, withPeriodicTimer, withPeriodic}
@@ -25,7 +25,7 @@ unfolding periodicStep periodicChoice
 step h = rw (h .state, h .silence, h .timer, h .partner)
 
 -- entering a state changes the state and the timer that is seen
-enters : {p : Port} {s : Periodic} {q out short : Bool} (t : Periodic) → Seen p s q out short → Seen (periodicEntered t p) t q (eqb (periodicTime t) 0) short
+enters : {p : Port} {s : Periodic} {q out short : Bool} (t : Periodic) → Seen p s q out short → Seen (periodicEntered t p) t q (ranOut (periodicTime t)) short
 enters t h = record { state = refl; silence = h .silence; timer = refl; partner = h .partner }
 
 -- a step that enters a state, and one that stays
@@ -94,7 +94,7 @@ periodic-idle p e = ap periodicStep e ∙ e
 
 -- everything but its own state, its timer and NTT is as it was
 abbrev pub besidePeriodic : Port → Port
-besidePeriodic p = withNtt (withPeriodicTimer (withPeriodic p NoPeriodic) 0) false
+besidePeriodic p = withNtt (withPeriodicTimer (withPeriodic p NoPeriodic) (ticks 0)) false
 
 taken-keeps : (k : PeriodicStep) (p : Port) → besidePeriodic (periodicTaken k p) ≡ besidePeriodic p
 taken-keeps Stay p = refl

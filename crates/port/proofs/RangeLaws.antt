@@ -19,6 +19,7 @@ use Rattle.machine.specs.declared.states.Mux.the-variants.{Detached, Waiting, A
 use Rattle.machine.specs.declared.states.Selection.{Selection}
 use Rattle.machine.specs.declared.states.Selection.the-variants.{Unselected, Selected}
 use Rattle.machine.specs.declared.states.Line.{Line}
+use Rattle.machine.specs.declared.states.Ticks.{Ticks}
 use Rattle.machine.specs.declared.states.Timers.{Timers}
 use Rattle.machine.specs.declared.states.Ages.{Ages}
 use Rattle.machine.specs.declared.mux.MuxStep.{MuxStep}
@@ -31,7 +32,7 @@ use Rattle.machine.specs.Ages.{forgottenAge, noSend, ages, aged, agesTicked, se
 use Rattle.machine.specs.Compare.{sameParty, sameView}
 use Rattle.machine.specs.Mux.{waits, waitTime}
 use Rattle.machine.specs.Periodic.{periodicTime}
-use Rattle.machine.specs.States.{timersCurrent, timersPeriodic, timersWait}
+use Rattle.machine.specs.States.{ticks, timersCurrent, timersPeriodic, timersWait}
 use Rattle.machine.specs.Time.{longTimeoutTime, slowPeriodicTime, aggregateWaitTime, timersFallen, timeoutTime}
 use Rattle.port.specs.declared.record.Own.{Own}
 use Rattle.port.specs.declared.record.Port.{Port}
@@ -67,18 +68,18 @@ ages-fit g e =
     (age-fits (g .first) (e₀ .0), age-fits (g .second) (e₁ .0), age-fits (g .third) (e₁ .1))
 
 -- a timer anew
-periodic-timer-ranged : (n : ℕ) (t : Timers) → leb n slowPeriodicTime ≡ true → timersInRange t ≡ true → timersInRange (timersPeriodic n t) ≡ true
+periodic-timer-ranged : (n : Ticks) (t : Timers) → leb (n .0) slowPeriodicTime ≡ true → timersInRange t ≡ true → timersInRange (timersPeriodic n t) ≡ true
 unfolding timersInRange
 periodic-timer-ranged n t h e =
     let a = both (leb (t .current .0) longTimeoutTime) _ e in
     let b = both (leb (t .periodic .0) slowPeriodicTime) _ (a .1) in
     both-true (a .0) (both-true h (b .1))
 
-currently-ranged : (n : ℕ) (t : Timers) → leb n longTimeoutTime ≡ true → timersInRange t ≡ true → timersInRange (timersCurrent n t) ≡ true
+currently-ranged : (n : Ticks) (t : Timers) → leb (n .0) longTimeoutTime ≡ true → timersInRange t ≡ true → timersInRange (timersCurrent n t) ≡ true
 unfolding timersInRange
 currently-ranged n t h e = both-true h (both (leb (t .current .0) longTimeoutTime) _ e .1)
 
-waiting-ranged : (n : ℕ) (t : Timers) → leb n aggregateWaitTime ≡ true → timersInRange t ≡ true → timersInRange (timersWait n t) ≡ true
+waiting-ranged : (n : Ticks) (t : Timers) → leb (n .0) aggregateWaitTime ≡ true → timersInRange t ≡ true → timersInRange (timersWait n t) ≡ true
 unfolding timersInRange
 waiting-ranged n t h e =
     let a = both (leb (t .current .0) longTimeoutTime) _ e in
@@ -119,17 +120,17 @@ sent-ages g e = by (eqb (g .first) noSend) (eqb (g .second) noSend)
     by false false = both-true (both (ageInRange (g .first)) _ e .0) (both (ageInRange (g .second)) _ (both (ageInRange (g .first)) _ e .1) .0)
 
 -- the times with which the machines start them
-periodic-time-le : (s : Periodic) → leb (periodicTime s) slowPeriodicTime ≡ true
+periodic-time-le : (s : Periodic) → leb (periodicTime s .0) slowPeriodicTime ≡ true
 periodic-time-le NoPeriodic = refl
 periodic-time-le FastPeriodic = refl
 periodic-time-le SlowPeriodic = refl
 periodic-time-le PeriodicTx = refl
 
-time-le : (b : Bool) → leb (timeoutTime b) longTimeoutTime ≡ true
+time-le : (b : Bool) → leb (timeoutTime b .0) longTimeoutTime ≡ true
 time-le true = refl
 time-le false = refl
 
-wait-time-le : (m : Mux) → leb (waitTime m) aggregateWaitTime ≡ true
+wait-time-le : (m : Mux) → leb (waitTime m .0) aggregateWaitTime ≡ true
 wait-time-le Detached = refl
 wait-time-le Waiting = refl
 wait-time-le Attached = refl
@@ -277,7 +278,7 @@ module _ (count : ℕ) where
       let r = ranged count p e in
       ranged-is count (portDisabled p) (record {
         aggregator = r .aggregator;
-        timers = currently-ranged 0 (p .timers) refl (r .timers);
+        timers = currently-ranged (ticks 0) (p .timers) refl (r .timers);
         ages = r .ages;
         own = r .own;
         partner = r .partner;
@@ -289,7 +290,7 @@ module _ (count : ℕ) where
       let r = ranged count p e in
       ranged-is count (expired p) (record {
         aggregator = r .aggregator;
-        timers = currently-ranged 30 (p .timers) refl (r .timers);
+        timers = currently-ranged (ticks 30) (p .timers) refl (r .timers);
         ages = r .ages;
         own = r .own;
         partner = r .partner;
@@ -301,7 +302,7 @@ module _ (count : ℕ) where
       let r = ranged count p e in
       ranged-is count (initialized p) (record {
         aggregator = r .aggregator;
-        timers = currently-ranged 0 (p .timers) refl (r .timers);
+        timers = currently-ranged (ticks 0) (p .timers) refl (r .timers);
         ages = r .ages;
         own = r .own;
         partner = default-fits (p .own) (r .own);
@@ -313,7 +314,7 @@ module _ (count : ℕ) where
       let r = ranged count p e in
       ranged-is count (lacpDisabled p) (record {
         aggregator = r .aggregator;
-        timers = currently-ranged 0 (p .timers) refl (r .timers);
+        timers = currently-ranged (ticks 0) (p .timers) refl (r .timers);
         ages = r .ages;
         own = r .own;
         partner = default-fits (p .own) (r .own);
@@ -343,7 +344,7 @@ module _ (count : ℕ) where
       let r = ranged count q (recorded-ranged _ (if-unselected (sameParty (p .own .default) (p .partner)) p e)) in
       ranged-is count (defaulted p) (record {
         aggregator = r .aggregator;
-        timers = currently-ranged 0 (q .timers) refl (r .timers);
+        timers = currently-ranged (ticks 0) (q .timers) refl (r .timers);
         ages = r .ages;
         own = r .own;
         partner = r .partner;
@@ -374,7 +375,7 @@ module _ (count : ℕ) where
       let r = ranged count p e in
       ranged-is count (moved p) (record {
         aggregator = r .aggregator;
-        timers = currently-ranged 0 (p .timers) refl (r .timers);
+        timers = currently-ranged (ticks 0) (p .timers) refl (r .timers);
         ages = r .ages;
         own = r .own;
         partner = default-fits (p .own) (r .own);

@@ -11,6 +11,7 @@ use Rattle.machine.specs.declared.states.Selection.the-variants.{Unselected, Se
 use Rattle.machine.specs.declared.receive.ReceiveStep.{ReceiveStep}
 use Rattle.machine.specs.declared.receive.ReceiveStep.the-variants.{Stay, Enter}
 use Rattle.machine.specs.Receive.{receiveNext}
+use Rattle.machine.specs.States.{ticks}
 use Rattle.machine.specs.Time.{ranOut}
 use Rattle.machine.specs.Bits.{withSynchronization, withTimeout}
 use Rattle.machine.specs.Compare.{party, sameParty, sameView}
@@ -130,7 +131,7 @@ run-enters p r e f = ap receiveStep (step-enters p r e) ∙ step-stays (receiveE
 -- everything but the receive state, its timer, Expired and the partner's Synchronization and Timeout
 abbrev pub besideReceive : Port → Port
 besideReceive p =
-    withReceive (withCurrent (expiredBit (withPartnerState p (withTimeout (withSynchronization (p .partner .state) false) false)) false) 0) Initialize
+    withReceive (withCurrent (expiredBit (withPartnerState p (withTimeout (withSynchronization (p .partner .state) false) false)) false) (ticks 0)) Initialize
 
 pub disabled-keeps : (p : Port) → besideReceive (portDisabled p) ≡ besideReceive p
 unfolding portDisabled

@@ -3,7 +3,6 @@
 use Prim.Native.Nat.{ℕ}
 use mathlib.Core.Path.{_≡_, refl, sym, ap, _∙_, subst}
 use mathlib.Core.Bool.{Bool, true, false, cond, not, _&&_, _||_, true≢false, false≢true}
-use lib.Dec.{eqb}
 use borrow.Author.Tests.{not-true}
 use Rattle.frame.specs.declared.block.Block.{Block}
 use Rattle.frame.specs.declared.block.SystemId.{SystemId}
@@ -235,7 +234,7 @@ recorded-line us a b true false p = refl
 recorded-line us a b false true p = refl
 recorded-line us a b false false p = refl
 
-runs : (b : Bool) → eqb (timeoutTime b) 0 ≡ false
+runs : (b : Bool) → ranOut (timeoutTime b) ≡ false
 runs true = refl
 runs false = refl
 

@@ -11,6 +11,7 @@ use Rattle.machine.specs.declared.states.Line.{Line}
 use Rattle.port.specs.declared.record.Port.{Port}
 use Rattle.machine.specs.declared.receive.ReceiveStep.{ReceiveStep}
 use Rattle.machine.specs.declared.receive.ReceiveStep.the-variants.{Stay, Enter}
+use Rattle.machine.specs.States.{ticks}
 use Rattle.machine.specs.Receive.{receiveNext}
 use Rattle.port.specs.Record.{withReceive, withSelected, withCurrent, withNtt, withActor, withPartner, withLine, actorBlock}
 use Rattle.machine.specs.Bits.{withTimeout, withAggregation, withSynchronization, withDefaulted, withExpired}
@@ -56,16 +57,16 @@ updateNtt us b p = cond (sameView b us) p (withNtt p true)
 
 -- INITIALIZE
 unfoldable pub initialized : Port → Port
-initialized p = withReceive (withCurrent (expiredBit (recordDefault (unselected p)) false) 0) Initialize
+initialized p = withReceive (withCurrent (expiredBit (recordDefault (unselected p)) false) (ticks 0)) Initialize
 
 -- PORT_DISABLED
 unfoldable pub portDisabled : Port → Port
-portDisabled p = withReceive (withCurrent (withPartnerState p (withSynchronization (p .partner .state) false)) 0) PortDisabled
+portDisabled p = withReceive (withCurrent (withPartnerState p (withSynchronization (p .partner .state) false)) (ticks 0)) PortDisabled
 
 -- EXPIRED
 unfoldable pub expired : Port → Port
 expired p =
-    withReceive (expiredBit (withCurrent (withPartnerState p (withTimeout (withSynchronization (p .partner .state) false) true)) shortTimeoutTime) true) Expired
+    withReceive (expiredBit (withCurrent (withPartnerState p (withTimeout (withSynchronization (p .partner .state) false) true)) (ticks shortTimeoutTime)) true) Expired
 
 withoutAggregation : Port → Port
 withoutAggregation p = withPartnerState p (withAggregation (p .partner .state) false)
@@ -73,11 +74,11 @@ withoutAggregation p = withPartnerState p (withAggregation (p .partner .state) f
 -- LACP_DISABLED
 unfoldable pub lacpDisabled : Port → Port
 unfolding withoutAggregation
-lacpDisabled p = withReceive (withCurrent (expiredBit (withoutAggregation (recordDefault (unselected p))) false) 0) LacpDisabled
+lacpDisabled p = withReceive (withCurrent (expiredBit (withoutAggregation (recordDefault (unselected p))) false) (ticks 0)) LacpDisabled
 
 -- DEFAULTED
 unfoldable pub defaulted : Port → Port
-defaulted p = withReceive (withCurrent (expiredBit (recordDefault (updateDefaultSelected p)) false) 0) Defaulted
+defaulted p = withReceive (withCurrent (expiredBit (recordDefault (updateDefaultSelected p)) false) (ticks 0)) Defaulted
 
 -- CURRENT: what it does with the LACPDU
 unfoldable pub pduRecorded : Block → Block → Block → Port → Port

@@ -10,6 +10,7 @@ use Rattle.machine.specs.declared.states.Mux.{Mux}
 use Rattle.machine.specs.declared.states.Selection.{Selection}
 use Rattle.machine.specs.declared.states.Phase.{Phase}
 use Rattle.machine.specs.declared.states.Line.{Line}
+use Rattle.machine.specs.declared.states.Ticks.{Ticks}
 use Rattle.machine.specs.declared.states.Timers.{Timers}
 use Rattle.machine.specs.declared.states.Ages.{Ages}
 use Rattle.machine.specs.States.{phaseReceive, phasePeriodic, phaseMux, phaseSelected, timersCurrent, timersPeriodic, timersWait}
@@ -62,14 +63,14 @@ withMux p m = withPhase p (phaseMux m (p .phase))
 abbrev pub withSelected : Port → Selection → Port
 withSelected p s = withPhase p (phaseSelected s (p .phase))
 
-abbrev pub withCurrent : Port → ℕ → Port
-withCurrent p n = withTimers p (timersCurrent n (p .timers))
+abbrev pub withCurrent : Port → Ticks → Port
+withCurrent p time = withTimers p (timersCurrent time (p .timers))
 
-abbrev pub withPeriodicTimer : Port → ℕ → Port
-withPeriodicTimer p n = withTimers p (timersPeriodic n (p .timers))
+abbrev pub withPeriodicTimer : Port → Ticks → Port
+withPeriodicTimer p time = withTimers p (timersPeriodic time (p .timers))
 
-abbrev pub withWait : Port → ℕ → Port
-withWait p n = withTimers p (timersWait n (p .timers))
+abbrev pub withWait : Port → Ticks → Port
+withWait p time = withTimers p (timersWait time (p .timers))
 
 -- ---- what an LACPDU says of the port itself (43.4.16 a to d): it is port `number` of its system
 

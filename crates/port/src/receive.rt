@@ -18,6 +18,7 @@ use machine::receive::timeout_time;
 use machine::states::Line;
 use machine::states::Receive;
 use machine::states::Selection;
+use machine::states::Ticks;
 
 // The block that gets recorded: the frame's or the default one, by the one step that is lent both.
 fn recorded_block(source: Source, pdu: &[u8], default: Block) -> Block
@@ -83,14 +84,14 @@ impl Port {
     {
         let mut p = self.with_selected(Selection::Unselected).record_default();
         p.actor.expired = false;
-        p.in_state(Receive::Initialize, 0)
+        p.in_state(Receive::Initialize, Ticks(0))
     }
 
     fn port_disabled(mut self) -> Self
         ensures { λ r. ⌜ r ≡ portDisabled self ⌝ }
     {
         self.partner.state.synchronization = false;
-        self.in_state(Receive::PortDisabled, 0)
+        self.in_state(Receive::PortDisabled, Ticks(0))
     }
 
     // EXPIRED: the learned partner survives, but for Synchronization and Timeout.
@@ -109,7 +110,7 @@ impl Port {
         let mut p = self.with_selected(Selection::Unselected).record_default();
         p.partner.state.aggregation = false;
         p.actor.expired = false;
-        p.in_state(Receive::LacpDisabled, 0)
+        p.in_state(Receive::LacpDisabled, Ticks(0))
     }
 
     // DEFAULTED: compares before it records.
@@ -119,7 +120,7 @@ impl Port {
         let default = self.own.default;
         let mut p = self.update_selected(default).record_default();
         p.actor.expired = false;
-        p.in_state(Receive::Defaulted, 0)
+        p.in_state(Receive::Defaulted, Ticks(0))
     }
 
     // CURRENT: compares before it records, so that a changed partner is seen. Our own Timeout bit sets the timer, not the partner's.

@@ -11,6 +11,7 @@ use machine::states::Line;
 use machine::states::Phase;
 use machine::states::Receive;
 use machine::states::Selection;
+use machine::states::Ticks;
 use machine::states::Timers;
 
 // The settings but for own Activity, Timeout and Aggregation, which are kept in the actor's state alone.
@@ -44,13 +45,13 @@ impl Port {
     }
 
     // In a state of the receive machine, with the current-while timer started, or stopped with 0.
-    pub fn in_state(mut self, receive: Receive, n: u16) -> Self
-        ensures { λ r. ⌜ r ≡ withReceive (withCurrent self n) receive ⌝ }
+    pub fn in_state(mut self, receive: Receive, time: Ticks) -> Self
+        ensures { λ r. ⌜ r ≡ withReceive (withCurrent self time) receive ⌝ }
     {
         let h = self.phase;
         let phase = h.with_receive(receive);
         let t = self.timers;
-        let timers = t.with_current(n);
+        let timers = t.with_current(time);
         self.phase = phase;
         self.timers = timers;
         self

@@ -39,8 +39,8 @@ fn codes_in_range(s: &[u8]) -> bool
 fn timers_in_range(timers: Timers) -> bool
     ensures { λ r. ⌜ r ≡ timersInRange timers ⌝ }
 {
-    (timers.current.0 <= LONG_TIMEOUT_TIME)
-        & ((timers.periodic.0 <= SLOW_PERIODIC_TIME) & (timers.wait.0 <= AGGREGATE_WAIT_TIME))
+    (timers.current.0 <= LONG_TIMEOUT_TIME.0)
+        & ((timers.periodic.0 <= SLOW_PERIODIC_TIME.0) & (timers.wait.0 <= AGGREGATE_WAIT_TIME.0))
 }
 
 // A send that is remembered, or none.

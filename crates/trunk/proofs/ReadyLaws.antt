@@ -13,6 +13,7 @@ use Rattle.octets.proofs.ListLaws.{below, doneTo, pointwise, done-length, done-
 use Rattle.machine.specs.declared.states.Mux.{Mux}
 use Rattle.machine.specs.declared.states.Mux.the-variants.{Detached, Waiting, Attached, Collecting, Distributing}
 use Rattle.machine.specs.declared.states.Selection.the-variants.{Unselected, Selected}
+use Rattle.machine.specs.States.{ticks}
 use Rattle.machine.specs.Mux.{waits}
 use Rattle.port.specs.declared.record.Port.{Port}
 use Rattle.port.specs.Record.{withAggregator, withWait, withMux, withSelected}
@@ -153,8 +154,8 @@ module _ (ps : List Port) (d : Port) where
 module _ (p : Port) where
   unchosen : List Port
   unchosen =
-      withAggregator (withWait (withMux (withSelected p Unselected) Waiting) 1) 1
-      ∷ (withAggregator (withWait (withMux (withSelected p Selected) Waiting) 0) 1 ∷ [])
+      withAggregator (withWait (withMux (withSelected p Unselected) Waiting) (ticks 1)) 1
+      ∷ (withAggregator (withWait (withMux (withSelected p Selected) Waiting) (ticks 0)) 1 ∷ [])
 
   not-ready : ready 1 unchosen ≡ false
   unfolding unchosen ready hasWaiting heldBack holdsBack waitsFor
