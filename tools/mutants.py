@@ -377,9 +377,9 @@ MUTANTS = [
         ("frame/src/state.rt", "weigh(self.defaulted, 64)", "weigh(self.aggregation, 64)"),
         ("frame/src/state.rt", "aggregation: o / 4 % 2", "aggregation: o / 64 % 2"),
         ("frame/src/state.rt", "defaulted: o / 64 % 2", "defaulted: o / 4 % 2"))),
-    Mutant("case 45, C5", "recordDefault that clears Defaulted", ("after-start", "after-link-up"), "port::record::Port::record_default", (
-        ("port/specs/Receive.antt", "(withPartner p (p .own .default)) (withDefaulted (p .actor) true)", "(withPartner p (p .own .default)) (withDefaulted (p .actor) false)"),
-        ("port/src/receive.rt", "self.actor.defaulted = true;", "self.actor.defaulted = false;"))),
+    Mutant("case 45, C5", "recordDefault that clears Defaulted", ("after-start", "after-link-up"), "port::receive::is_default", (
+        ("port/specs/Receive.antt", "isDefault Default = true", "isDefault Default = false"),
+        ("port/src/receive.rt", "Source::Default => true", "Source::Default => false"))),
     Mutant("case alone; case 4 and 6", "a wait of 19 ticks", ("alone-19", "joined-24"), "machine::states::Mux::wait_time", (
         ("machine/specs/Time.antt", "aggregateWaitTime = 20", "aggregateWaitTime = 19"),
         ("machine/src/entry.rt", "AGGREGATE_WAIT_TIME: Ticks = Ticks(20)", "AGGREGATE_WAIT_TIME: Ticks = Ticks(19)"))),

@@ -26,8 +26,8 @@ partnerPart l = part 38 53 l
 abbrev pub requestPart : List ℕ → List ℕ
 requestPart l = part 18 30 l
 
--- which of two blocks a recording takes (43.4.9, R18.3)
-abbrev pub applying : Source → List ℕ → List ℕ → List ℕ
+-- which of two blocks a recording takes (43.4.9, R18.3), be they octets or what they tell of
+abbrev pub applying : {A : Type 0} → Source → A → A → A
 applying Default pdu default = default
 applying Pdu pdu default = pdu
 

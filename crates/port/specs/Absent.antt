@@ -20,7 +20,7 @@ noAddress = record { high = 0; middle = 0; low = 0 }
 abbrev noState : PortState
 noState = state false false false false false false false false
 
-abbrev noBlock : Block
+abbrev pub noBlock : Block
 noBlock = record {
   system = record { priority = 0; address = noAddress };
   key = 0;

@@ -4,6 +4,9 @@ use mathlib.Core.Bool.{Bool, true, false, cond}
 use Rattle.frame.specs.declared.block.Block.{Block}
 use Rattle.frame.specs.declared.block.SystemId.{SystemId}
 use Rattle.frame.specs.declared.state.PortState.{PortState}
+use Rattle.frame.specs.declared.wire.Source.{Source}
+use Rattle.frame.specs.declared.wire.Source.the-variants.{Default, Pdu}
+use Rattle.frame.specs.Wire.{applying}
 use Rattle.machine.specs.declared.states.Receive.{Receive}
 use Rattle.machine.specs.declared.states.Receive.the-variants.{Initialize, PortDisabled, Expired, LacpDisabled, Defaulted, Current}
 use Rattle.machine.specs.declared.states.Selection.the-variants.{Unselected}
@@ -14,6 +17,7 @@ use Rattle.machine.specs.declared.receive.ReceiveStep.the-variants.{Stay, Enter
 use Rattle.machine.specs.States.{ticks}
 use Rattle.machine.specs.Receive.{receiveNext}
 use Rattle.port.specs.Record.{withReceive, withSelected, withCurrent, withNtt, withActor, withPartner, withLine, actorBlock}
+use Rattle.port.specs.Absent.{noBlock}
 use Rattle.machine.specs.Bits.{withTimeout, withAggregation, withSynchronization, withDefaulted, withExpired}
 use Rattle.machine.specs.Compare.{sameParty, sameView, inSync}
 use Rattle.machine.specs.Time.{ranOut, shortTimeoutTime, timeoutTime}
@@ -32,14 +36,22 @@ unselected p = withSelected p Unselected
 abbrev pub expiredBit : Port → Bool → Port
 expiredBit p b = withActor p (withExpired (p .actor) b)
 
--- 43.4.9 recordDefault
+-- Defaulted, by what is recorded
+abbrev pub isDefault : Source → Bool
+isDefault Default = true
+isDefault Pdu = false
+
+-- what 43.4.9 records: of the frame's block and the default one the one that applies, and by Defaulted which it was
+abbrev pub recorded : Source → Block → Block → Port → Port
+recorded source pdu default p = withActor (withPartner p (applying source pdu default)) (withDefaulted (p .actor) (isDefault source))
+
+-- 43.4.9 recordDefault; there is no frame's block
 unfoldable pub recordDefault : Port → Port
-recordDefault p = withActor (withPartner p (p .own .default)) (withDefaulted (p .actor) true)
+recordDefault p = recorded Default noBlock (p .own .default) p
 
 -- 43.4.9 recordPDU: `us` is what we say of ourselves, the frame says `a` of its sender and `b` of us
 unfoldable pub recordPdu : Block → Block → Block → Port → Port
-recordPdu us a b p =
-    withActor (withPartner p (withState a (withSynchronization (a .state) (inSync us a b)))) (withDefaulted (p .actor) false)
+recordPdu us a b p = recorded Pdu (withState a (withSynchronization (a .state) (inSync us a b))) (p .own .default) p
 
 -- 43.4.9 update_Selected
 unfoldable pub updateSelected : Block → Port → Port

@@ -3,8 +3,7 @@
 ghost use mathlib.Core.Path.{_≡_};
 ghost use lib.ListN.{length};
 ghost use Rattle.frame.specs.Block.{blockOf, blockOctets};
-ghost use Rattle.frame.specs.Wire.{applying};
-ghost use Rattle.port.specs.Receive.{recordDefault, recordPdu, updateSelected, updateNtt, initialized, portDisabled, expired, lacpDisabled, defaulted, current as Receive·current, receiveEntered, receiveChoice, receiveStep, receiveRun, moved, received, lined};
+ghost use Rattle.port.specs.Receive.{isDefault, recorded, recordDefault, recordPdu, updateSelected, updateNtt, initialized, portDisabled, expired, lacpDisabled, defaulted, current as Receive·current, receiveEntered, receiveChoice, receiveStep, receiveRun, moved, received, lined};
 use crate::record::Port;
 use frame::block::Block;
 use frame::block::SystemId;
@@ -20,41 +19,58 @@ use machine::states::Receive;
 use machine::states::Selection;
 use machine::states::Ticks;
 
-// The block that gets recorded: the frame's or the default one, by the one step that is lent both.
-fn recorded_block(source: Source, pdu: &[u8], default: Block) -> Block
-    requires { ⌜ length (now pdu) ≡ 15 ⌝ }
-    ensures { λ r. ⌜ r ≡ blockOf (applying source (now (pdu .entry)) (blockOctets default)) ⌝ }
+// Defaulted, by what is recorded.
+fn is_default(source: Source) -> bool
+    ensures { λ r. ⌜ r ≡ isDefault source ⌝ }
 {
-    let mut octets = [0u8; 15];
-    default.write(&mut octets);
-    Block::read(frame::wire::recorded(source, pdu, &octets))
+    match source {
+        Source::Default => true,
+        Source::Pdu => false,
+    }
 }
 
 impl Port {
-    // recordDefault: no frame is at hand, so 15 zeros are lent in its place.
-    fn record_default(mut self) -> Self
-        ensures { λ r. ⌜ r ≡ recordDefault self ⌝ }
+    // The default block as it is lent, in its 15 octets.
+    fn default_octets(self) -> [u8; 15]
+        ensures { λ r. ⌜ r ≡ blockOctets (self .own .default) ⌝ }
     {
-        let none = [0u8; 15];
         let default = self.own.default;
-        let block = recorded_block(Source::Default, &none, default);
+        let mut octets = [0u8; 15];
+        default.write(&mut octets);
+        octets
+    }
+
+    // Is lent the frame's block and the default one, and records the one that applies; Defaulted says which it was.
+    fn record<'a>(mut self, source: Source, pdu: &'a [u8], default: &'a [u8]) -> Self
+        requires { ⌜ (length (now pdu) ≡ 15) × (length (now default) ≡ 15) ⌝ }
+        ensures { λ r. ⌜ r ≡ recorded source (blockOf (now (pdu .entry))) (blockOf (now (default .entry))) self ⌝ }
+    {
+        let block = Block::read(frame::wire::recorded(source, pdu, default));
+        let defaulted = is_default(source);
         self.partner = block;
-        self.actor.defaulted = true;
+        self.actor.defaulted = defaulted;
         self
     }
 
+    // recordDefault: no frame is at hand, so 15 zeros are lent in its place.
+    fn record_default(self) -> Self
+        ensures { λ r. ⌜ r ≡ recordDefault self ⌝ }
+    {
+        let default = self.default_octets();
+        self.record(Source::Default, &[0u8; 15], &default)
+    }
+
     // recordPDU: the frame's actor block, in sync or not.
-    fn record_pdu(mut self, us: Block, actor: &[u8], b: Block) -> Self
+    fn record_pdu(self, us: Block, actor: &[u8], b: Block) -> Self
         requires { ⌜ length (now actor) ≡ 15 ⌝ }
         ensures { λ r. ⌜ r ≡ recordPdu us (blockOf (now (actor .entry))) b self ⌝ }
     {
-        let default = self.own.default;
-        let mut block = recorded_block(Source::Pdu, actor, default);
-        let sync = in_sync(us, block, b);
-        block.state.synchronization = sync;
-        self.partner = block;
-        self.actor.defaulted = false;
-        self
+        let default = self.default_octets();
+        let mut p = self.record(Source::Pdu, actor, &default);
+        let a = p.partner;
+        let sync = in_sync(us, a, b);
+        p.partner.state.synchronization = sync;
+        p
     }
 
     // update_Selected, with the block that is about to be recorded.
