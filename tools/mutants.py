@@ -349,9 +349,9 @@ MUTANTS = [
         ("settings/proofs/Settings/regroup/Proof.antt", "(c .before .has-grouping .ensures) ∙ (c .if1 .taken)", "(c .before .is-held .ensures) ∙ (c .if1 .taken)"),
         ("settings/proofs/Settings/regroup/Proof.antt", "c .before .before .has-grouping .ensures", "c .before .before .is-held .ensures"),
         ("settings/proofs/Settings/regroup/Proof.antt", "tie.spec has-grouping-requires returns", "tie.spec is-held-requires returns"))),
-    Mutant("16 the partner spoke", "recordDefault that clears Defaulted", ("unspoken",), "port::record::Port::record_default", (
-        ("port/specs/Receive.antt", "(withPartner p (p .own .default)) (withDefaulted (p .actor) true)", "(withPartner p (p .own .default)) (withDefaulted (p .actor) false)"),
-        ("port/src/receive.rt", "self.actor.defaulted = true;", "self.actor.defaulted = false;"))),
+    Mutant("16 the partner spoke", "recordDefault that says it recorded an LACPDU", ("unspoken",), "port::receive::is_default", (
+        ("port/specs/Receive.antt", "isDefault Default = true", "isDefault Default = false"),
+        ("port/src/receive.rt", "Source::Default => true", "Source::Default => false"))),
     Mutant("law update_NTT", "Timeout not compared", ("view-true",), "machine::compare::same_view", (
         ("machine/specs/Compare.antt", "&& (alike (x .state .timeout) (y .state .timeout) && alike (x .state .synchronization) (y .state .synchronization)))",
          "&& (alike (x .state .timeout) (x .state .timeout) && alike (x .state .synchronization) (y .state .synchronization)))"),
