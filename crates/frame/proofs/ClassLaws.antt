@@ -16,7 +16,7 @@ left-clear : (a b : Bool) → a || b ≡ false → a ≡ false
 left-clear true b e = e
 left-clear false b e = refl
 
-right-clear : (a b : Bool) → a || b ≡ false → b ≡ false
+pub right-clear : (a b : Bool) → a || b ≡ false → b ≡ false
 right-clear true true e = e
 right-clear true false e = refl
 right-clear false b e = e
