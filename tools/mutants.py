@@ -368,6 +368,27 @@ MUTANTS = [
         ("machine/specs/Periodic.antt", "periodicNext FastPeriodic false true short = Enter PeriodicTx", "periodicNext FastPeriodic false true short = Stay"),
         ("machine/src/periodic.rt", "        Periodic::FastPeriodic => {\n            if out {\n                return PeriodicStep::Enter(Periodic::PeriodicTx);",
          "        Periodic::FastPeriodic => {\n            if out {\n                return PeriodicStep::Stay;"))),
+    Mutant("law what a frame is", "the Slow Protocols of type 88-08", ("slow-true", "true-slow"), "frame::class::is_unknown", (
+        ("frame/specs/Class.antt", "slowType = 0x8809", "slowType = 0x8808"),
+        ("frame/src/class.rt", "SLOW_TYPE: u16 = 0x8809", "SLOW_TYPE: u16 = 0x8808"))),
+    Mutant("law what is not looked at", "the version of an LACPDU tested in the place of its third length", ("alike-class",), "frame::class::has_wrong_length", (
+        ("frame/specs/Class.antt", "eqb (octet l 57) 16", "eqb (octet l 15) 1"),
+        ("frame/src/class.rt", "(s[57] == 16)", "(s[15] == 1)"))),
+    Mutant("law what stands where", "an address with its last two octets first", ("block-rows", "lacpdu-rows"), "frame::block::Address::write", (
+        ("frame/specs/Block.antt", "record { high = numberAt l i; middle = numberAt l (i + 2); low = numberAt l (i + 4) }",
+         "record { low = numberAt l i; middle = numberAt l (i + 2); high = numberAt l (i + 4) }"),
+        ("frame/specs/Block.antt", "numberOctets (a .high) ++ (numberOctets (a .middle) ++ numberOctets (a .low))",
+         "numberOctets (a .low) ++ (numberOctets (a .middle) ++ numberOctets (a .high))"),
+        ("frame/src/block.rt", "            high: octets::number(s, at),", "            low: octets::number(s, at),"),
+        ("frame/src/block.rt", "            low: octets::number(s, at + 4),", "            high: octets::number(s, at + 4),"),
+        ("frame/src/block.rt", "high_octet(self.high),\n                octets::low_octet(self.high),", "high_octet(self.low),\n                octets::low_octet(self.low),"),
+        ("frame/src/block.rt", "octets::low_octet(self.middle),\n                octets::high_octet(self.low),\n                octets::low_octet(self.low),",
+         "octets::low_octet(self.middle),\n                octets::high_octet(self.high),\n                octets::low_octet(self.high),"))),
+    Mutant("law what stands where", "an LACPDU with a 1 in its reserved octet 53", ("lacpdu-rows",), "frame::wire::write_lacpdu", (
+        ("frame/specs/Wire.antt", "(blockOctets partner ++ (zeros 3\n", "(blockOctets partner ++ ((1 ∷ zeros 2)\n"),
+        ("frame/src/wire.rt", "octets::put(out, 53, &[0, 0, 0, 3, 16]);", "octets::put(out, 53, &[1, 0, 0, 3, 16]);"),
+        ("frame/proofs/wire/write_lacpdu/Proof.antt", "putAt 53 (0 ∷ 0 ∷ 0 ∷ 3", "putAt 53 (1 ∷ 0 ∷ 0 ∷ 3"),
+        ("frame/proofs/wire/write_lacpdu/Proof.antt", "pb ∷ (0 ∷ 0 ∷ 0 ∷ 3", "pb ∷ (1 ∷ 0 ∷ 0 ∷ 3"))),
     Mutant("case 07, 3F, 3D", "Aggregation and Defaulted exchanged", ("active-short", "in-trunk", "in-trunk-long"), "frame::state::PortState::octet", (
         ("frame/specs/State.antt", "weighed (s .aggregation) 4", "weighed (s .defaulted) 4"),
         ("frame/specs/State.antt", "weighed (s .defaulted) 64", "weighed (s .aggregation) 64"),
