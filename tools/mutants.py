@@ -331,7 +331,7 @@ MUTANTS = [
     Mutant("10 distributing is given", "a mux that never distributes", ("distributing", "carrying-trunk"), "machine::mux::next", (
         ("machine/specs/Mux.antt", "muxNext Collecting Selected ready true true = Enter Distributing", "muxNext Collecting Selected ready true true = Stay"),
         ("machine/src/mux.rt", "                        return MuxStep::Enter(Mux::Distributing);", "                        return MuxStep::Stay;"))),
-    Mutant("11 waiting for someone", "a port that waits until its own timer alone runs again", ("carrying-twice",), "", (
+    Mutant("11 waiting for someone", "Ready while a timer runs, and no longer when none does", ("waiting",), "", (
         ("trunk/specs/Ready.antt", "ready k ps = hasWaiting k ps && not (heldBack k ps)", "ready k ps = hasWaiting k ps && heldBack k ps"),)),
     Mutant("13 one aggregator", "a port that goes over without being detached", ("thinner",), "port::record::Port::detach", (
         ("port/specs/Mux.antt", "detached p = muxStep false (muxStep false (muxStep false (withSelected p Unselected)))",

@@ -1,6 +1,6 @@
 -- What a piece of work leaves is the octets of the header as it was and of the records that it names; the end of a call keeps their number
 -- and range. Assumes nothing.
-use Prim.Native.Nat.{ℕ, _<_, _≤_}
+use Prim.Native.Nat.{ℕ, _+_, _<_, _≤_}
 use mathlib.Core.Path.{_≡_, _∙_}
 use mathlib.Core.Bool.{true}
 use mathlib.Core.List.{List, map}
@@ -15,10 +15,13 @@ use borrow.Author.Tests.{lt-ltb}
 use Rattle.octets.specs.Octets.{fits}
 use Rattle.octets.proofs.RangeLaws.{both-true}
 use Rattle.frame.specs.Block.{blockFits}
+use Rattle.frame.proofs.RuleLaws.{LacpduRows, lacpdu-rows}
 use Rattle.port.specs.declared.record.Own.{Own}
 use Rattle.port.specs.Range.{ownFits}
+use Rattle.port.specs.Record.{actorBlock}
 use Rattle.port.proofs.record.Own.{the-type}
 use Rattle.table.specs.Layout.{mostPorts}
+use Rattle.table.specs.State.{State, portOf}
 use Rattle.table.specs.Table.{tableInRange, countIn}
 use Rattle.table.proofs.TableLaws.{in-range}
 use Rattle.octets.specs.Lists.{Each}
@@ -29,7 +32,7 @@ use Rattle.table.specs.declared.layout.Header.{Header}
 use Rattle.trunk.proofs.EachLaws.{Fits, settled-fits}
 use Rattle.trunk.proofs.SettledLaws.{settled-length}
 use Rattle.port.proofs.RangeLaws.{periodic-ranged}
-use Rattle.work.specs.Work.{worked}
+use Rattle.work.specs.Work.{worked, lacpduOf}
 
 -- a port of a table in range is one of the most that there are
 pub below-most : (t : List ℕ) → tableInRange t ≡ true → (i : ℕ) → i < countIn t → i < mostPorts
@@ -64,3 +67,10 @@ unfolding worked
 worked-fits count s ps n e =
     settled-fits count s (map periodicRun ps) (length-map ps periodicRun ∙ n)
     (each-map (Fits count) (Fits count) periodicRun ps (λ p h. periodic-ranged count p h) e)
+
+-- ---- R6.4: what a sent LACPDU says, row by row, the delay that was given at start among it
+
+pub sent-says : (s : State) (i : ℕ)
+    → LacpduRows (portOf s i .own .address) (actorBlock (s .common .system) (i + 1) (portOf s i)) (portOf s i .partner) (s .common .delay .0) (lacpduOf s i)
+unfolding lacpduOf
+sent-says s i = lacpdu-rows (portOf s i .own .address) (actorBlock (s .common .system) (i + 1) (portOf s i)) (portOf s i .partner) (s .common .delay)
