@@ -338,9 +338,8 @@ MUTANTS = [
          "detached p = muxStep false (muxStep false (muxStep false (withSelected p Selected)))"),
         ("port/src/mux.rt", "        self.with_selected(Selection::Unselected)\n            .mux_step(false)\n            .mux_step(false)",
          "        self.with_selected(Selection::Selected)\n            .mux_step(false)\n            .mux_step(false)"))),
-    Mutant("14 a moved partner is forgotten", "a displaced port that is left as it is", ("forgotten",), "trunk::displace::displace_one", (
-        ("trunk/specs/Displaced.antt", "cond (not (eqb i r) && isDisplaced a p) (moved p) p", "cond (not (eqb i i) && isDisplaced a p) (moved p) p"),
-        ("trunk/src/displace.rt", "if !(i == r) & is_displaced(p, a) {", "if !(i == i) & is_displaced(p, a) {"))),
+    Mutant("14 a moved partner is forgotten", "a displaced port that is left as it is", ("forgotten",), "", (
+        ("trunk/specs/Displaced.antt", "cond (not (eqb i r) && isDisplaced a p) (moved p) p", "cond (not (eqb i r) && isDisplaced a p) p p"),)),
     Mutant("15 thinner for a reason", "any other settings make a port UNSELECTED", ("still-carries",), "settings::Settings::regroup", (
         ("settings/specs/Settings.antt", "regrouped s p = cond (sameGrouping s p) p (unselected p)", "regrouped s p = cond (sameSettings s p) p (unselected p)"),
         ("settings/src/lib.rt", "        if self.has_grouping(p) {", "        if self.is_held(p) {"),
