@@ -23,7 +23,8 @@ use Rattle.machine.specs.Mux.{muxNext, waits, isAttached, distributes}
 use Rattle.port.specs.declared.record.Port.{Port}
 use Rattle.port.specs.Mux.{muxChoice}
 use Rattle.port.proofs.RangeLaws.{ranged}
-use Rattle.report.specs.Sets.{counted, member}
+use Rattle.report.specs.Sets.{counted}
+use Rattle.octets.specs.Sets.{member}
 use Rattle.table.specs.Record.{decoded}
 use Rattle.table.specs.Table.{countIn, portAt, ports}
 use Rattle.table.proofs.StoreLaws.{ports-length, ports-at}

@@ -8,7 +8,8 @@ use native.Mathlib.Omega.{arith}
 use lib.ListN.{length}
 use Rattle.port.specs.declared.record.Port.{Port}
 use Rattle.report.specs.declared.Role.the-variants.{Holds, Attached, Distributes}
-use Rattle.report.specs.Sets.{stands, setOf, setsOf, member}
+use Rattle.report.specs.Sets.{stands, setOf, setsOf}
+use Rattle.octets.specs.Sets.{member}
 use Rattle.report.proofs.SetLaws.{set-member, set-member-beyond, set-count, none-lowest, lowest-least}
 use Rattle.table.specs.Layout.{mostPorts}
 use Rattle.table.specs.Record.{decoded}

@@ -6,7 +6,8 @@ use mathlib.Core.Bool.{Bool, true, false, _&&_}
 use mathlib.Core.List.{List}
 use Rattle.machine.specs.Mux.{waits, isAttached, distributes}
 use Rattle.port.specs.declared.record.Port.{Port}
-use Rattle.report.specs.Sets.{counted, member}
+use Rattle.report.specs.Sets.{counted}
+use Rattle.octets.specs.Sets.{member}
 use Rattle.table.specs.Table.{countIn, portAt, ports}
 use Rattle.trunk.specs.Ready.{holdsBack}
 use Rattle.control.specs.Report.{aggregatorReport}

@@ -7,7 +7,8 @@ use lib.Dec.{eqb}
 use Rattle.machine.specs.Mux.{isAttached, distributes}
 use Rattle.port.specs.declared.record.Port.{Port}
 use Rattle.report.specs.declared.Sets.{Sets}
-use Rattle.report.specs.Sets.{counted, member}
+use Rattle.report.specs.Sets.{counted}
+use Rattle.octets.specs.Sets.{member}
 use Rattle.table.specs.Table.{countIn, ports, portAt}
 use Rattle.control.specs.declared.answer.Answer.the-variants.{Done}
 use Rattle.control.specs.Call.{report, aggregator}

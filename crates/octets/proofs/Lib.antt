@@ -2,3 +2,4 @@ pub mod Laws
 pub mod ListLaws
 pub mod OctetLists
 pub mod RangeLaws
+pub mod SetLaws

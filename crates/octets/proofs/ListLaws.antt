@@ -51,6 +51,24 @@ unfolding mapFrom
 sweep-keeps g f keeps i [] = refl
 sweep-keeps g f keeps i (x ∷ xs) = λ k. keeps i x k ∷ sweep-keeps g f keeps (i + 1) xs k
 
+-- two sweeps that do alike to each element
+pub sweep-alike : {A B : Type 0} (f g : ℕ → A → B) (i : ℕ) (xs : List A) → ((m : ℕ) (x : A) → i ≤ m → m < i + length xs → f m x ≡ g m x) → mapFrom f i xs ≡ mapFrom g i xs
+unfolding mapFrom
+sweep-alike f g i [] e = refl
+sweep-alike f g i (x ∷ xs) e = λ k. e i x (omega arith) (omega arith) k ∷ sweep-alike f g (i + 1) xs (λ m y a b. e m y (omega arith) (omega arith)) k
+
+-- one that changes no element
+pub sweep-same : {A : Type 0} (f : ℕ → A → A) (i : ℕ) (xs : List A) → ((m : ℕ) (x : A) → f m x ≡ x) → mapFrom f i xs ≡ xs
+unfolding mapFrom
+sweep-same f i [] e = refl
+sweep-same f i (x ∷ xs) e = λ k. e i x k ∷ sweep-same f (i + 1) xs e k
+
+-- one after the other
+pub sweep-sweep : {A B C : Type 0} (g : ℕ → B → C) (f : ℕ → A → B) (i : ℕ) (xs : List A) → mapFrom g i (mapFrom f i xs) ≡ mapFrom (λ m x. g m (f m x)) i xs
+unfolding mapFrom
+sweep-sweep {A} {B} {C} g f i [] = refl
+sweep-sweep {A} {B} {C} g f i (x ∷ xs) = ap (λ (l : List C). g i (f i x) ∷ l) (sweep-sweep g f (i + 1) xs)
+
 -- a sweep that does not look at the index is a map
 abbrev pub pointwise : {A B : Type 0} → (A → B) → ℕ → A → B
 pointwise g i x = g x
@@ -82,6 +100,14 @@ module _ {A : Type 0} (f : ℕ → A → A) (xs : List A) where
 
   pub done-none : (d : A) → doneTo f 0 xs ≡ xs
   done-none d = ext-getD d (doneTo f 0 xs) xs (done-length 0) (λ j h. done-at 0 j d (rw (done-length 0) at h) ∙ rw (le-ltb j 0 (omega arith)))
+
+  -- where f changes nothing below i, the first i turns did nothing
+  pub done-idle : (i : ℕ) → ((m : ℕ) (x : A) → m < i → f m x ≡ x) → doneTo f i xs ≡ xs
+  done-idle i e = sweep-same (below f i) 0 xs (λ m x. by m x (ltb m i) refl)
+    where
+      by : (m : ℕ) (x : A) (b : Bool) → ltb m i ≡ b → cond b (f m x) x ≡ x
+      by m x true h = e m x (ltb-true m i h)
+      by m x false h = refl
 
   -- one more turn
   pub done-more : (i : ℕ) (d : A) → i < length xs → set (doneTo f i xs) i (f i (getD xs i d)) ≡ doneTo f (i + 1) xs

@@ -5,6 +5,8 @@ ghost use Prim.Native.Nat.{_+_, _≤_, _<_};
 ghost use lib.ListN.{length};
 ghost use Rattle.octets.specs.Octets.{putAt, sameOctets, numberAt, numberOctets, high, low};
 
+pub mod sets;
+
 // Writes src over dst's octets from index `at` on; every other octet of dst stays.
 pub fn put(dst: &mut [u8], at: usize, src: &[u8])
     requires { ⌜ at + length (now src) ≤ length (now dst) ⌝ }

@@ -5,17 +5,19 @@ use mathlib.Core.Path.{_≡_, refl, sym, ap, ap₂, _∙_}
 use mathlib.Core.Bool.{Bool, true, false}
 use mathlib.Core.List.{List, [], _∷_}
 use native.Mathlib.Omega.{arith}
-use native.Mathlib.Nat.{pow-suc, div-one}
+use native.Mathlib.Nat.{pow-suc}
 use lib.Arith.{digits-div, digits-mod}
 use lib.Count.{ones, onesIn, ones-step, trailingZeros, trailing-of-zero}
 use lib.Dec.{eqb}
 use lib.ListN.{length, getD, drop, length-drop}
-use lib.Pow.{shr-shr, pow-mono}
+use lib.Pow.{pow-mono}
 use lib.Seq.{drop-cons, drop-length}
 use borrow.Author.Tests.{ne-eqb}
 use Rattle.frame.specs.State.{weighed}
 use Rattle.port.specs.declared.record.Port.{Port}
-use Rattle.report.specs.Sets.{setOf, lowestOf, counted, member}
+use Rattle.octets.specs.Sets.{member}
+use Rattle.octets.proofs.SetLaws.{member-low, member-half, none-member}
+use Rattle.report.specs.Sets.{setOf, lowestOf, counted}
 
 -- ---- the lowest bit of a set, and the half
 
@@ -36,16 +38,6 @@ module _ (f : Port → Bool) (p : Port) (ps : List Port) where
   unfolding setOf
   set-low = digits-mod (setOf f ps) (weight-less (f p))
 
-member-low : (x : ℕ) → member x 0 ≡ eqb (x % 2) 1
-unfolding member
-member-low x = ap (λ (y : ℕ). eqb (y % 2) 1) (div-one x)
-
-member-half : (x i : ℕ) → member x (suc i) ≡ member (x / 2) i
-unfolding member
-member-half x i =
-    let e : suc i ≡ 1 + i = omega arith in
-    ap (λ (j : ℕ). eqb (x / 2 ^ j % 2) 1) e ∙ ap (λ (y : ℕ). eqb (y % 2) 1) (sym (shr-shr x 1 i))
-
 -- ---- the bits of a set are the tests, and there are no more
 
 pub set-member : (f : Port → Bool) (ps : List Port) (i : ℕ) (d : Port) → i < length ps → member (setOf f ps) i ≡ f (getD ps i d)
@@ -53,10 +45,6 @@ set-member f [] i d h = absurd (omega arith)
 set-member f (p ∷ ps) zero d h = member-low (setOf f (p ∷ ps)) ∙ ap (λ (y : ℕ). eqb y 1) (set-low f p ps) ∙ weight-bit (f p)
 set-member f (p ∷ ps) (suc i) d h =
     member-half (setOf f (p ∷ ps)) i ∙ ap (λ (x : ℕ). member x i) (set-half f p ps) ∙ set-member f ps i d (omega arith)
-
-none-member : (i : ℕ) → member 0 i ≡ false
-none-member zero = member-low 0
-none-member (suc i) = member-half 0 i ∙ none-member i
 
 pub set-member-beyond : (f : Port → Bool) (ps : List Port) (i : ℕ) → length ps ≤ i → member (setOf f ps) i ≡ false
 unfolding setOf

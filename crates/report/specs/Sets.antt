@@ -1,5 +1,5 @@
 -- The aggregator report (R15.2 to R15.4): sets of ports, by how they stand to an aggregator.
-use Prim.Native.Nat.{ℕ, _+_, _*_, _/_, _%_, _^_}
+use Prim.Native.Nat.{ℕ, _+_, _*_}
 use mathlib.Core.Bool.{Bool, cond, _&&_}
 use mathlib.Core.List.{List, [], _∷_}
 use lib.Dec.{eqb}
@@ -42,7 +42,3 @@ setsOf k ps = record {
 unfoldable pub counted : (Port → Bool) → List Port → ℕ
 counted f [] = 0
 counted f (p ∷ ps) = weighed (f p) 1 + counted f ps
-
--- whether port i, from 0, is in a set: its bit
-unfoldable pub member : ℕ → ℕ → Bool
-member x i = eqb (x / 2 ^ i % 2) 1
