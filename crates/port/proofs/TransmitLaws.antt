@@ -1,6 +1,6 @@
 -- What a send, a tick and the clearing of NTT leave alone. Assumes nothing.
-use mathlib.Core.Path.{_≡_, refl}
-use mathlib.Core.Bool.{Bool, true, false, cond}
+use mathlib.Core.Path.{_≡_, refl, sym, ap}
+use mathlib.Core.Bool.{Bool, true, false, cond, _&&_, true≢false}
 use Rattle.machine.specs.Ages.{noSend, ages}
 use Rattle.machine.specs.States.{timers, ticks}
 use Rattle.port.specs.declared.record.Port.{Port}
@@ -40,3 +40,13 @@ if-twice false p e = rw e
 pub cleared-twice : (p : Port) → nttCleared (nttCleared p) ≡ nttCleared p
 unfolding nttCleared
 cleared-twice p = if-twice (silent p) p refl
+
+-- where there is no NTT to be cleared, nothing is
+pub cleared-idle : (p : Port) → p .ntt && silent p ≡ false → nttCleared p ≡ p
+unfolding nttCleared
+cleared-idle p e = by (p .ntt) (silent p) refl e
+  where
+    by : (n s : Bool) → p .ntt ≡ n → n && s ≡ false → cond s (withNtt p false) p ≡ p
+    by n false x h = refl
+    by false true x h = ap (withNtt p) (sym x)
+    by true true x h = absurd (true≢false h)

@@ -1,6 +1,8 @@
 // The Mux machine on a record (43.4.15).
 ghost use mathlib.Core.Path.{_≡_};
+ghost use mathlib.Core.Bool.{true};
 ghost use Rattle.port.specs.Mux.{muxEntered, muxChoice, muxStep, detached, placed, attachedIf, muxRun};
+ghost use Rattle.port.specs.Transmit.{nttCleared};
 use crate::record::Port;
 use machine::mux::MuxStep;
 use machine::states::Mux;
@@ -77,6 +79,25 @@ impl Port {
         } else {
             self
         }
+    }
+
+    // No step applies.
+    fn rests_mux(self) -> bool
+        ensures { λ r. ⌜ (r ≡ true → muxRun self ≡ self) ⌝ }
+    {
+        match self.mux_choice(false) {
+            MuxStep::Stay => true,
+            MuxStep::Enter(_) => false,
+        }
+    }
+
+    // Step 6 leaves the record as it is: no step applies, and there is no NTT to be cleared.
+    pub fn is_settled(self) -> bool
+        ensures { λ r. ⌜ (r ≡ true → nttCleared (muxRun self) ≡ self) ⌝ }
+    {
+        let line = self.line;
+        let passive = !self.actor.activity & !self.partner.state.activity;
+        self.rests_mux() & !(self.ntt & line.is_silent(passive))
     }
 
     // Step 6: up or down as the partner's bits say, to where the machine rests, which is mostly where it is.

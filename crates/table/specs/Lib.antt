@@ -5,3 +5,4 @@ pub mod Range
 pub mod State
 pub mod Table
 pub mod Leaves
+pub mod Keys

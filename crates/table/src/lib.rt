@@ -5,7 +5,9 @@ ghost use Prim.Native.Nat.{_+_, _≤_};
 ghost use mathlib.Core.Bool.{true};
 ghost use lib.ListN.{length, replicate};
 ghost use Rattle.octets.specs.Octets.{putAt};
+ghost use Rattle.table.specs.Keys.{comparedBy};
 ghost use Rattle.table.specs.Layout.{place, tableSize, recordSize};
+ghost use Rattle.port.specs.Compared.{compared};
 ghost use Rattle.port.specs.Range.{portInRange};
 ghost use Rattle.table.specs.Record.{encoded};
 ghost use Rattle.table.specs.Table.{countIn, portAt, recordAt, firstInRange, tableInRange, isRoom, InTable};
@@ -18,7 +20,9 @@ use crate::layout::place_of;
 use crate::layout::write_header;
 use crate::range::is_record;
 use crate::range::within;
+use crate::record::Keys;
 use crate::record::aggregator_in;
+use crate::record::keys_in;
 use crate::record::ntt_in;
 use crate::record::phase_in;
 use crate::record::read_record;
@@ -80,6 +84,14 @@ pub fn ntt(table: &[u8], i: usize) -> bool
     ensures { λ r. ⌜ r ≡ portAt (now (table .entry)) i .ntt ⌝ }
 {
     ntt_in(record_at(table, i))
+}
+
+// What the selection rule compares of port `i`, from 0.
+pub fn keys(table: &[u8], i: usize) -> Keys
+    requires { ⌜ InTable (now table) i ⌝ }
+    ensures { λ r. ⌜ comparedBy r ≡ compared (portAt (now (table .entry)) i) ⌝ }
+{
+    keys_in(record_at(table, i))
 }
 
 // The timers of port `i`, from 0.

@@ -2,8 +2,11 @@
 ghost use mathlib.Core.Path.{_≡_};
 ghost use lib.ListN.{length, getD};
 ghost use Rattle.octets.specs.Octets.{putAt};
+ghost use Rattle.frame.specs.State.{portStateOf};
 ghost use Rattle.port.specs.Absent.{noPort};
+ghost use Rattle.port.specs.Compared.{compared};
 ghost use Rattle.table.specs.Codes.{flagOf};
+ghost use Rattle.table.specs.Keys.{comparedBy};
 ghost use Rattle.table.specs.Layout.{recordSize};
 ghost use Rattle.table.specs.Record.{phaseOctets, phaseIn, statusOctets, lineIn, timersOctets, timersIn, agesOctets, agesIn, ownOctets, ownIn, encoded, decoded};
 use crate::codes::flag_octet;
@@ -19,6 +22,7 @@ use crate::codes::selected_of;
 use crate::layout::RECORD;
 use frame::block::Address;
 use frame::block::Block;
+use frame::block::SystemId;
 use frame::state::PortState;
 use machine::states::Ages;
 use machine::states::Line;
@@ -27,6 +31,45 @@ use machine::states::Ticks;
 use machine::states::Timers;
 use port::record::Own;
 use port::record::Port;
+
+// What the selection rule compares (R10): own key and Aggregation, and the partner's system, key and Aggregation.
+pub struct Keys {
+    pub key: u16,
+    pub aggregation: bool,
+    pub system: SystemId,
+    pub theirs: u16,
+    pub willing: bool,
+}
+
+// Aggregation in a state octet.
+fn aggregation_of(o: u8) -> bool
+    ensures { λ r. ⌜ r ≡ portStateOf o .aggregation ⌝ }
+{
+    o / 4 % 2 == 1
+}
+
+// They are in octets 8, 23 and 24, and in the partner block, 42 to 56.
+pub(crate) fn keys_in(s: &[u8]) -> Keys
+    requires { ⌜ length (now s) ≡ recordSize ⌝ }
+    ensures { λ r. ⌜ comparedBy r ≡ compared (decoded (now (s .entry))) ⌝ }
+{
+    let key = octets::number(s, 23);
+    let aggregation = aggregation_of(s[8]);
+    let partner = &s[42..57];
+    let system = SystemId {
+        priority: octets::number(partner, 0),
+        address: Address::read(partner, 2),
+    };
+    let theirs = octets::number(partner, 8);
+    let willing = aggregation_of(partner[14]);
+    Keys {
+        key,
+        aggregation,
+        system,
+        theirs,
+        willing,
+    }
+}
 
 // Writes octets 0 to 3: receive state, periodic state, mux state, Selected.
 fn write_phase(phase: Phase, out: &mut [u8])
