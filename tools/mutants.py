@@ -240,7 +240,7 @@ MUTANTS = [
         ("control/specs/After.antt", "outgoing c t = unless (answer c t) (bufferOf c) (writtenBy c t)", "outgoing c t = unless (answer c t) [] (writtenBy c t)"),)),
     Mutant("1 the rule afresh", "bystanders forgotten", ("rule-afresh",), "trunk::select::must_move", (
         ("trunk/specs/Settled.antt", "|| not (eqb (p .aggregator) k)", "|| not (eqb (p .aggregator) (p .aggregator))"),
-        ("trunk/src/select.rt", "is_unselected(s) | !(p.aggregator == k)", "is_unselected(s) | !(p.aggregator == p.aggregator)"))),
+        ("trunk/src/select.rt", "is_unselected(s) | !(held == k)", "is_unselected(s) | !(held == held)"))),
     Mutant("2 distributing is earned", "DISTRIBUTING without a partner that collects", ("distributing-earned",), "machine::mux::next", (
         ("machine/specs/Mux.antt", "muxNext Distributing Selected ready true false = Enter Collecting", "muxNext Distributing Selected ready true false = Stay"),
         ("machine/src/mux.rt", "                    return MuxStep::Enter(Mux::Collecting);\n                }\n                MuxStep::Enter(Mux::Collecting)",
@@ -255,7 +255,7 @@ MUTANTS = [
         ("machine/src/entry.rt", "            Mux::Distributing => {\n                s.distributing = true;", "            Mux::Distributing => {\n                s.distributing = false;"))),
     Mutant("2 one group", "own keys not compared", ("two-groups",), "trunk::select::same_group", (
         ("trunk/specs/Selection.antt", "sameKeys c d = eqb (c .key) (d .key) &&", "sameKeys c d = eqb (c .key) (c .key) &&"),
-        ("trunk/src/select.rt", "(p.own.key == q.own.key)", "(p.own.key == p.own.key)"))),
+        ("trunk/src/select.rt", "(c.key == d.key)", "(c.key == c.key)"))),
     Mutant("3 locality", "SLOW_PERIODIC that never rests, so that each call moves every port's pace", ("locality-received", "locality-fallen"),
            "machine::periodic::next", (
         ("machine/specs/Periodic.antt", "periodicNext SlowPeriodic false false false = Stay", "periodicNext SlowPeriodic false false false = Enter NoPeriodic"),
@@ -269,9 +269,8 @@ MUTANTS = [
     Mutant("3 locality", "every call ages every port", ("locality-received", "locality-fallen"), "", (
         ("work/specs/Work.antt", "worked h ps = settled h (map periodicRun ps)",
          "worked h ps = settled h (map (λ (p : Port). periodicRun (Rattle.port.specs.Transmit.ticked p)) ps)"),)),
-    Mutant("3 a group's own timers", "a Ready that another group's timer holds back", ("distributing",), "trunk::ready::holds_back", (
-        ("trunk/specs/Ready.antt", "waitsFor k p = eqb (p .aggregator) k &&", "waitsFor k p = eqb (p .aggregator) (p .aggregator) &&"),
-        ("trunk/src/ready.rt", "((held == k) & m.waits())", "((held == held) & m.waits())"))),
+    Mutant("3 a group's own timers", "a Ready that another group's timer holds back", ("distributing",), "", (
+        ("trunk/specs/Ready.antt", "waitsFor k p = eqb (p .aggregator) k &&", "waitsFor k p = eqb (p .aggregator) (p .aggregator) &&"),)),
     Mutant("4 at rest", "PERIODIC_TX that leads to NO_PERIODIC", ("at-rest",), "machine::periodic::next", (
         ("machine/specs/Periodic.antt", "periodicNext PeriodicTx false out true = Enter FastPeriodic", "periodicNext PeriodicTx false out true = Enter NoPeriodic"),
         ("machine/src/periodic.rt", "                return PeriodicStep::Enter(Periodic::FastPeriodic);", "                return PeriodicStep::Enter(Periodic::NoPeriodic);"))),
@@ -407,11 +406,10 @@ MUTANTS = [
         ("trunk/specs/Settled.antt", "attachedAll ps = map (attaching ps) ps", "attachedAll ps = map (λ p. attachedIf (eqb (p .timers .wait .0) 0) p) ps"),)),
     Mutant("case 3, 5 and 2", "a partner that aggregates taken for individual", ("sharing", "learned"), "trunk::select::is_individual", (
         ("trunk/specs/Selection.antt", "not (c .partnerAggregation)", "c .partnerAggregation"),
-        ("trunk/src/select.rt", "(!partner.state.aggregation | same_system(system, us))", "(partner.state.aggregation | same_system(system, us))"),
-        ("trunk/proofs/select/is_individual/Proof.antt", "c .same-system .ensures", "c .before .same-system .ensures"))),
+        ("trunk/src/select.rt", "(!c.willing | same_system(system, us))", "(c.willing | same_system(system, us))"))),
     Mutant("case 2, 4 and 3, 5", "partner systems not compared", ("parted", "gone-over"), "trunk::select::same_group", (
         ("trunk/specs/Selection.antt", "(sameSystem (c .system) (d .system) &&", "(sameSystem (c .system) (c .system) &&"),
-        ("trunk/src/select.rt", "(same_system(s, t) & (a.key == b.key))", "(same_system(s, s) & (a.key == b.key))"))),
+        ("trunk/src/select.rt", "(same_system(s, t) & (c.theirs == d.theirs))", "(same_system(s, s) & (c.theirs == d.theirs))"))),
     Mutant("case silence", "a long timeout of 899 ticks", ("silence",), "machine::receive::timeout_time", (
         ("machine/specs/Time.antt", "longTimeoutTime = 900", "longTimeoutTime = 899"), ("machine/src/receive.rt", "LONG_TIMEOUT_TIME: Ticks = Ticks(900)", "LONG_TIMEOUT_TIME: Ticks = Ticks(899)"))),
     Mutant("case silence", "EXPIRED for 29 ticks", ("silence",), "machine::receive::timeout_time", (

@@ -175,7 +175,7 @@ module _ (ours : Header) (cs : List Compared) where
       by false q = ltb-false k (lowest ours cs i) q
 
   -- a group has one
-  lowest-shared : (i j : ℕ) → sharesGroup ours cs i j ≡ true → lowest ours cs i ≡ lowest ours cs j
+  pub lowest-shared : (i j : ℕ) → sharesGroup ours cs i j ≡ true → lowest ours cs i ≡ lowest ours cs j
   lowest-shared i j e =
       let a = lowest ours cs i in
       let b = lowest ours cs j in

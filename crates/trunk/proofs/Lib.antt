@@ -14,3 +14,4 @@ pub mod RestingLaws
 pub mod DependLaws
 pub mod MoveLaws
 pub mod RuleLaws
+pub mod GroupSets

@@ -1,38 +1,25 @@
--- What the loops of steps 5 and 6 need: every port is SELECTED after step 4, and Ready reads the same in the partly attached table. Assumes nothing.
-use Prim.Native.Nat.{ℕ, suc, _<_}
+-- What steps 5 and 6 need: every port is SELECTED after step 4, and one that waits attaches unless its aggregator is held back. Assumes nothing.
+use Prim.Native.Nat.{ℕ, _<_}
 use mathlib.Core.Path.{_≡_, refl, sym, ap, _∙_}
 use mathlib.Core.Bool.{Bool, true, false, not, _&&_, false≢true, true≢false}
 use mathlib.Core.List.{List}
 use lib.ListN.{length, getD, drop}
-use lib.Seq.{drop-cons, drop-length}
-use Rattle.octets.proofs.ListLaws.{doneTo, pointwise}
+use lib.Seq.{drop-length}
 use Rattle.machine.specs.Mux.{waits}
 use Rattle.port.specs.declared.record.Port.{Port}
 use Rattle.port.specs.Mux.{attachedIf}
 use Rattle.table.specs.declared.layout.Header.{Header}
-use Rattle.table.specs.Table.{countIn, ports, portAt}
-use Rattle.table.proofs.StoreLaws.{ports-length, ports-at}
-use Rattle.trunk.specs.Ready.{hasWaiting, holdsBack, heldBack, ready}
+use Rattle.trunk.specs.Ready.{hasWaiting, heldBack, ready}
 use Rattle.trunk.specs.Settled.{selectedAll, attaching, Chosen, AllChosen}
-use Rattle.table.specs.Leaves.{Leaves}
-use Rattle.trunk.proofs.TableWork.{next-is}
 use Rattle.trunk.proofs.SettledLaws.{selected-chosen, selected-length}
-use Rattle.trunk.proofs.ReadyLaws.{attached-other, attached-stays, some-waits, waits-own, ready-meanwhile}
+use Rattle.trunk.proofs.ReadyLaws.{attached-other, attached-stays, some-waits, waits-own}
 
 -- ---- every port is SELECTED after step 4
 
 pub all-chosen : (ours : Header) (ps : List Port) → AllChosen (selectedAll ours ps)
 all-chosen ours ps i d h = selected-chosen ours ps i d (rw (selected-length ours ps) at h)
 
--- ---- is somebody held back: one record at a time
-
-pub held-here : (k : ℕ) (ps : List Port) (i : ℕ) (d : Port) → i < length ps → holdsBack k (getD ps i d) ≡ true → heldBack k (drop i ps) ≡ true
-unfolding heldBack
-held-here k ps i d h e = rw (drop-cons ps i d h, e)
-
-pub held-further : (k : ℕ) (ps : List Port) (i : ℕ) (d : Port) → i < length ps → holdsBack k (getD ps i d) ≡ false → heldBack k (drop i ps) ≡ heldBack k (drop (suc i) ps)
-unfolding heldBack
-held-further k ps i d h e = rw (drop-cons ps i d h, e)
+-- ---- nobody is held back where there is no record
 
 pub held-none : (k : ℕ) (ps : List Port) (n : ℕ) → length ps ≡ n → heldBack k (drop n ps) ≡ false
 unfolding heldBack
@@ -76,32 +63,3 @@ attach-held ps i d h s e = by (waits (getD ps i d .phase .mux)) (heldBack (getD 
     by false b w x e = attached-other _ (getD ps i d) w
     by true true w x e = sym (attach-ready ps i d h) ∙ ap (λ (b : Bool). attachedIf (not b) (getD ps i d)) x ∙ attached-stays (getD ps i d) w s
     by true false w x e = absurd (true≢false e)
-
--- in the partly attached table, port i is still SELECTED
-pub still-chosen : {t u : List ℕ} (i : ℕ) → AllChosen (ports t) → Leaves t u (doneTo (pointwise (attaching (ports t))) i (ports t)) → i < countIn t
-    → Chosen (portAt u i)
-still-chosen {t} {u} i chosen so-far h =
-    let here : getD (ports t) i (portAt t i) ≡ portAt t i = ports-at t i (portAt t i) h in
-    rw (next-is (pointwise (attaching (ports t))) i so-far h) (rw here at (chosen i (portAt t i) (rw ports-length h)))
-
--- in the partly attached table, the step of port i is what it was in the whole
-pub attach-same : {t u : List ℕ} (i : ℕ) → AllChosen (ports t) → Leaves t u (doneTo (pointwise (attaching (ports t))) i (ports t)) → i < countIn t
-    → attaching (ports u) (portAt u i) ≡ attaching (ports t) (portAt t i)
-attach-same {t} {u} i chosen so-far h =
-    ap (attaching (ports u)) (next-is (pointwise (attaching (ports t))) i so-far h) ∙ by (waits (p .phase .mux)) refl
-  where
-    p : Port
-    p = portAt t i
-
-    ps : List Port
-    ps = ports t
-
-    here : getD ps i p ≡ p
-    here = ports-at t i p h
-
-    by : (w : Bool) → waits (p .phase .mux) ≡ w → attaching (ports u) p ≡ attaching (ports t) p
-    by false e = attached-other _ p e ∙ sym (attached-other _ p e)
-    by true e =
-        ap (λ (l : List Port). attachedIf (ready (p .aggregator) l) p) (so-far .records)
-        ∙ ap (λ (b : Bool). attachedIf b p)
-        (rw here at (ready-meanwhile ps p (λ j k. chosen j p k) i (rw ports-length h) (rw here e)))

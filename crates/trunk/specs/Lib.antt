@@ -3,3 +3,4 @@ pub mod Ready
 pub mod Settled
 pub mod Displaced
 pub mod Sweep
+pub mod Groups

@@ -1,87 +1,119 @@
-// The selection rule (43.4.14), and steps 3 and 4.
+// The selection rule (43.4.14) by sets of ports, and steps 3 and 4. Groups are worked out from what the rule compares, each once; a whole
+// record is loaded for a port that moves, and for no other.
 ghost use mathlib.Core.Path.{_≡_};
-ghost use mathlib.Core.Bool.{true};
+ghost use mathlib.Core.Bool.{true, false};
 ghost use mathlib.Core.List.{map};
-ghost use Prim.Native.Nat.{_≤_};
+ghost use Prim.Native.Nat.{ℕ, _<_};
+ghost use Rattle.octets.specs.Lists.{mapFrom};
+ghost use Rattle.octets.specs.Octets.{within};
+ghost use Rattle.octets.specs.Sets.{member};
 ghost use Rattle.port.specs.Compared.{compared};
-ghost use Rattle.table.specs.Table.{tableInRange, InTable, ports, portAt};
-ghost use Rattle.trunk.specs.Selection.{individual, sameGroup, lowest as Selection·lowest};
-ghost use Rattle.trunk.specs.Settled.{mustMove, selecting, selectedAll};
+ghost use Rattle.table.specs.Keys.{comparedBy};
+ghost use Rattle.table.specs.Table.{tableInRange, InTable, countIn, ports, portAt};
+ghost use Rattle.trunk.specs.Selection.{individual, sameGroup};
+ghost use Rattle.trunk.specs.Settled.{mustMove, reselected, selectedAll};
+ghost use Rattle.trunk.specs.Groups.{since, placing};
 ghost use Rattle.table.specs.Leaves.{Leaves, Became};
 use machine::compare::same_system;
 use machine::mux::is_unselected;
-use port::record::Port;
+use octets::sets;
 use table::layout::Header;
+use table::record::Keys;
 
 // Own or partner's Aggregation clear, or the partner is our own system.
-fn is_individual(p: Port, ours: Header) -> bool
-    ensures { λ r. ⌜ r ≡ individual ours (compared p) ⌝ }
+fn is_individual(c: Keys, ours: Header) -> bool
+    ensures { λ r. ⌜ r ≡ individual ours (comparedBy c) ⌝ }
 {
-    let partner = p.partner;
-    let system = partner.system;
+    let system = c.system;
     let us = ours.system;
-    !p.actor.aggregation | (!partner.state.aggregation | same_system(system, us))
+    !c.aggregation | (!c.willing | same_system(system, us))
 }
 
 // Whether two ports, not one and the same, are in one group (R10.2).
-fn same_group(p: Port, q: Port, ours: Header) -> bool
-    ensures { λ r. ⌜ r ≡ sameGroup ours (compared p) (compared q) ⌝ }
+fn same_group(c: Keys, d: Keys, ours: Header) -> bool
+    ensures { λ r. ⌜ r ≡ sameGroup ours (comparedBy c) (comparedBy d) ⌝ }
 {
-    let a = p.partner;
-    let b = q.partner;
-    let s = a.system;
-    let t = b.system;
-    let keys = (p.own.key == q.own.key) & (same_system(s, t) & (a.key == b.key));
-    !is_individual(p, ours) & (!is_individual(q, ours) & keys)
+    let s = c.system;
+    let t = d.system;
+    let keys = (c.key == d.key) & (same_system(s, t) & (c.theirs == d.theirs));
+    !is_individual(c, ours) & (!is_individual(d, ours) & keys)
 }
 
-// The lowest-numbered port of port i's group, from 0; p is the record of port i.
-fn lowest(table: &[u8], i: usize, p: Port, ours: Header) -> usize
-    requires { ⌜ InTable (now table) i × (p ≡ portAt (now table) i) ⌝ }
-    ensures { λ r. ⌜ (r ≡ Selection·lowest ours (map compared (ports (now (table .entry)))) i) × (r ≤ i) ⌝ }
+// Port i and the later ports of its group. An individual port has none.
+fn group_of(table: &[u8], i: usize, ours: Header) -> u32
+    requires { ⌜ InTable (now table) i ⌝ }
+    ensures { λ r. ⌜ ((m : ℕ) → member r m ≡ since ours (map compared (ports (now (table .entry)))) i m) ⌝ }
 {
-    let mut j: usize = 0;
-    while j < i {
-        if same_group(p, table::load(table, j), ours) {
-            return j;
-        }
+    let n = table::count(table);
+    let c = table::keys(table, i);
+    let mut set = sets::with(0, i);
+    if is_individual(c, ours) {
+        return set;
+    }
+    let mut j = i + 1;
+    while j < n {
+        set = sets::with_if(set, j, same_group(c, table::keys(table, j), ours));
         j += 1;
     }
-    i
+    set
 }
 
-// UNSELECTED, or k is not what it holds.
-fn must_move(p: Port, k: u8) -> bool
-    ensures { λ r. ⌜ r ≡ mustMove k p ⌝ }
-{
-    let h = p.phase;
-    let s = h.selected;
-    is_unselected(s) | !(p.aggregator == k)
-}
-
-// Steps 3 and 4 for port i: the rule afresh. A port that must move goes state by state down to DETACHED, and only then to the
-// rule's aggregator; one that need not is left alone.
-fn select_one(table: &mut [u8], i: usize, ours: Header)
+// UNSELECTED, or k is not what port i holds.
+fn must_move(table: &[u8], i: usize, k: u8) -> bool
     requires { ⌜ InTable (now table) i ⌝ }
-    ensures { λ _. ⌜ Became (now (table .entry)) (now (table .exit)) i (selecting ours (ports (now (table .entry))) i (portAt (now (table .entry)) i)) ⌝ }
+    ensures { λ r. ⌜ r ≡ mustMove k (portAt (now (table .entry)) i) ⌝ }
 {
-    let p = table::load(table, i);
-    let k = (lowest(table, i, p, ours) + 1) as u8;
-    if must_move(p, k) {
+    let h = table::phase(table, i);
+    let s = h.selected;
+    let held = table::aggregator(table, i);
+    is_unselected(s) | !(held == k)
+}
+
+// Steps 3 and 4 for port i, which is to hold aggregator k. A port that must move goes state by state down to DETACHED, and only then to
+// k; one that need not is left alone.
+fn select_one(table: &mut [u8], i: usize, k: u8)
+    requires { ⌜ InTable (now table) i × (within 1 k (countIn (now table)) ≡ true) ⌝ }
+    ensures { λ _. ⌜ Became (now (table .entry)) (now (table .exit)) i (reselected k (portAt (now (table .entry)) i)) ⌝ }
+{
+    if must_move(table, i, k) {
+        let p = table::load(table, i);
         let q = p.detach().place(k);
         table::store(table, i, q);
     }
 }
 
-// Steps 3 and 4 for all ports.
+// Steps 3 and 4 for the ports of a set, none of which is before port i: they are to hold its aggregator.
+fn select_set(table: &mut [u8], set: u32, i: usize)
+    requires { ⌜ InTable (now table) i × ((m : ℕ) → m < i → member set m ≡ false) ⌝ }
+    ensures { λ _. ⌜ Leaves (now (table .entry)) (now (table .exit)) (mapFrom (placing set i) 0 (ports (now (table .entry)))) ⌝ }
+{
+    let n = table::count(table);
+    let k = (i + 1) as u8;
+    let mut j = i;
+    while j < n {
+        let at = j;
+        j += 1;
+        if sets::has(set, at) {
+            select_one(table, at, k);
+        }
+    }
+}
+
+// Steps 3 and 4 for all ports: the lowest port that no set has yet gives its aggregator to its group.
 pub fn select_all(table: &mut [u8], ours: Header)
     requires { ⌜ tableInRange (now table) ≡ true ⌝ }
     ensures { λ _. ⌜ Leaves (now (table .entry)) (now (table .exit)) (selectedAll ours (ports (now (table .entry)))) ⌝ }
 {
     let n = table::count(table);
+    let mut done: u32 = 0;
     let mut i: usize = 0;
     while i < n {
-        select_one(table, i, ours);
+        let at = i;
         i += 1;
+        if !sets::has(done, at) {
+            let set = group_of(table, at, ours);
+            select_set(table, set, at);
+            done = sets::all_of(done, set);
+        }
     }
 }

@@ -35,13 +35,15 @@ fn tick_one(table: &mut [u8], i: usize)
     table::store(table, i, p.tick().receive());
 }
 
-// The periodic machine of port i.
+// The periodic machine of port i, which mostly rests.
 fn periodic_one(table: &mut [u8], i: usize)
     requires { ⌜ InTable (now table) i ⌝ }
     ensures { λ _. ⌜ Became (now (table .entry)) (now (table .exit)) i (periodicRun (portAt (now (table .entry)) i)) ⌝ }
 {
     let p = table::load(table, i);
-    table::store(table, i, p.periodic());
+    if !p.rests_periodic() {
+        table::store(table, i, p.periodic());
+    }
 }
 
 // What the mux machine makes of port i.
@@ -53,13 +55,24 @@ fn after_mux(table: &[u8], i: usize) -> Port
     p.mux()
 }
 
-// The mux machine of port i, and its NTT.
+// Step 6 leaves port i as it is.
+fn is_settled(table: &[u8], i: usize) -> bool
+    requires { ⌜ InTable (now table) i ⌝ }
+    ensures { λ r. ⌜ (r ≡ true → muxed (portAt (now (table .entry)) i) ≡ portAt (now (table .entry)) i) ⌝ }
+{
+    let p = table::load(table, i);
+    p.is_settled()
+}
+
+// The mux machine of port i, and its NTT; mostly both stay.
 fn mux_one(table: &mut [u8], i: usize)
     requires { ⌜ InTable (now table) i ⌝ }
     ensures { λ _. ⌜ Became (now (table .entry)) (now (table .exit)) i (muxed (portAt (now (table .entry)) i)) ⌝ }
 {
-    let p = after_mux(table, i);
-    table::store(table, i, p.clear_ntt());
+    if !is_settled(table, i) {
+        let p = after_mux(table, i);
+        table::store(table, i, p.clear_ntt());
+    }
 }
 
 // The step of port i.

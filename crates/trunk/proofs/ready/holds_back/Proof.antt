@@ -1,14 +1,10 @@
 -- `trunk::ready::holds_back` meets its contract: the definition, with what the callees ensure put in. Assumes nothing.
-use Rattle.trunk.specs.Ready.{holdsBack, waitsFor}
 use borrow.Author.Needs.{needs}
 use Rattle.trunk.proofs.ready.holds_back.Statement.{statement}
 use Rattle.trunk.proofs.ready.holds_back.Tie as tie
 
 phase-requires : tie.Need-phase-requires
 phase-requires c κs = search needs
-
-aggregator-requires : tie.Need-aggregator-requires
-aggregator-requires c κs = search needs
 
 timers-requires : tie.Need-timers-requires
 timers-requires c κs = search needs
@@ -17,9 +13,7 @@ waits-requires : tie.Need-waits-requires
 waits-requires c κs = search needs
 
 returns : tie.Need-returns
-unfolding holdsBack waitsFor
-returns c = rw (c .before .waits .ensures, c .before .before .timers .ensures, c .before .before .before .aggregator .ensures, c .before .before .before .before .phase .ensures)
+returns c = rw (c .before .waits .ensures, c .before .before .timers .ensures, c .before .before .before .phase .ensures)
 
 pub holds-back-spec : {M : Type 1} → statement M
-holds-back-spec =
-    tie.close (tie.spec phase-requires aggregator-requires timers-requires waits-requires returns)
+holds-back-spec = tie.close (tie.spec phase-requires timers-requires waits-requires returns)

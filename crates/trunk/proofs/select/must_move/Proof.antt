@@ -4,12 +4,19 @@ use borrow.Author.Needs.{needs}
 use Rattle.trunk.proofs.select.must_move.Statement.{statement}
 use Rattle.trunk.proofs.select.must_move.Tie as tie
 
+phase-requires : tie.Need-phase-requires
+phase-requires c κs = search needs
+
 is-unselected-requires : tie.Need-is-unselected-requires
 is-unselected-requires c κs = search needs
 
+aggregator-requires : tie.Need-aggregator-requires
+aggregator-requires c κs = search needs
+
 returns : tie.Need-returns
 unfolding mustMove
-returns c = simp (c .before .is-unselected .ensures)
+returns c = rw (c .is-unselected .ensures, c .before .aggregator .ensures, c .before .before .phase .ensures)
 
 pub must-move-spec : {M : Type 1} → statement M
-must-move-spec = tie.close (tie.spec is-unselected-requires returns)
+must-move-spec =
+    tie.close (tie.spec phase-requires aggregator-requires is-unselected-requires returns)
