@@ -7,7 +7,7 @@ CALLS = ["receive, repeated", "receive, moves all", "tick", "tick, all waiting",
          "port report", "aggregator report", "line, link falls", "line, duplex halves", "settings, new key", "start"]
 GROWTH = ["receive, repeated", "receive, moves all", "tick", "fetch", "port report", "aggregator report"]
 WHERE = ["tick", "tick, all apart", "receive, repeated", "receive, moves all", "aggregator report", "start"]
-AIM_RATIO, AIM_STACK = 3, 4096
+AIM_RATIO, AIM_STACK = 2, 4096
 CLOCK = 100e6
 # A second of 32 ports whose partners send at the fast pace: 42 calls, a fetch on every port after each, of which 32 send, and a report.
 SECOND = {"ticks": ("tick", 10), "an LACPDU on each port": ("receive, repeated", 32),
