@@ -3,3 +3,4 @@ pub mod ListLaws
 pub mod OctetLists
 pub mod RangeLaws
 pub mod SetLaws
+pub mod WordLaws

@@ -136,13 +136,20 @@ module _ {A : Type 0} (f : ℕ → A → A) (xs : List A) where
               let over : i + 1 ≤ j = omega arith in
               rw (le-ltb j i more, le-ltb j (i + 1) over)
 
-  -- the last turn was the sweep
-  pub done-all : (n : ℕ) (d : A) → length xs ≡ n → doneTo f n xs ≡ mapFrom f 0 xs
-  done-all n d e =
+  -- where f changes nothing from n on, what was done so far is the sweep; so it is after the last turn
+  pub done-rest : (n : ℕ) (d : A) → ((m : ℕ) (x : A) → n ≤ m → m < length xs → f m x ≡ x) → doneTo f n xs ≡ mapFrom f 0 xs
+  done-rest n d e =
       ext-getD d (doneTo f n xs) (mapFrom f 0 xs) (done-length n ∙ sym (sweep-length f 0 xs))
       (λ j k. let h : j < length xs = rw (done-length n) at k in
       let z : 0 + j ≡ j = omega arith in
-      done-at n j d h ∙ rw (lt-ltb j n (omega arith)) (sym (sweep-at f 0 xs j d h ∙ ap (λ (m : ℕ). f m (getD xs j d)) z)))
+      done-at n j d h ∙ by j (getD xs j d) h (ltb j n) refl ∙ sym (sweep-at f 0 xs j d h ∙ ap (λ (m : ℕ). f m (getD xs j d)) z))
+    where
+      by : (j : ℕ) (x : A) → j < length xs → (b : Bool) → ltb j n ≡ b → cond b (f j x) x ≡ f j x
+      by j x h true s = refl
+      by j x h false s = sym (e j x (ltb-false j n s) h)
+
+  pub done-all : (n : ℕ) (d : A) → length xs ≡ n → doneTo f n xs ≡ mapFrom f 0 xs
+  done-all n d e = done-rest n d (λ m x a b. absurd (omega (arith, a, b, e)))
 
 if-keeps : {A B : Type 0} (g : A → B) (b : Bool) (x y : A) → g y ≡ g x → g (cond b y x) ≡ g x
 if-keeps g true x y e = e

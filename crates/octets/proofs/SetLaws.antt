@@ -3,13 +3,14 @@ use Prim.Native.Nat.{ℕ, zero, suc, _+_, _*_, _/_, _%_, _^_, _≤_, _<_, max}
 use mathlib.Core.Path.{_≡_, refl, sym, ap, _∙_}
 use mathlib.Core.Bool.{Bool, true, false, _||_}
 use native.Mathlib.Omega.{arith}
-use native.Mathlib.Nat.{pow-suc, div-one, one-mul, mod-eq-of-lt}
+use native.Mathlib.Nat.{pow-suc, div-one, one-mul, mod-eq-of-lt, div-eq-of-lt}
 use lib.Arith.{digits-div, digits-mod}
 use lib.Bits.{bitOr, or-step}
+use lib.Count.{leading-top}
 use lib.Dec.{eqb}
 use lib.Pow.{shr-shr, pow-mono}
 use borrow.Author.Tests.{eqb-true, eqb-false, eq-eqb, ne-eqb}
-use Rattle.octets.specs.Sets.{member}
+use Rattle.octets.specs.Sets.{member, endOf}
 
 pub member-low : (x : ℕ) → member x 0 ≡ eqb (x % 2) 1
 unfolding member
@@ -103,3 +104,20 @@ with-member set i h m =
     let less : 2 ^ i < 4294967296 = omega arith in
     let is : 1 * 2 ^ i % 4294967296 ≡ 2 ^ i = ap (λ (x : ℕ). x % 4294967296) (one-mul (2 ^ i)) ∙ mod-eq-of-lt less in
     ap (λ (x : ℕ). member (bitOr set x) m) is ∙ or-member set (2 ^ i) m ∙ ap (λ (b : Bool). member set m || b) (one-member i m) ∙ swapped (member set m) (eqb m i)
+
+-- ---- the end of a set
+
+-- beyond a number of bits that is enough there are none
+beyond : (x n m : ℕ) → x < 2 ^ n → n ≤ m → member x m ≡ false
+unfolding member
+beyond x n m h k =
+    let most : 2 ^ n ≤ 2 ^ m = pow-mono k in
+    let none : x / 2 ^ m ≡ 0 = div-eq-of-lt (omega arith) in
+    ap (λ (y : ℕ). eqb (y % 2) 1) none
+
+pub beyond-end : (x m : ℕ) → x < 4294967296 → endOf x ≤ m → member x m ≡ false
+unfolding endOf
+beyond-end zero m h k = none-member m
+beyond-end (suc x) m h k =
+    let top = leading-top 32 (suc x) (omega arith) h in
+    beyond (suc x) (suc (top .0)) m (top .3) (omega (arith, k, top .1))

@@ -38,6 +38,14 @@ joined h l = h * 256 + l
 abbrev pub numberAt : List ℕ → ℕ → ℕ
 numberAt l i = joined (getD l i 0) (getD l (i + 1) 0)
 
+-- the number that octets make, the first of them the lowest, and the one of four at index i
+unfoldable pub word : List ℕ → ℕ
+word [] = 0
+word (a ∷ rest) = word rest * 256 + a
+
+abbrev pub wordAt : List ℕ → ℕ → ℕ
+wordAt l i = word (getD l i 0 ∷ getD l (i + 1) 0 ∷ getD l (i + 2) 0 ∷ getD l (i + 3) 0 ∷ [])
+
 -- a number of two octets
 abbrev pub fits : ℕ → Bool
 fits n = ltb n 65536

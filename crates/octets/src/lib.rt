@@ -3,7 +3,7 @@
 ghost use mathlib.Core.Path.{_≡_};
 ghost use Prim.Native.Nat.{_+_, _≤_, _<_};
 ghost use lib.ListN.{length};
-ghost use Rattle.octets.specs.Octets.{putAt, sameOctets, numberAt, numberOctets, high, low};
+ghost use Rattle.octets.specs.Octets.{putAt, sameOctets, numberAt, numberOctets, high, low, wordAt};
 
 pub mod sets;
 
@@ -48,6 +48,20 @@ pub fn number(s: &[u8], at: usize) -> u16
     ensures { λ r. ⌜ r ≡ numberAt (now (s .entry)) at ⌝ }
 {
     wide(s[at]) * 256 + wide(s[at + 1])
+}
+
+fn long(b: u8) -> u64
+    ensures { λ r. ⌜ (r ≡ b) × (r < 256) ⌝ }
+{
+    b as u64
+}
+
+// The four octets from index `at` on as one number, the first of them the lowest, to be tested at once.
+pub fn word(s: &[u8], at: usize) -> u64
+    requires { ⌜ at + 4 ≤ length (now s) ⌝ }
+    ensures { λ r. ⌜ r ≡ wordAt (now (s .entry)) at ⌝ }
+{
+    long(s[at]) + long(s[at + 1]) * 256 + long(s[at + 2]) * 65536 + long(s[at + 3]) * 16777216
 }
 
 // Writes a two-octet number at index `at`.

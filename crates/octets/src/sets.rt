@@ -1,9 +1,9 @@
 // Sets of numbers below 32, as 32-bit numbers: bit 0 is number 0.
 ghost use mathlib.Core.Path.{_≡_};
-ghost use mathlib.Core.Bool.{_&&_, _||_};
-ghost use Prim.Native.Nat.{ℕ, _<_};
+ghost use mathlib.Core.Bool.{false, _&&_, _||_};
+ghost use Prim.Native.Nat.{ℕ, _≤_, _<_};
 ghost use lib.Dec.{eqb};
-ghost use Rattle.octets.specs.Sets.{member};
+ghost use Rattle.octets.specs.Sets.{member, endOf};
 
 // Whether number i is in the set.
 pub fn has(set: u32, i: usize) -> bool
@@ -11,6 +11,13 @@ pub fn has(set: u32, i: usize) -> bool
     ensures { λ r. ⌜ r ≡ member set i ⌝ }
 {
     (set >> i) % 2 == 1
+}
+
+// The least number above all of the set, 0 for none.
+pub fn end(set: u32) -> usize
+    ensures { λ r. ⌜ (r ≡ endOf set) × ((m : ℕ) → r ≤ m → member set m ≡ false) ⌝ }
+{
+    (32 - u32::leading_zeros(set)) as usize
 }
 
 // The set with number i too.
