@@ -117,6 +117,24 @@ pub party-refl : (x : Block) → sameParty x x ≡ true
 unfolding sameParty
 party-refl x = rw (numbers-refl x, alike-refl (x .state .aggregation))
 
+state-refl : (x : PortState) → sameState x x ≡ true
+unfolding sameState
+state-refl x =
+    rw (
+      alike-refl (x .activity),
+      alike-refl (x .timeout),
+      alike-refl (x .aggregation),
+      alike-refl (x .synchronization),
+      alike-refl (x .collecting),
+      alike-refl (x .distributing),
+      alike-refl (x .defaulted),
+      alike-refl (x .expired),
+    )
+
+pub block-refl : (x : Block) → sameBlock x x ≡ true
+unfolding sameBlock
+block-refl x = rw (numbers-refl x, state-refl (x .state))
+
 -- ---- each test of 43.4.9, exactly if
 
 pub party-is : (x y : Block) → party x ≡ party y → sameParty x y ≡ true

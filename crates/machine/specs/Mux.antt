@@ -64,6 +64,11 @@ muxNext Distributing Selected ready true true = Stay
 muxNext Distributing Selected ready true false = Enter Collecting
 muxNext Distributing Selected ready false coll = Enter Collecting
 
+-- no transition applies
+abbrev pub muxStays : MuxStep → Bool
+muxStays Stay = true
+muxStays (Enter m) = false
+
 -- the actions on entry: the actor's bits, whether NTT is set (DISTRIBUTING sets none), and the wait timer, which belongs to WAITING
 -- alone (0 stops it)
 abbrev pub muxBits : Mux → PortState → PortState

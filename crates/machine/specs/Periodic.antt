@@ -1,5 +1,5 @@
 -- The transitions of the Periodic Transmission machine (43.4.13, figure 43-11).
-use mathlib.Core.Bool.{Bool, true, false}
+use mathlib.Core.Bool.{Bool, true, false, not, _&&_}
 use Rattle.machine.specs.declared.states.Periodic.{Periodic}
 use Rattle.machine.specs.declared.states.Periodic.the-variants.{NoPeriodic, FastPeriodic, SlowPeriodic, PeriodicTx}
 use Rattle.machine.specs.declared.periodic.PeriodicStep.{PeriodicStep}
@@ -33,3 +33,10 @@ isTx NoPeriodic = false
 isTx FastPeriodic = false
 isTx SlowPeriodic = false
 isTx PeriodicTx = true
+
+-- where it all stays, by the same: quiet in NO_PERIODIC with its timer stopped, or at the partner's pace with the timer running
+abbrev pub periodicRests : Periodic → Bool → Bool → Bool → Bool
+periodicRests NoPeriodic quiet out short = quiet && out
+periodicRests FastPeriodic quiet out short = not quiet && (not out && short)
+periodicRests SlowPeriodic quiet out short = not quiet && (not out && not short)
+periodicRests PeriodicTx quiet out short = false

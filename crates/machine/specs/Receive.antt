@@ -14,6 +14,14 @@ isDisabled LacpDisabled = false
 isDisabled Defaulted = false
 isDisabled Current = false
 
+abbrev pub isCurrent : Receive → Bool
+isCurrent Initialize = false
+isCurrent PortDisabled = false
+isCurrent Expired = false
+isCurrent LacpDisabled = false
+isCurrent Defaulted = false
+isCurrent Current = true
+
 -- the transitions, by link, duplex, and whether the current-while timer has run out
 abbrev pub receiveNext : Receive → Bool → Bool → Bool → ReceiveStep
 receiveNext Initialize up full out = Enter PortDisabled
@@ -30,3 +38,8 @@ receiveNext Defaulted true full out = Stay
 receiveNext Current false full out = Enter PortDisabled
 receiveNext Current true full true = Enter Expired
 receiveNext Current true full false = Stay
+
+-- no transition applies
+abbrev pub receiveStays : ReceiveStep → Bool
+receiveStays Stay = true
+receiveStays (Enter s) = false

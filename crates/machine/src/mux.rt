@@ -1,6 +1,6 @@
 // The transitions of the Mux machine, independent control (figure 43-13), and what its states mean to others.
 ghost use mathlib.Core.Path.{_≡_};
-ghost use Rattle.machine.specs.Mux.{waits, isAttached, collects, distributes, isUnselected, muxNext};
+ghost use Rattle.machine.specs.Mux.{waits, isAttached, collects, distributes, isUnselected, muxNext, muxStays};
 use crate::states::Mux;
 use crate::states::Selection;
 
@@ -54,6 +54,17 @@ pub fn next(state: Mux, selected: Selection, ready: bool, sync: bool, coll: bool
                 MuxStep::Enter(Mux::Collecting)
             }
         },
+    }
+}
+
+impl MuxStep {
+    pub fn stays(self) -> bool
+        ensures { λ r. ⌜ r ≡ muxStays self ⌝ }
+    {
+        match self {
+            MuxStep::Stay => true,
+            MuxStep::Enter(_) => false,
+        }
     }
 }
 

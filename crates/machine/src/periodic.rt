@@ -1,6 +1,6 @@
 // The transitions of the Periodic Transmission machine (figure 43-11).
 ghost use mathlib.Core.Path.{_≡_};
-ghost use Rattle.machine.specs.Periodic.{periodicNext, periodicTime, isTx};
+ghost use Rattle.machine.specs.Periodic.{periodicNext, periodicRests, periodicTime, isTx};
 use crate::states::Periodic;
 use crate::states::Ticks;
 
@@ -46,6 +46,18 @@ pub fn next(state: Periodic, quiet: bool, out: bool, short: bool) -> PeriodicSte
             }
             PeriodicStep::Enter(Periodic::SlowPeriodic)
         }
+    }
+}
+
+// Whether everything stays as it is: no transition applies, or just that to NO_PERIODIC, in it and with its timer stopped.
+pub fn rests(state: Periodic, quiet: bool, out: bool, short: bool) -> bool
+    ensures { λ r. ⌜ r ≡ periodicRests state quiet out short ⌝ }
+{
+    match state {
+        Periodic::NoPeriodic => quiet & out,
+        Periodic::FastPeriodic => !quiet & (!out & short),
+        Periodic::SlowPeriodic => !quiet & (!out & !short),
+        Periodic::PeriodicTx => false,
     }
 }
 

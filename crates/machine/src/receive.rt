@@ -1,6 +1,6 @@
 // The transitions of the Receive machine (figure 43-10) but for those with an LACPDU.
 ghost use mathlib.Core.Path.{_≡_};
-ghost use Rattle.machine.specs.Receive.{isDisabled, receiveNext};
+ghost use Rattle.machine.specs.Receive.{isDisabled, isCurrent, receiveNext, receiveStays};
 ghost use Rattle.machine.specs.Time.{timeoutTime};
 use crate::states::Receive;
 use crate::states::Ticks;
@@ -25,6 +25,19 @@ pub fn is_disabled(s: Receive) -> bool
         Receive::LacpDisabled => false,
         Receive::Defaulted => false,
         Receive::Current => false,
+    }
+}
+
+pub fn is_current(s: Receive) -> bool
+    ensures { λ r. ⌜ r ≡ isCurrent s ⌝ }
+{
+    match s {
+        Receive::Initialize => false,
+        Receive::PortDisabled => false,
+        Receive::Expired => false,
+        Receive::LacpDisabled => false,
+        Receive::Defaulted => false,
+        Receive::Current => true,
     }
 }
 
@@ -72,6 +85,17 @@ pub fn next(state: Receive, up: bool, full: bool, out: bool) -> ReceiveStep
                 return ReceiveStep::Stay;
             }
             ReceiveStep::Enter(Receive::PortDisabled)
+        }
+    }
+}
+
+impl ReceiveStep {
+    pub fn stays(self) -> bool
+        ensures { λ r. ⌜ r ≡ receiveStays self ⌝ }
+    {
+        match self {
+            ReceiveStep::Stay => true,
+            ReceiveStep::Enter(_) => false,
         }
     }
 }

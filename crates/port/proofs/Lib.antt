@@ -6,4 +6,6 @@ pub mod TimerLaws
 pub mod RestParts
 pub mod RestKept
 pub mod RangeLaws
+pub mod GivesBack
+pub mod RepeatLaws
 pub mod RuleLaws

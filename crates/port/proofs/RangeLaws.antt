@@ -75,7 +75,7 @@ periodic-timer-ranged n t h e =
     let b = both (leb (t .periodic .0) slowPeriodicTime) _ (a .1) in
     both-true (a .0) (both-true h (b .1))
 
-currently-ranged : (n : Ticks) (t : Timers) → leb (n .0) longTimeoutTime ≡ true → timersInRange t ≡ true → timersInRange (timersCurrent n t) ≡ true
+pub currently-ranged : (n : Ticks) (t : Timers) → leb (n .0) longTimeoutTime ≡ true → timersInRange t ≡ true → timersInRange (timersCurrent n t) ≡ true
 unfolding timersInRange
 currently-ranged n t h e = both-true h (both (leb (t .current .0) longTimeoutTime) _ e .1)
 
@@ -90,7 +90,7 @@ waiting-ranged n t h e =
 falls : (n most : ℕ) → leb n most ≡ true → leb (n - 1) most ≡ true
 falls n most e = let h : n ≤ most = leb-true n most e in le-leb (n - 1) most (omega arith)
 
-fallen-ranged : (t : Timers) → timersInRange t ≡ true → timersInRange (timersFallen t) ≡ true
+pub fallen-ranged : (t : Timers) → timersInRange t ≡ true → timersInRange (timersFallen t) ≡ true
 unfolding timersInRange
 fallen-ranged t e =
     let a = both (leb (t .current .0) longTimeoutTime) _ e in
@@ -104,7 +104,7 @@ aged-ranged n = by (leb (forgottenAge - 1) n) refl
     by true e = refl
     by false e = let h : n < forgottenAge - 1 = leb-false (forgottenAge - 1) n e in rw (lt-ltb (n + 1) forgottenAge (omega arith))
 
-ages-ranged : (g : Ages) → agesInRange (agesTicked g) ≡ true
+pub ages-ranged : (g : Ages) → agesInRange (agesTicked g) ≡ true
 unfolding agesInRange
 ages-ranged g = both-true (aged-ranged (g .first)) (both-true (aged-ranged (g .second)) (aged-ranged (g .third)))
 
@@ -126,7 +126,7 @@ periodic-time-le FastPeriodic = refl
 periodic-time-le SlowPeriodic = refl
 periodic-time-le PeriodicTx = refl
 
-time-le : (b : Bool) → leb (timeoutTime b .0) longTimeoutTime ≡ true
+pub time-le : (b : Bool) → leb (timeoutTime b .0) longTimeoutTime ≡ true
 time-le true = refl
 time-le false = refl
 
@@ -224,7 +224,7 @@ module _ (count : ℕ) where
 
   -- ---- a tick, a send, and NTT
 
-  ticked-ranged : (p : Port) → portInRange count p ≡ true → portInRange count (ticked p) ≡ true
+  pub ticked-ranged : (p : Port) → portInRange count p ≡ true → portInRange count (ticked p) ≡ true
   unfolding ticked
   ticked-ranged p e =
       let r = ranged count p e in
@@ -359,7 +359,7 @@ module _ (count : ℕ) where
   receive-taken (receive.Enter Defaulted) p e = defaulted-ranged p e
   receive-taken (receive.Enter Current) p e = e
 
-  receive-ranged : (p : Port) → portInRange count p ≡ true → portInRange count (receiveRun p) ≡ true
+  pub receive-ranged : (p : Port) → portInRange count p ≡ true → portInRange count (receiveRun p) ≡ true
   unfolding receiveRun receiveStep
   receive-ranged p e =
       let q = receiveTaken (receiveChoice p) p in

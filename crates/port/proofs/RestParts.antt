@@ -11,7 +11,7 @@ use Rattle.machine.specs.declared.states.Periodic.the-variants.{NoPeriodic, Fas
 use Rattle.machine.specs.declared.states.Mux.{Mux}
 use Rattle.machine.specs.declared.receive.ReceiveStep.the-variants as receive
 use Rattle.machine.specs.Receive.{receiveNext}
-use Rattle.machine.specs.Periodic.{periodicNext}
+use Rattle.machine.specs.Periodic.{periodicNext, periodicRests}
 use Rattle.machine.specs.Mux.{waits}
 use Rattle.machine.specs.States.{quietOn, ticks}
 use Rattle.machine.specs.Time.{ranOut, longTimeoutTime, slowPeriodicTime, aggregateWaitTime}
@@ -85,15 +85,9 @@ pub record MuxAgrees (v : MuxPart) : Type 0 where
   pub says : BitsAgree (v .state) (v .synchronization) (v .collecting) (v .distributing)
   pub timed : Timed (waits (v .state)) aggregateWaitTime (v .timer)
 
--- where the periodic machine is at rest: by its state, whether it is to be quiet, whether its timer has run out, the partner's Timeout
-abbrev calm : Periodic → Bool → Bool → Bool → Bool
-calm NoPeriodic q out short = q && out
-calm FastPeriodic q out short = not q && (not out && short)
-calm SlowPeriodic q out short = not q && (not out && not short)
-calm PeriodicTx q out short = false
-
+-- where the periodic machine is at rest
 abbrev pub calmPart : PeriodicPart → Bool
-calmPart v = calm (v .state) (quietOn (v .line) (not (v .active) && not (v .partnerActive))) (ranOut (v .timer)) (v .short)
+calmPart v = periodicRests (v .state) (quietOn (v .line) (not (v .active) && not (v .partnerActive))) (ranOut (v .timer)) (v .short)
 
 -- all of them but for a periodic machine at rest
 pub record Standing (p : Port) : Type 0 where
@@ -104,7 +98,7 @@ pub record Standing (p : Port) : Type 0 where
 -- ---- the periodic machine is at rest exactly where its part is calm
 
 calm-if : (p : Port) (s : Periodic) (q out short : Bool) → p .phase .periodic ≡ s → ranOut (p .timers .periodic) ≡ out
-    → periodicTaken (periodicNext s q out short) p ≡ p → calm s q out short ≡ true
+    → periodicTaken (periodicNext s q out short) p ≡ p → periodicRests s q out short ≡ true
 calm-if p NoPeriodic true true short h t e = refl
 calm-if p NoPeriodic true false short h t e =
     absurd (true≢false (ap (λ (x : Port). ranOut (x .timers .periodic)) e ∙ t))
@@ -140,7 +134,7 @@ entered-same p h t = λ i. record {
 }
 
 calm-then : (p : Port) (s : Periodic) (q out short : Bool) → p .phase .periodic ≡ s → ranOut (p .timers .periodic) ≡ out
-    → calm s q out short ≡ true → periodicTaken (periodicNext s q out short) p ≡ p
+    → periodicRests s q out short ≡ true → periodicTaken (periodicNext s q out short) p ≡ p
 calm-then p NoPeriodic true true short h t e = entered-same p h (eqb-true (p .timers .periodic .0) 0 t)
 calm-then p NoPeriodic true false short h t e = absurd (false≢true e)
 calm-then p NoPeriodic false out short h t e = absurd (false≢true e)

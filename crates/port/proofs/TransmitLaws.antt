@@ -1,11 +1,12 @@
 -- What a send, a tick and the clearing of NTT leave alone. Assumes nothing.
 use mathlib.Core.Path.{_≡_, refl, sym, ap}
-use mathlib.Core.Bool.{Bool, true, false, cond, _&&_, true≢false}
-use Rattle.machine.specs.Ages.{noSend, ages}
+use mathlib.Core.Bool.{Bool, true, false, cond, not, _&&_, _||_, true≢false}
+use Rattle.machine.specs.Ages.{noSend, ages, barred}
 use Rattle.machine.specs.States.{timers, ticks}
 use Rattle.port.specs.declared.record.Port.{Port}
 use Rattle.port.specs.Record.{withNtt, withAges, withTimers}
-use Rattle.port.specs.Transmit.{sent, silent, nttCleared, ticked}
+use Rattle.port.specs.declared.transmit.Due.the-variants.{Nothing, Barred, Lacpdu}
+use Rattle.port.specs.Transmit.{due, goes, isDue, sent, silent, nttCleared, ticked}
 
 -- a send touches NTT and the ages alone
 abbrev pub besideSends : Port → Port
@@ -50,3 +51,15 @@ cleared-idle p e = by (p .ntt) (silent p) refl e
     by n false x h = refl
     by false true x h = ap (withNtt p) (sym x)
     by true true x h = absurd (true≢false h)
+
+-- an LACPDU is due where NTT is set, the link up, LACP on, and three sends do not bar it: as one test
+pub due-at-once : (p : Port) → isDue p ≡ (p .ntt && (p .line .up && (p .line .full && not (barred (p .ages)))))
+unfolding isDue due
+due-at-once p = by (p .ntt) (p .line .up) (p .line .full) (barred (p .ages))
+  where
+    by : (n u f b : Bool) → goes (cond (not n || (not u || not f)) Nothing (cond b Barred Lacpdu)) ≡ (n && (u && (f && not b)))
+    by false u f b = refl
+    by true false f b = refl
+    by true true false b = refl
+    by true true true true = refl
+    by true true true false = refl

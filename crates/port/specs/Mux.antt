@@ -9,7 +9,7 @@ use Rattle.machine.specs.declared.states.Selection.the-variants.{Unselected, Se
 use Rattle.port.specs.declared.record.Port.{Port}
 use Rattle.machine.specs.declared.mux.MuxStep.{MuxStep}
 use Rattle.machine.specs.declared.mux.MuxStep.the-variants.{Stay, Enter}
-use Rattle.machine.specs.Mux.{muxNext, waits, isAttached, collects, distributes, muxBits, setsNtt, waitTime}
+use Rattle.machine.specs.Mux.{muxNext, muxStays, waits, isAttached, collects, distributes, muxBits, setsNtt, waitTime}
 use Rattle.port.specs.Record.{withMux, withWait, withNtt, withActor, withAggregator, withSelected}
 
 -- the actions on entry
@@ -41,6 +41,10 @@ attachedIf ready p = cond (waits (p .phase .mux)) (muxStep ready p) p
 -- step 6: up or down as the partner's bits say; two steps lead to rest (law `mux-rests`)
 unfoldable pub muxRun : Port → Port
 muxRun p = muxStep false (muxStep false p)
+
+-- whether step 6 leaves the machine where it is (law `mux-gives-back`)
+unfoldable pub restsMux : Port → Bool
+restsMux p = muxStays (muxChoice false p)
 
 -- the states that lead down to DETACHED, in their order (figure 43-13), and a port that enters some states one after the other
 abbrev pub descent : Mux → List Mux

@@ -5,7 +5,7 @@ use Rattle.port.specs.declared.record.Port.{Port}
 use Rattle.machine.specs.declared.periodic.PeriodicStep.{PeriodicStep}
 use Rattle.machine.specs.declared.periodic.PeriodicStep.the-variants.{Stay, Enter}
 use Rattle.machine.specs.States.{quietOn}
-use Rattle.machine.specs.Periodic.{periodicNext, periodicTime, isTx}
+use Rattle.machine.specs.Periodic.{periodicNext, periodicRests, periodicTime, isTx}
 use Rattle.port.specs.Record.{withPeriodic, withPeriodicTimer, withNtt}
 use Rattle.machine.specs.Time.{ranOut}
 
@@ -34,3 +34,7 @@ periodicStep p = periodicTaken (periodicChoice p) p
 -- until no step applies: two steps lead to rest (law `periodic-rests`)
 unfoldable pub periodicRun : Port → Port
 periodicRun p = periodicStep (periodicStep p)
+
+-- whether the machine leaves the record as it is (law `periodic-gives-back`)
+unfoldable pub restsPeriodic : Port → Bool
+restsPeriodic p = periodicRests (p .phase .periodic) (quiet p) (ranOut (p .timers .periodic)) (p .partner .state .timeout)

@@ -1,6 +1,6 @@
 -- The Receive machine (43.4.12, figure 43-10) and its functions (43.4.9). The current-while timer belongs to EXPIRED and CURRENT.
 use Prim.Native.Nat.{ℕ}
-use mathlib.Core.Bool.{Bool, true, false, cond}
+use mathlib.Core.Bool.{Bool, true, false, cond, not, _&&_, _||_}
 use Rattle.frame.specs.declared.block.Block.{Block}
 use Rattle.frame.specs.declared.block.SystemId.{SystemId}
 use Rattle.frame.specs.declared.state.PortState.{PortState}
@@ -15,11 +15,11 @@ use Rattle.port.specs.declared.record.Port.{Port}
 use Rattle.machine.specs.declared.receive.ReceiveStep.{ReceiveStep}
 use Rattle.machine.specs.declared.receive.ReceiveStep.the-variants.{Stay, Enter}
 use Rattle.machine.specs.States.{ticks}
-use Rattle.machine.specs.Receive.{receiveNext}
+use Rattle.machine.specs.Receive.{isCurrent, receiveNext, receiveStays}
 use Rattle.port.specs.Record.{withReceive, withSelected, withCurrent, withNtt, withActor, withPartner, withLine, actorBlock}
 use Rattle.port.specs.Absent.{noBlock}
 use Rattle.machine.specs.Bits.{withTimeout, withAggregation, withSynchronization, withDefaulted, withExpired}
-use Rattle.machine.specs.Compare.{sameParty, sameView, inSync}
+use Rattle.machine.specs.Compare.{sameParty, sameView, inSync, sameBlock}
 use Rattle.machine.specs.Time.{ranOut, shortTimeoutTime, timeoutTime}
 
 -- ---- functions
@@ -49,9 +49,13 @@ recorded source pdu default p = withActor (withPartner p (applying source pdu de
 unfoldable pub recordDefault : Port → Port
 recordDefault p = recorded Default noBlock (p .own .default) p
 
--- 43.4.9 recordPDU: `us` is what we say of ourselves, the frame says `a` of its sender and `b` of us
+-- the block that recordPDU records: `us` is what we say of ourselves, the frame says `a` of its sender and `b` of us
+abbrev pub pduBlock : Block → Block → Block → Block
+pduBlock us a b = withState a (withSynchronization (a .state) (inSync us a b))
+
+-- 43.4.9 recordPDU
 unfoldable pub recordPdu : Block → Block → Block → Port → Port
-recordPdu us a b p = recorded Pdu (withState a (withSynchronization (a .state) (inSync us a b))) (p .own .default) p
+recordPdu us a b p = recorded Pdu (pduBlock us a b) (p .own .default) p
 
 -- 43.4.9 update_Selected
 unfoldable pub updateSelected : Block → Port → Port
@@ -100,6 +104,12 @@ pduRecorded us a b p = recordPdu us a b (updateNtt us b (updateSelected a p))
 unfoldable pub current : Block → Block → Block → Port → Port
 current us a b p = withReceive (expiredBit (withCurrent (pduRecorded us a b p) (timeoutTime (p .actor .timeout))) false) Current
 
+-- whether an LACPDU says nothing new: CURRENT, which the port is in, leaves all but the current-while timer as it is (law `repeats-is`)
+unfoldable pub repeats : Block → Block → Block → Port → Bool
+repeats us a b p =
+    isCurrent (p .phase .receive)
+    && (not (p .actor .defaulted || p .actor .expired) && (sameBlock (pduBlock us a b) (p .partner) && (sameView b us || p .ntt)))
+
 -- ---- the machine without an LACPDU
 
 -- CURRENT is entered with an LACPDU alone
@@ -124,6 +134,10 @@ receiveStep p = receiveTaken (receiveChoice p) p
 -- until no step applies: two steps lead to rest (law `receive-rests`)
 unfoldable pub receiveRun : Port → Port
 receiveRun p = receiveStep (receiveStep p)
+
+-- whether the machine leaves the record as it is (law `receive-gives-back`)
+unfoldable pub restsReceive : Port → Bool
+restsReceive p = receiveStays (receiveChoice p)
 
 -- ---- events
 

@@ -1,8 +1,6 @@
 // The Mux machine on a record (43.4.15).
 ghost use mathlib.Core.Path.{_≡_};
-ghost use mathlib.Core.Bool.{true};
 ghost use Rattle.port.specs.Mux.{muxEntered, muxChoice, muxStep, detached, placed, attachedIf, muxRun};
-ghost use Rattle.port.specs.Transmit.{nttCleared};
 use crate::record::Port;
 use machine::mux::MuxStep;
 use machine::states::Mux;
@@ -54,10 +52,18 @@ impl Port {
     pub fn detach(self) -> Self
         ensures { λ r. ⌜ r ≡ detached self ⌝ }
     {
-        self.with_selected(Selection::Unselected)
-            .mux_step(false)
-            .mux_step(false)
-            .mux_step(false)
+        let h = self.phase;
+        let state = h.mux;
+        let p = self.with_selected(Selection::Unselected);
+        match state {
+            Mux::Detached => p,
+            Mux::Waiting => p.enter_mux(Mux::Detached),
+            Mux::Attached => p.enter_mux(Mux::Detached),
+            Mux::Collecting => p.enter_mux(Mux::Attached).enter_mux(Mux::Detached),
+            Mux::Distributing => p.enter_mux(Mux::Collecting)
+                .enter_mux(Mux::Attached)
+                .enter_mux(Mux::Detached),
+        }
     }
 
     // Step 4: the port holds this aggregator now, is SELECTED, and waits.
@@ -81,32 +87,10 @@ impl Port {
         }
     }
 
-    // No step applies.
-    fn rests_mux(self) -> bool
-        ensures { λ r. ⌜ (r ≡ true → muxRun self ≡ self) ⌝ }
-    {
-        match self.mux_choice(false) {
-            MuxStep::Stay => true,
-            MuxStep::Enter(_) => false,
-        }
-    }
-
-    // Step 6 leaves the record as it is: no step applies, and there is no NTT to be cleared.
-    pub fn is_settled(self) -> bool
-        ensures { λ r. ⌜ (r ≡ true → nttCleared (muxRun self) ≡ self) ⌝ }
-    {
-        let line = self.line;
-        let passive = !self.actor.activity & !self.partner.state.activity;
-        self.rests_mux() & !(self.ntt & line.is_silent(passive))
-    }
-
-    // Step 6: up or down as the partner's bits say, to where the machine rests, which is mostly where it is.
+    // Step 6: up or down as the partner's bits say, to where the machine rests.
     pub fn mux(self) -> Self
         ensures { λ r. ⌜ r ≡ muxRun self ⌝ }
     {
-        match self.mux_choice(false) {
-            MuxStep::Stay => self,
-            MuxStep::Enter(_) => self.mux_step(false).mux_step(false),
-        }
+        self.mux_step(false).mux_step(false)
     }
 }

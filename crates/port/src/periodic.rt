@@ -1,6 +1,5 @@
 // The Periodic Transmission machine (43.4.13).
 ghost use mathlib.Core.Path.{_≡_};
-ghost use mathlib.Core.Bool.{true};
 ghost use Rattle.port.specs.Periodic.{periodicEntered, periodicChoice, periodicStep, periodicRun};
 use crate::record::Port;
 use machine::periodic::PeriodicStep;
@@ -43,16 +42,6 @@ impl Port {
         match self.periodic_choice() {
             PeriodicStep::Stay => self,
             PeriodicStep::Enter(s) => self.enter_periodic(s),
-        }
-    }
-
-    // No step applies.
-    pub fn rests_periodic(self) -> bool
-        ensures { λ r. ⌜ (r ≡ true → periodicRun self ≡ self) ⌝ }
-    {
-        match self.periodic_choice() {
-            PeriodicStep::Stay => true,
-            PeriodicStep::Enter(_) => false,
         }
     }
 

@@ -3,16 +3,20 @@
 ghost use mathlib.Core.Path.{_≡_};
 ghost use lib.ListN.{length};
 ghost use Rattle.frame.specs.Block.{blockOf, blockOctets};
-ghost use Rattle.port.specs.Receive.{isDefault, recorded, recordDefault, recordPdu, updateSelected, updateNtt, initialized, portDisabled, expired, lacpDisabled, defaulted, current as Receive·current, receiveEntered, receiveChoice, receiveStep, receiveRun, moved, received, lined};
+ghost use Rattle.machine.specs.Time.{timeoutTime};
+ghost use Rattle.port.specs.Record.{actorBlock};
+ghost use Rattle.port.specs.Receive.{isDefault, recorded, recordDefault, recordPdu, updateSelected, updateNtt, initialized, portDisabled, expired, lacpDisabled, defaulted, current as Receive·current, receiveEntered, receiveChoice, receiveStep, receiveRun, moved, received, repeats, lined};
 use crate::record::Port;
 use frame::block::Block;
 use frame::block::SystemId;
 use frame::wire::Source;
 use machine::compare::in_sync;
+use machine::compare::same_block;
 use machine::compare::same_party;
 use machine::compare::same_view;
 use machine::receive::ReceiveStep;
 use machine::receive::SHORT_TIMEOUT_TIME;
+use machine::receive::is_current;
 use machine::receive::timeout_time;
 use machine::states::Line;
 use machine::states::Receive;
@@ -215,6 +219,31 @@ impl Port {
         let us = self.actor_block(system, number);
         let b = Block::read(partner);
         self.current(us, a, actor, b)
+    }
+
+    // Whether an accepted LACPDU on this port says nothing new, so that it only starts the current-while timer again.
+    pub fn repeats(self, system: SystemId, number: u16, a: Block, partner: &[u8]) -> bool
+        requires { ⌜ length (now partner) ≡ 15 ⌝ }
+        ensures { λ r. ⌜ r ≡ repeats (actorBlock system number self) a (blockOf (now (partner .entry))) self ⌝ }
+    {
+        let us = self.actor_block(system, number);
+        let b = Block::read(partner);
+        let h = self.phase;
+        let s = h.receive;
+        let known = self.partner;
+        let sync = in_sync(us, a, b);
+        let mut heard = a;
+        heard.state.synchronization = sync;
+        is_current(s)
+            & (!(self.actor.defaulted | self.actor.expired)
+                & (same_block(heard, known) & (same_view(b, us) | self.ntt)))
+    }
+
+    // What CURRENT starts the current-while timer with: by our own Timeout bit.
+    pub fn timeout(self) -> Ticks
+        ensures { λ r. ⌜ r ≡ timeoutTime (self .actor .timeout) ⌝ }
+    {
+        timeout_time(self.actor.timeout)
     }
 
     // Another link and duplex. Every change goes by way of down.
