@@ -1,9 +1,11 @@
 pub mod CodeLaws
 pub mod RangeLaws
+pub mod CodesAtOnce
 pub mod RecordLaws
 pub mod StoreLaws
 pub mod TableLaws
 pub mod MadeLaws
 pub mod FillLaws
 pub mod LeavesLaws
+pub mod GroupLaws
 pub mod RuleLaws

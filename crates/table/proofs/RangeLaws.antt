@@ -9,7 +9,7 @@ use lib.Dec.{leb}
 use borrow.Author.Tests.{leb-true, lt-ltb}
 use Rattle.octets.specs.Octets.{Octets, numberAt, numberOctets, fits}
 use Rattle.octets.proofs.OctetLists.{octets-of, append-octets}
-use Rattle.octets.proofs.RangeLaws.{both, both-true, within-true, number-fits, number-octets}
+use Rattle.octets.proofs.RangeLaws.{both, both-true, within-true, within-is, number-fits, number-octets}
 use Rattle.frame.specs.Block.{addressAt, addressOctets, blockOctets, addressFits, blockFits}
 use Rattle.frame.proofs.RangeLaws.{address-fits, address-octets, block-octets}
 use Rattle.machine.specs.Time.{slowPeriodicTime, longTimeoutTime, aggregateWaitTime}
@@ -30,7 +30,7 @@ pub record Coded (l : List ℕ) : Type 0 where
   pub up : getD l 6 0 ≤ 1
   pub full : getD l 7 0 ≤ 1
 
-coded : (l : List ℕ) → codesInRange l ≡ true → Coded l
+pub coded : (l : List ℕ) → codesInRange l ≡ true → Coded l
 unfolding codesInRange
 coded l e =
     let e₀ = both _ _ e in
@@ -48,6 +48,16 @@ coded l e =
       up = within-true 0 (getD l 6 0) 1 (e₅ .0) .1;
       full = within-true 0 (getD l 7 0) 1 (e₅ .1) .1;
     }
+
+pub coded-is : (l : List ℕ) → Coded l → codesInRange l ≡ true
+unfolding codesInRange
+coded-is l k =
+    both-true (within-is 0 (getD l 0 0) 5 (omega arith) (k .receive))
+    (both-true (within-is 0 (getD l 1 0) 3 (omega arith) (k .periodic))
+    (both-true (within-is 0 (getD l 2 0) 4 (omega arith) (k .mux))
+    (both-true (within-is 0 (getD l 3 0) 1 (omega arith) (k .selected))
+    (both-true (within-is 0 (getD l 5 0) 1 (omega arith) (k .ntt))
+    (both-true (within-is 0 (getD l 6 0) 1 (omega arith) (k .up)) (within-is 0 (getD l 7 0) 1 (omega arith) (k .full)))))))
 
 -- ---- settings that were read from octets fit their octets
 

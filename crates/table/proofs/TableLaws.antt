@@ -43,6 +43,13 @@ first-at count (suc n) t e i h =
     by below here true s = ap (λ (k : ℕ). recordInRange count (recordAt t k)) (eqb-true i n s) ∙ here
     by below here false s = let differ : i ≡ n → ⊥ = eqb-false i n s in below (omega arith)
 
+pub first-not : (count n : ℕ) (t : List ℕ) (i : ℕ) → i < n → recordInRange count (recordAt t i) ≡ false → firstInRange count n t ≡ false
+first-not count n t i h e = by (firstInRange count n t) refl
+  where
+    by : (b : Bool) → firstInRange count n t ≡ b → b ≡ false
+    by true s = sym (first-at count n t s i h) ∙ e
+    by false s = refl
+
 first-all : (count n : ℕ) (t : List ℕ) → ((i : ℕ) → i < n → recordInRange count (recordAt t i) ≡ true) → firstInRange count n t ≡ true
 unfolding firstInRange
 first-all count zero t f = refl

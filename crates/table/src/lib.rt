@@ -3,13 +3,16 @@
 ghost use mathlib.Core.Path.{_≡_};
 ghost use Prim.Native.Nat.{_+_, _≤_};
 ghost use mathlib.Core.Bool.{true};
+ghost use lib.Dec.{leb};
 ghost use lib.ListN.{length, replicate};
 ghost use Rattle.octets.specs.Octets.{putAt};
 ghost use Rattle.table.specs.Keys.{comparedBy};
 ghost use Rattle.table.specs.Layout.{place, tableSize, recordSize};
 ghost use Rattle.port.specs.Compared.{compared};
-ghost use Rattle.port.specs.Range.{portInRange};
-ghost use Rattle.table.specs.Record.{encoded};
+ghost use Rattle.machine.specs.Time.{longTimeoutTime};
+ghost use Rattle.port.specs.Range.{portInRange, timersInRange, agesInRange};
+ghost use Rattle.port.specs.Record.{withTimers, withCurrent, withAges};
+ghost use Rattle.table.specs.Record.{encoded, decoded};
 ghost use Rattle.table.specs.Table.{countIn, portAt, recordAt, firstInRange, tableInRange, isRoom, InTable};
 ghost use Rattle.table.specs.Leaves.{Holds, Became};
 use crate::layout::HEADER;
@@ -27,8 +30,13 @@ use crate::record::ntt_in;
 use crate::record::phase_in;
 use crate::record::read_record;
 use crate::record::timers_in;
+use crate::record::write_ages;
+use crate::record::write_current;
 use crate::record::write_record;
+use crate::record::write_timers;
+use machine::states::Ages;
 use machine::states::Phase;
+use machine::states::Ticks;
 use machine::states::Timers;
 use port::record::Port;
 
@@ -52,6 +60,14 @@ fn record_at(table: &[u8], i: usize) -> &[u8]
 {
     let at = place_of(i);
     &table[at..at + RECORD]
+}
+
+// The octets of port `i`, from 0, for a look at some of them.
+pub fn look(table: &[u8], i: usize) -> &[u8]
+    requires { ⌜ InTable (now table) i ⌝ }
+    ensures { λ r. ⌜ (decoded (now r) ≡ portAt (now (table .entry)) i) × (length (now r) ≡ recordSize) ⌝ }
+{
+    record_at(table, i)
 }
 
 // The record of port `i`, from 0.
@@ -110,6 +126,33 @@ pub fn store(table: &mut [u8], i: usize, p: Port)
     put(table, i, p);
 }
 
+// Port `i`, from 0, has these timers, within their times; all else stays.
+pub fn store_timers(table: &mut [u8], i: usize, timers: Timers)
+    requires { ⌜ InTable (now table) i × (timersInRange timers ≡ true) ⌝ }
+    ensures { λ _. ⌜ Became (now (table .entry)) (now (table .exit)) i (withTimers (portAt (now (table .entry)) i) timers) ⌝ }
+{
+    let at = place_of(i);
+    write_timers(timers, &mut table[at..at + RECORD]);
+}
+
+// The current-while timer of port `i`, from 0, is started with a time that it may have; all else stays.
+pub fn store_current(table: &mut [u8], i: usize, time: Ticks)
+    requires { ⌜ InTable (now table) i × (leb (time .0) longTimeoutTime ≡ true) ⌝ }
+    ensures { λ _. ⌜ Became (now (table .entry)) (now (table .exit)) i (withCurrent (portAt (now (table .entry)) i) time) ⌝ }
+{
+    let at = place_of(i);
+    write_current(time, &mut table[at..at + RECORD]);
+}
+
+// Port `i`, from 0, remembers sends of these ages; all else stays.
+pub fn store_ages(table: &mut [u8], i: usize, ages: Ages)
+    requires { ⌜ InTable (now table) i × (agesInRange ages ≡ true) ⌝ }
+    ensures { λ _. ⌜ Became (now (table .entry)) (now (table .exit)) i (withAges (portAt (now (table .entry)) i) ages) ⌝ }
+{
+    let at = place_of(i);
+    write_ages(ages, &mut table[at..at + RECORD]);
+}
+
 // Writes record `i`, from 0, of a table or of what becomes one; every other octet stays.
 fn put(table: &mut [u8], i: usize, p: Port)
     requires { ⌜ place i + recordSize ≤ length (now table) ⌝ }
@@ -139,13 +182,14 @@ fn has_records(table: &[u8], count: u8) -> bool
     ensures { λ r. ⌜ r ≡ firstInRange count count (now (table .entry)) ⌝ }
 {
     let n = count as usize;
-    let mut good = true;
     let mut i: usize = 0;
     while i < n {
-        good = good & is_record(count, record_at(table, i));
+        if !is_record(count, record_at(table, i)) {
+            return false;
+        }
         i += 1;
     }
-    good
+    true
 }
 
 // Whether memory, of any length and content, is a table: answer 1 is given exactly if not.

@@ -23,16 +23,22 @@ pub fn within(low: u8, n: u8, high: u8) -> bool
     (low <= n) & (n <= high)
 }
 
-// States and flags.
+// The highest bit of each of four octets.
+const HIGHEST: u64 = 0x80808080;
+// What the greatest codes of octets 0 to 3, which are 5, 3, 4 and 1, lack to 127.
+const SPARE: u64 = 0x7e7b7c7a;
+// All bits but the lowest of octets 5 to 7, of four from 5 on.
+const NO_FLAG: u64 = 0x00fefefe;
+
+// States and flags, four octets at a time: none of the states has its highest bit, nor would with what the greatest code lacks to it, and no flag
+// has a bit beside its lowest.
 fn codes_in_range(s: &[u8]) -> bool
     requires { ⌜ length (now s) ≡ recordSize ⌝ }
     ensures { λ r. ⌜ r ≡ codesInRange (now (s .entry)) ⌝ }
 {
-    within(0, s[0], 5)
-        & (within(0, s[1], 3)
-            & (within(0, s[2], 4)
-                & (within(0, s[3], 1)
-                    & (within(0, s[5], 1) & (within(0, s[6], 1) & within(0, s[7], 1))))))
+    let states = octets::word(s, 0);
+    let flags = octets::word(s, 5);
+    (states & HIGHEST == 0) & (((states + SPARE) & HIGHEST == 0) & (flags & NO_FLAG == 0))
 }
 
 // Each timer at most the longest time with which it is started.

@@ -2,12 +2,15 @@
 ghost use mathlib.Core.Path.{_≡_};
 ghost use lib.ListN.{length, getD};
 ghost use Rattle.octets.specs.Octets.{putAt};
+ghost use Rattle.frame.specs.Block.{blockOf};
 ghost use Rattle.frame.specs.State.{portStateOf};
+ghost use Rattle.frame.specs.Wire.{part};
 ghost use Rattle.port.specs.Absent.{noPort};
 ghost use Rattle.port.specs.Compared.{compared};
 ghost use Rattle.table.specs.Codes.{flagOf};
 ghost use Rattle.table.specs.Keys.{comparedBy};
 ghost use Rattle.table.specs.Layout.{recordSize};
+ghost use Rattle.octets.specs.Octets.{numberOctets};
 ghost use Rattle.table.specs.Record.{phaseOctets, phaseIn, statusOctets, lineIn, timersOctets, timersIn, agesOctets, agesIn, ownOctets, ownIn, encoded, decoded};
 use crate::codes::flag_octet;
 use crate::codes::flag_of;
@@ -93,7 +96,7 @@ fn write_phase(phase: Phase, out: &mut [u8])
 }
 
 // The states in octets 0 to 3.
-pub(crate) fn phase_in(s: &[u8]) -> Phase
+pub fn phase_in(s: &[u8]) -> Phase
     requires { ⌜ length (now s) ≡ recordSize ⌝ }
     ensures { λ r. ⌜ r ≡ phaseIn (now (s .entry)) ⌝ }
 {
@@ -132,7 +135,7 @@ pub(crate) fn aggregator_in(s: &[u8]) -> u8
 }
 
 // NTT in octet 5.
-pub(crate) fn ntt_in(s: &[u8]) -> bool
+pub fn ntt_in(s: &[u8]) -> bool
     requires { ⌜ length (now s) ≡ recordSize ⌝ }
     ensures { λ r. ⌜ r ≡ flagOf (getD (now (s .entry)) 5 0) ⌝ }
 {
@@ -140,7 +143,7 @@ pub(crate) fn ntt_in(s: &[u8]) -> bool
 }
 
 // Link and duplex in octets 6 and 7.
-fn line_in(s: &[u8]) -> Line
+pub fn line_in(s: &[u8]) -> Line
     requires { ⌜ length (now s) ≡ recordSize ⌝ }
     ensures { λ r. ⌜ r ≡ lineIn (now (s .entry)) ⌝ }
 {
@@ -150,8 +153,24 @@ fn line_in(s: &[u8]) -> Line
     }
 }
 
+// Actor_Oper_Port_State in octet 8.
+pub fn actor_in(s: &[u8]) -> PortState
+    requires { ⌜ length (now s) ≡ recordSize ⌝ }
+    ensures { λ r. ⌜ r ≡ portStateOf (getD (now (s .entry)) 8 0) ⌝ }
+{
+    PortState::of_octet(s[8])
+}
+
+// Writes octets 9 and 10: current-while.
+pub(crate) fn write_current(time: Ticks, out: &mut [u8])
+    requires { ⌜ length (now out) ≡ recordSize ⌝ }
+    ensures { λ _. ⌜ now (out .exit) ≡ putAt 9 (numberOctets (time .0)) (now (out .entry)) ⌝ }
+{
+    octets::put_number(out, 9, time.0);
+}
+
 // Writes octets 9 to 13: current-while, periodic timer, and the wait timer, of which the low octet is kept.
-fn write_timers(timers: Timers, out: &mut [u8])
+pub(crate) fn write_timers(timers: Timers, out: &mut [u8])
     requires { ⌜ length (now out) ≡ recordSize ⌝ }
     ensures { λ _. ⌜ now (out .exit) ≡ putAt 9 (timersOctets timers) (now (out .entry)) ⌝ }
 {
@@ -176,7 +195,7 @@ fn wide(n: u8) -> u16
 }
 
 // The timers in octets 9 to 13.
-pub(crate) fn timers_in(s: &[u8]) -> Timers
+pub fn timers_in(s: &[u8]) -> Timers
     requires { ⌜ length (now s) ≡ recordSize ⌝ }
     ensures { λ r. ⌜ r ≡ timersIn (now (s .entry)) ⌝ }
 {
@@ -191,7 +210,7 @@ pub(crate) fn timers_in(s: &[u8]) -> Timers
 }
 
 // Writes octets 14 to 16: the ages of sends.
-fn write_ages(ages: Ages, out: &mut [u8])
+pub(crate) fn write_ages(ages: Ages, out: &mut [u8])
     requires { ⌜ length (now out) ≡ recordSize ⌝ }
     ensures { λ _. ⌜ now (out .exit) ≡ putAt 14 (agesOctets ages) (now (out .entry)) ⌝ }
 {
@@ -199,7 +218,7 @@ fn write_ages(ages: Ages, out: &mut [u8])
 }
 
 // The ages in octets 14 to 16.
-pub(crate) fn ages_in(s: &[u8]) -> Ages
+pub fn ages_in(s: &[u8]) -> Ages
     requires { ⌜ length (now s) ≡ recordSize ⌝ }
     ensures { λ r. ⌜ r ≡ agesIn (now (s .entry)) ⌝ }
 {
@@ -234,6 +253,22 @@ fn own_in(s: &[u8]) -> Own
         priority: octets::number(s, 25),
         default: Block::read(&s[27..42]),
     }
+}
+
+// The state of the partner block in force, in octet 56.
+pub fn partner_in(s: &[u8]) -> PortState
+    requires { ⌜ length (now s) ≡ recordSize ⌝ }
+    ensures { λ r. ⌜ r ≡ blockOf (part 42 57 (now (s .entry))) .state ⌝ }
+{
+    PortState::of_octet(s[56])
+}
+
+// The lowest two octets of the partner's system address, 48 and 49: what tells most neighbours apart.
+pub fn neighbour_in(s: &[u8]) -> u16
+    requires { ⌜ length (now s) ≡ recordSize ⌝ }
+    ensures { λ r. ⌜ r ≡ blockOf (part 42 57 (now (s .entry))) .system .address .low ⌝ }
+{
+    octets::number(s, 48)
 }
 
 // Writes a record into its octets.
