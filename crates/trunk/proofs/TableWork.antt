@@ -4,6 +4,7 @@ use mathlib.Core.Path.{_≡_, refl, sym, ap, _∙_}
 use mathlib.Core.Bool.{true}
 use mathlib.Core.List.{List, map}
 use lib.ListN.{length, getD, set}
+use lib.Seq.{getD-set-same, set-set}
 use Rattle.octets.specs.Lists.{mapFrom}
 use Rattle.octets.proofs.ListLaws.{map-at, doneTo, done-next, done-none, done-more, done-all}
 use Rattle.octets.specs.Octets.{Octets}
@@ -24,6 +25,19 @@ may-store f t i at octets keeps loaded stepped =
 
 pub changed-at : (f : Port → Port) (t : List ℕ) {u : List ℕ} (i : ℕ) {p q : Port} → p ≡ portAt t i → q ≡ f p → Became t u i q → Became t u i (f (portAt t i))
 changed-at f t i loaded stepped put = said (ap (λ (x : Port). set (ports t) i x) (stepped ∙ ap f loaded)) put
+
+-- port i after its change: it is in the table, it is what it became, and a further change goes over the first
+pub still : {t u : List ℕ} {qs : List Port} (i : ℕ) → InTable t i → Leaves t u qs → InTable u i
+still i at did = (did .ranged, rw (count-kept did) (at .1))
+
+pub became-at : {t u : List ℕ} (i : ℕ) (q : Port) → InTable t i → Became t u i q → portAt u i ≡ q
+became-at {t} {u} i q at did =
+    sym (ports-at u i q (still i at did .1))
+    ∙ ap (λ (l : List Port). getD l i q) (did .records)
+    ∙ getD-set-same (ports t) i q q (rw ports-length (at .1))
+
+pub became-then : {t u v : List ℕ} (i : ℕ) (q r : Port) → Became t u i q → Became u v i r → Became t v i r
+became-then {t} i q r a b = said (ap (λ (l : List Port). set l i r) (a .records) ∙ set-set (ports t) i q r) (then a b)
 
 -- what a projection of the records holds at an index
 pub map-port-at : {A : Type 0} (g : Port → A) (t : List ℕ) (i : ℕ) (a : A) → i < countIn t → getD (map g (ports t)) i a ≡ g (portAt t i)

@@ -1,9 +1,10 @@
 // The selection rule (43.4.14) by sets of ports, and steps 3 and 4. Groups are worked out from what the rule compares, each once; a whole
 // record is loaded for a port that moves, and for no other.
 ghost use mathlib.Core.Path.{_≡_};
-ghost use mathlib.Core.Bool.{true, false};
+ghost use mathlib.Core.Bool.{true, false, cond};
 ghost use mathlib.Core.List.{map};
 ghost use Prim.Native.Nat.{ℕ, _<_};
+ghost use lib.Dec.{leb};
 ghost use Rattle.octets.specs.Lists.{mapFrom};
 ghost use Rattle.octets.specs.Octets.{within};
 ghost use Rattle.octets.specs.Sets.{member};
@@ -19,6 +20,7 @@ use machine::mux::is_unselected;
 use octets::sets;
 use table::layout::Header;
 use table::record::Keys;
+use table::record::neighbour_in;
 
 // Own or partner's Aggregation clear, or the partner is our own system.
 fn is_individual(c: Keys, ours: Header) -> bool
@@ -39,6 +41,18 @@ fn same_group(c: Keys, d: Keys, ours: Header) -> bool
     !is_individual(c, ours) & (!is_individual(d, ours) & keys)
 }
 
+// Whether port j shares the group of another port, of which c is compared. Most that do not are told by their neighbour's address.
+fn shares(table: &[u8], j: usize, c: Keys, ours: Header) -> bool
+    requires { ⌜ InTable (now table) j ⌝ }
+    ensures { λ r. ⌜ r ≡ sameGroup ours (comparedBy c) (compared (portAt (now (table .entry)) j)) ⌝ }
+{
+    let low = c.system.address.low;
+    if neighbour_in(table::look(table, j)) == low {
+        return same_group(c, table::keys(table, j), ours);
+    }
+    false
+}
+
 // Port i and the later ports of its group. An individual port has none.
 fn group_of(table: &[u8], i: usize, ours: Header) -> u32
     requires { ⌜ InTable (now table) i ⌝ }
@@ -52,7 +66,7 @@ fn group_of(table: &[u8], i: usize, ours: Header) -> u32
     }
     let mut j = i + 1;
     while j < n {
-        set = sets::with_if(set, j, same_group(c, table::keys(table, j), ours));
+        set = sets::with_if(set, j, shares(table, j, c, ours));
         j += 1;
     }
     set
@@ -82,12 +96,18 @@ fn select_one(table: &mut [u8], i: usize, k: u8)
     }
 }
 
+fn lesser(a: usize, b: usize) -> usize
+    ensures { λ r. ⌜ r ≡ cond (leb a b) a b ⌝ }
+{
+    if a <= b { a } else { b }
+}
+
 // Steps 3 and 4 for the ports of a set, none of which is before port i: they are to hold its aggregator.
 fn select_set(table: &mut [u8], set: u32, i: usize)
     requires { ⌜ InTable (now table) i × ((m : ℕ) → m < i → member set m ≡ false) ⌝ }
     ensures { λ _. ⌜ Leaves (now (table .entry)) (now (table .exit)) (mapFrom (placing set i) 0 (ports (now (table .entry)))) ⌝ }
 {
-    let n = table::count(table);
+    let n = lesser(table::count(table), sets::end(set));
     let k = (i + 1) as u8;
     let mut j = i;
     while j < n {

@@ -91,16 +91,22 @@ fn number_of(i: usize) -> u16
     (i + 1) as u16
 }
 
-// Port i, whose record is p, records what an LACPDU says (CURRENT, 43.4.12); a is the actor block in it.
+// Port i, whose record is p, records what an LACPDU says (CURRENT, 43.4.12); a is the actor block in it. One that says nothing new starts the
+// current-while timer again, and writes no more than that.
 fn receive_one(table: &mut [u8], i: usize, p: Port, a: Block, frame: &[u8])
     requires { ⌜ InTable (now table) i × (p ≡ portAt (now table) i) × (a ≡ blockOf (actorPart (now frame))) × (frameSize ≤ length (now frame)) ⌝ }
     ensures { λ _. ⌜ Became (now (table .entry)) (now (table .exit)) i (receivedAt i (now (frame .entry)) (stateOf (now (table .entry)))) ⌝ }
 {
     let ours = table::layout::read_header(table);
     let us = ours.system;
+    let number = number_of(i);
+    if p.repeats(us, number, a, frame::wire::partner(frame)) {
+        table::store_current(table, i, p.timeout());
+        return;
+    }
     let q = p.receive_lacpdu(
         us,
-        number_of(i),
+        number,
         a,
         frame::wire::actor(frame),
         frame::wire::partner(frame),

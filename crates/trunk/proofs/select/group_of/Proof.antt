@@ -8,7 +8,7 @@ use lib.ListN.{length, getD, length-map}
 use denote.Ref.{now}
 use Rattle.octets.specs.Sets.{member}
 use Rattle.port.specs.Compared.{Compared, compared}
-use Rattle.table.specs.Table.{countIn, ports}
+use Rattle.table.specs.Table.{countIn, ports, portAt}
 use Rattle.table.proofs.StoreLaws.{ports-length}
 use Rattle.table.proofs.TableLaws.{in-range}
 use Rattle.trunk.specs.Selection.{individual, sameGroup, nobody, joins}
@@ -54,33 +54,31 @@ loop-holds c =
     let less = c .before .before .before .before .before .before .pre .1 in
     (omega arith, rw (c .before .before .before .before .count .ensures) (omega arith), group-begins (a .ours) (map compared (ports (now (a .table)))) (a .i) (c .before .before .with .result) (c .before .before .with .ensures))
 
-keys-requires-2 : tie.Need-keys-requires-2 Inv-loop μ-loop
-keys-requires-2 c κs = let end = c .before .before .before .before .before .before .count .ensures in (c .before .before .before .before .before .before .before .before .pre .0, omega (arith, end))
-
-same-group-requires : tie.Need-same-group-requires Inv-loop μ-loop
-same-group-requires c κs = tt
+shares-requires : tie.Need-shares-requires Inv-loop μ-loop
+shares-requires c κs = let end = c .before .before .before .before .before .before .count .ensures in (c .before .before .before .before .before .before .before .before .pre .0, omega (arith, end))
 
 with-if-requires : tie.Need-with-if-requires Inv-loop μ-loop
-with-if-requires c κs = let most = in-range _ (c .before .before .before .before .before .before .before .before .before .before .pre .0) .most in let end = c .before .before .before .before .before .before .before .before .count .ensures in omega (arith, end, most)
+with-if-requires c κs = let most = in-range _ (c .before .before .before .before .before .before .before .before .before .pre .0) .most in let end = c .before .before .before .before .before .before .before .count .ensures in omega (arith, end, most)
 
 add-j-2 : tie.Need-add-j-2 Inv-loop μ-loop
-add-j-2 c = let most = in-range _ (c .before .before .before .before .before .before .before .before .before .before .before .pre .0) .most in let end = c .before .before .before .before .before .before .before .before .before .count .ensures in omega (arith, end, most)
+add-j-2 c = let most = in-range _ (c .before .before .before .before .before .before .before .before .before .before .pre .0) .most in let end = c .before .before .before .before .before .before .before .before .count .ensures in omega (arith, end, most)
 
 loop-less : tie.Need-loop-less Inv-loop μ-loop
 loop-less c = omega arith
 
 loop-again : tie.Need-loop-again Inv-loop μ-loop
 loop-again c =
-    let a = c .before .before .before .before .before .before .before .before .before .before .before .args in
+    let a = c .before .before .before .before .before .before .before .before .before .before .args in
     let t = now (a .table) in
-    let inv = c .before .before .before .before .loop .inv in
-    let j = c .before .before .before .before .loop .j in
-    let end = c .before .before .before .before .before .before .before .before .before .count .ensures in
+    let inv = c .before .before .before .loop .inv in
+    let j = c .before .before .before .loop .j in
+    let end = c .before .before .before .before .before .before .before .before .count .ensures in
     let less : j < countIn t = omega (arith, end) in
-    let told : c .before .same-group .result ≡ joins (a .ours) (map compared (ports t)) (a .i) j =
-    c .before .same-group .ensures
-    ∙ (λ k. sameGroup (a .ours) (c .before .before .before .before .before .before .before .before .keys .ensures k) (c .before .before .keys2 .ensures k)) ∙ sym (joins-at (a .ours) t (a .i) j (c .before .before .before .before .before .before .before .before .before .before .before .pre .1) less) in
-    (omega (arith, inv .0), omega arith, group-more (a .ours) (map compared (ports t)) (a .i) j (c .before .before .before .before .loop .set) (c .with-if .result) (c .before .same-group .result) (inv .0) told (inv .2) (c .with-if .ensures))
+    let told : c .before .shares .result ≡ joins (a .ours) (map compared (ports t)) (a .i) j =
+    c .before .shares .ensures
+    ∙ ap (λ (x : Compared). sameGroup (a .ours) x (compared (portAt t j))) (c .before .before .before .before .before .before .before .keys .ensures)
+    ∙ sym (joins-at (a .ours) t (a .i) j (c .before .before .before .before .before .before .before .before .before .before .pre .1) less) in
+    (omega (arith, inv .0), omega arith, group-more (a .ours) (map compared (ports t)) (a .i) j (c .before .before .before .loop .set) (c .with-if .result) (c .before .shares .result) (inv .0) told (inv .2) (c .with-if .ensures))
 
 returns-2 : tie.Need-returns-2 Inv-loop μ-loop
 returns-2 c =
@@ -105,8 +103,7 @@ group-of-spec =
     returns
     add-j
     loop-holds
-    keys-requires-2
-    same-group-requires
+    shares-requires
     with-if-requires
     add-j-2
     loop-less

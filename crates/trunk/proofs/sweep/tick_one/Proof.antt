@@ -1,28 +1,22 @@
--- `trunk::sweep::tick_one` meets its contract: the record is loaded, stepped and stored, and stays in range. Assumes nothing.
-use mathlib.Core.Path.{ap, _∙_}
+-- `trunk::sweep::tick_one` meets its contract: time passes, and then the receive machine runs on what that left. Assumes nothing.
+use mathlib.Core.Path.{ap}
 use denote.Ref.{now}
+use lib.ListN.{set}
+use Rattle.port.specs.declared.record.Port.{Port}
 use Rattle.port.specs.Receive.{receiveRun}
-use Rattle.port.specs.Transmit.{advanced}
-use Rattle.port.proofs.RangeLaws.{advanced-ranged}
-use Rattle.trunk.proofs.TableWork.{may-store, changed-at}
+use Rattle.port.specs.Transmit.{ticked, advanced}
+use Rattle.table.specs.Table.{ports, portAt}
+use Rattle.table.proofs.LeavesLaws.{said}
+use Rattle.trunk.proofs.TableWork.{still, became-at, became-then}
 use borrow.Author.Needs.{needs}
 use Rattle.trunk.proofs.sweep.tick_one.Statement.{statement}
 use Rattle.trunk.proofs.sweep.tick_one.Tie as tie
 
-load-requires : tie.Need-load-requires
-load-requires c κs = search needs
+pass-time-requires : tie.Need-pass-time-requires
+pass-time-requires c κs = search needs
 
-tick-requires : tie.Need-tick-requires
-tick-requires c κs = search needs
-
-receive-requires : tie.Need-receive-requires
-receive-requires c κs = search needs
-
-store-requires : tie.Need-store-requires
-unfolding advanced
-store-requires c κs =
-    let a = (c .before .before .before .before .before .before .args) in
-    may-store advanced (now (a .table)) (a .i) (c .before .before .before .before .before .before .pre) (λ j. (c .before .before .before .before .before .slice-known .given) j .fits) (advanced-ranged _) (c .before .before .before .load .ensures) (c .receive .ensures ∙ ap receiveRun (c .before .tick .ensures))
+receive-one-requires : tie.Need-receive-one-requires
+receive-one-requires c κs = still _ (c .before .before .before .before .before .before .pre) (c .before .before .before .pass-time .ensures)
 
 same-length : tie.Need-same-length
 same-length c = search needs
@@ -30,10 +24,13 @@ same-length c = search needs
 returns : tie.Need-returns
 unfolding advanced
 returns c =
-    let a = (c .before .before .before .before .before .before .before .before .before .args) in
-    changed-at advanced (now (a .table)) (a .i) (c .before .before .before .before .before .before .load .ensures) (c .before .before .before .receive .ensures ∙ ap receiveRun (c .before .before .before .before .tick .ensures)) (c .before .before .store .ensures)
+    let a = c .before .before .before .before .before .before .before .before .before .args in
+    let t = now (a .table) in
+    let q = ticked (portAt t (a .i)) in
+    let aged = c .before .before .before .before .before .before .pass-time .ensures in
+    let is = became-at (a .i) q (c .before .before .before .before .before .before .before .before .before .pre) aged in
+    said (ap (λ (p : Port). set (ports t) (a .i) (receiveRun p)) is) (became-then (a .i) q _ aged (c .before .before .receive-one .ensures))
 
 pub tick-one-spec : {M : Type 1} → statement M
 tick-one-spec =
-    tie.close
-    (tie.spec load-requires tick-requires receive-requires store-requires same-length returns)
+    tie.close (tie.spec pass-time-requires receive-one-requires same-length returns)
