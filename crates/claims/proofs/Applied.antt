@@ -105,7 +105,7 @@ since-takes : AllTake since
 unfolding every headerFits ownFits blockFits
 since-takes =
     let last : AllTake further =
-    (frame-takes 1 question refl, (octets lent refl, (tt, (tt, ((refl, refl), (refl, (tt, (tt, (tt, (tt, tt)))))))))) in
+    (frame-takes 1 question refl, (octets lent refl, (tt, (tt, (tt, ((refl, refl), (refl, (tt, (tt, (tt, (tt, tt))))))))))) in
     (received-takes 1 2 0x3F refl, ticks-take 10 _ (received-takes 2 3 0x05 refl, ticks-take 10 further last))
 
 parts-takes : Takes parts

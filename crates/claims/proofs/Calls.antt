@@ -27,7 +27,7 @@ use Rattle.control.specs.declared.answer.Answer.the-variants.{Done, Lacpdu, Mar
 use Rattle.control.specs.declared.answer.Reason.{Reason}
 use Rattle.control.specs.declared.answer.Reason.the-variants as reason
 use Rattle.control.specs.Answer.{isNumber, onPort, withRoom, withDefault, frameAnswer, dueAnswer}
-use Rattle.control.specs.Call.{Call, start, receive, tick, line, configure, fetch, report, aggregator}
+use Rattle.control.specs.Call.{Call, start, receive, tick, line, configure, fetch, report, aggregator, due as dueCall}
 use Rattle.control.specs.After.{answer, afterFrame, changedBy, unless, after, effect}
 use Rattle.control.specs.Accepted.{accepted}
 use Rattle.claims.specs.Run.{Takes, AllTake, run, Made}
@@ -65,6 +65,7 @@ changed-sound t s (configure n x) k e = settings-sound t s (n - 1) (named t n (w
 changed-sound t s (fetch n out) k e = send-sound t s (n - 1) (named t n (withRoom out (dueAnswer (dueOf (portAt t (n - 1))))) e)
 changed-sound t s (report n) k e = unmoved Sound t s s
 changed-sound t s (aggregator n) k e = unmoved Sound t s s
+changed-sound t s dueCall k e = unmoved Sound t s s
 
 unless-sound : (a : Answer) (t u : List ℕ) → Sound t → (accepted a ≡ true → Sound u) → Sound (unless a t u)
 unless-sound Done t u s f = f refl
@@ -190,6 +191,7 @@ not-one t r (fetch n out) s =
     port-not-one t r n (withRoom out a) (neither (ltb (length out) frameSize) (Refused reason.Buffer) a refl (due-not-one (dueOf (portAt t (n - 1)))))
 not-one t r (report n) s = port-not-one t r n Done refl
 not-one t r (aggregator n) s = port-not-one t r n Done refl
+not-one t r dueCall s = ap (λ (b : Bool). answersOne (cond b Done (Refused reason.Table))) r
 
 pub no-answer-one : NoAnswerOne
 no-answer-one t m c s e = true≢false (ap answersOne (sym e) ∙ not-one t (never-stuck t m .ranged) c s)

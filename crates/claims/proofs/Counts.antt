@@ -33,7 +33,7 @@ use Rattle.control.specs.declared.answer.Answer.{Answer}
 use Rattle.control.specs.declared.answer.Answer.the-variants.{Done, Lacpdu, Marker, Refused}
 use Rattle.control.specs.declared.answer.Reason.the-variants as reason
 use Rattle.control.specs.Answer.{withDefault}
-use Rattle.control.specs.Call.{Call, start, receive, tick, line, configure, fetch, report, aggregator}
+use Rattle.control.specs.Call.{Call, start, receive, tick, line, configure, fetch, report, aggregator, due}
 use Rattle.control.specs.After.{answer, afterFrame, changedBy, unless, after, effect}
 use Rattle.control.specs.Accepted.{accepted}
 use Rattle.claims.proofs.Sound.{keptIf}
@@ -100,6 +100,7 @@ changed-count t s (configure n x) e = unfold effect in settings-count t (n - 1) 
 changed-count t s (fetch n out) e = unfold effect afterSend in again-count t (set (ports t) (n - 1) (sent (portAt t (n - 1))))
 changed-count t s (report n) e = unfold effect in again-count t (ports t)
 changed-count t s (aggregator n) e = unfold effect in again-count t (ports t)
+changed-count t s due e = unfold effect in again-count t (ports t)
 
 pub call-count : (t : List ℕ) → Sound t → (c : Call) → countIn (after c t) ≡ countIn t
 unfolding after

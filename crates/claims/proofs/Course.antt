@@ -32,7 +32,7 @@ use Rattle.work.specs.Work.{worked, afterOne, receivedAt, afterReceived, afterT
 use Rattle.control.specs.declared.answer.Answer.{Answer}
 use Rattle.control.specs.declared.answer.Answer.the-variants.{Done, Lacpdu, Marker, Refused}
 use Rattle.control.specs.Answer.{withRoom, withDefault, dueAnswer}
-use Rattle.control.specs.Call.{Call, start, receive, tick, line, configure, fetch, report, aggregator}
+use Rattle.control.specs.Call.{Call, start, receive, tick, line, configure, fetch, report, aggregator, due as dueCall}
 use Rattle.control.specs.After.{answer, afterFrame, changedBy, after, effect}
 use Rattle.control.specs.Accepted.{accepted}
 use Rattle.control.proofs.CallLaws.{named, received-on, after-accepted}
@@ -177,6 +177,7 @@ module _ (t : List ℕ) (s : Sound t) (i : ℕ) (h : i < countIn t) where
   changed-course (fetch n out) k e f = send-course n out (named t n (withRoom out (dueAnswer (due (portAt t (n - 1))))) e)
   changed-course (report n) k e f = stays same-port
   changed-course (aggregator n) k e f = stays same-port
+  changed-course dueCall k e f = stays same-port
 
   pub course : (c : Call) → Takes c → accepted (answer c t) ≡ true → isStart c ≡ false → Course c t (after c t) i
   course c k e f = subst (λ (u : List ℕ). Course c t u i) (sym (after-accepted t c e)) (changed-course c k e f)

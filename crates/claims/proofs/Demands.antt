@@ -15,7 +15,7 @@ use Rattle.claims.proofs.Locality.{locality}
 use Rattle.claims.proofs.LivePartner.{live-partner}
 use Rattle.claims.proofs.ThreeSends.{three-sends, four-sends-apart}
 use Rattle.claims.proofs.LineCall.{line-taken, line-repeated, half-silent, stays-silent}
-use Rattle.claims.proofs.Reports.{port-true, aggregator-true}
+use Rattle.claims.proofs.Reports.{port-true, aggregator-true, due-true}
 use Rattle.claims.proofs.Carries.{distributing-given, waiting-for-someone, register-adds-up}
 use Rattle.claims.proofs.Moves.{one-aggregator, moved-forgets}
 use Rattle.claims.proofs.Thinner.{thinner-for-a-reason}
@@ -67,6 +67,7 @@ further = record {
   stays-silent = stays-silent;
   port-true = port-true;
   aggregator-true = aggregator-true;
+  due-true = due-true;
   register-adds-up = register-adds-up;
   bits-true = bits-true;
   distributing-given = distributing-given;

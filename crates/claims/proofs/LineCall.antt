@@ -36,7 +36,7 @@ use Rattle.control.specs.declared.answer.Answer.{Answer}
 use Rattle.control.specs.declared.answer.Answer.the-variants.{Done, Lacpdu, Marker, Refused}
 use Rattle.control.specs.declared.answer.Reason.the-variants as reason
 use Rattle.control.specs.Answer.{isNumber, withRoom, withDefault, dueAnswer}
-use Rattle.control.specs.Call.{Call, start, receive, tick, line, configure, fetch, report, aggregator}
+use Rattle.control.specs.Call.{Call, start, receive, tick, line, configure, fetch, report, aggregator, due as dueCall}
 use Rattle.control.specs.After.{answer, afterFrame, changedBy, unless, after, effect}
 use Rattle.control.specs.Accepted.{accepted}
 use Rattle.table.proofs.TableLaws.{octets-back}
@@ -226,6 +226,7 @@ module _ (t : List ℕ) (s : Sound t) (i : ℕ) (h : i < countIn t) where
   changed-keeps (fetch n out) k e f = send-line (n - 1) (unfold answer in named t n (withRoom out (dueAnswer (due (portAt t (n - 1))))) e)
   changed-keeps (report n) k e f = same-line
   changed-keeps (aggregator n) k e f = same-line
+  changed-keeps dueCall k e f = same-line
 
   call-keeps : (c : Call) → Takes c → relines c i ≡ false → portAt (after c t) i .line ≡ portAt t i .line
   unfolding after

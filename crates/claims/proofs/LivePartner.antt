@@ -43,7 +43,7 @@ use Rattle.work.specs.Work.{worked, afterOne, receivedAt, afterReceived, afterT
 use Rattle.control.specs.declared.answer.Answer.{Answer}
 use Rattle.control.specs.declared.answer.Answer.the-variants.{Done, Lacpdu, Marker, Refused}
 use Rattle.control.specs.Answer.{withRoom, withDefault, dueAnswer}
-use Rattle.control.specs.Call.{Call, start, receive, tick, line, configure, fetch, report, aggregator}
+use Rattle.control.specs.Call.{Call, start, receive, tick, line, configure, fetch, report, aggregator, due as dueCall}
 use Rattle.control.specs.After.{answer, afterFrame, changedBy, unless, after, effect}
 use Rattle.control.specs.Accepted.{isLacpdu, accepted}
 use Rattle.claims.specs.Run.{Takes, AllTake, run}
@@ -340,6 +340,7 @@ module _ (t : List ℕ) (s : Sound t) (i : ℕ) (h : i < countIn t) where
   changed-goes (fetch n out) k e f = send-goes (n - 1) (unfold answer in named t n (withRoom out (dueAnswer (due (portAt t (n - 1))))) e)
   changed-goes (report n) k e f = same-goes
   changed-goes (aggregator n) k e f = same-goes
+  changed-goes dueCall k e f = same-goes
 
   unless-goes : (a : Answer) (u : List ℕ) → (accepted a ≡ true → Goes t u i) → Goes t (unless a t u) i
   unless-goes Done u f = f refl

@@ -37,7 +37,7 @@ use Rattle.work.specs.Work.{worked, afterOne, receivedAt, afterReceived, afterL
 use Rattle.control.specs.declared.answer.Answer.{Answer}
 use Rattle.control.specs.declared.answer.Answer.the-variants.{Done, Lacpdu, Marker, Refused}
 use Rattle.control.specs.Answer.{withRoom, withDefault, dueAnswer}
-use Rattle.control.specs.Call.{Call, start, receive, tick, line, configure, fetch, report, aggregator}
+use Rattle.control.specs.Call.{Call, start, receive, tick, line, configure, fetch, report, aggregator, due as dueCall}
 use Rattle.control.specs.After.{answer, afterFrame, changedBy, unless, after, effect}
 use Rattle.control.specs.Accepted.{accepted, isLacpdu}
 use Rattle.claims.specs.Run.{Takes}
@@ -213,6 +213,7 @@ module _ (t : List ℕ) (s : Sound t) (j : ℕ) (h : j < countIn t) where
   changed-local (fetch n out) k e f = send-local (n - 1) (named t n (withRoom out (dueAnswer (due (portAt t (n - 1))))) e) f
   changed-local (report n) k e f = same-port
   changed-local (aggregator n) k e f = same-port
+  changed-local dueCall k e f = same-port
 
 -- a refused call changes nothing, an accepted one what it changes
 unless-local : (a : Answer) (t u : List ℕ) (j : ℕ) → (accepted a ≡ true → portAt u j ≡ portAt t j) → portAt (unless a t u) j ≡ portAt t j

@@ -45,7 +45,7 @@ use Rattle.control.specs.declared.answer.Answer.{Answer}
 use Rattle.control.specs.declared.answer.Answer.the-variants.{Done, Lacpdu, Marker, Refused}
 use Rattle.control.specs.declared.answer.Reason.the-variants as reason
 use Rattle.control.specs.Answer.{withDefault}
-use Rattle.control.specs.Call.{Call, start, receive, tick, line, configure, fetch, report, aggregator}
+use Rattle.control.specs.Call.{Call, start, receive, tick, line, configure, fetch, report, aggregator, due}
 use Rattle.control.specs.After.{answer, changedBy, after, effect}
 use Rattle.control.specs.Accepted.{accepted}
 use Rattle.control.proofs.CallLaws.{if-accepted, Received, received-on, after-accepted, refused-table}
@@ -198,6 +198,7 @@ start-begins t (configure n x) k e f i h = absurd (false≢true f)
 start-begins t (fetch n out) k e f i h = absurd (false≢true f)
 start-begins t (report n) k e f i h = absurd (false≢true f)
 start-begins t (aggregator n) k e f i h = absurd (false≢true f)
+start-begins t due k e f i h = absurd (false≢true f)
 
 -- ---- any call
 

@@ -23,7 +23,8 @@ use Rattle.port.specs.Absent.{noPort}
 use Rattle.control.specs.Report.{noSets, portReport, aggregatorReport}
 use Rattle.control.specs.Accepted.{accepted}
 use Rattle.control.proofs.CallLaws.{in-table}
-use Rattle.claims.specs.Reports.{PortTrue, SetsTrue, AggregatorTrue}
+use Rattle.control.proofs.DueLaws.{due-fetched}
+use Rattle.claims.specs.Reports.{PortTrue, SetsTrue, AggregatorTrue, DueTrue}
 
 pub port-true : PortTrue
 unfolding portReport
@@ -62,3 +63,6 @@ unfolding aggregatorReport
 aggregator-true t k e =
     let is : aggregatorReport k t .sets ≡ setsOf k (ports t) = ap (λ (a : Answer). unless a noSets (setsOf k (ports t))) e in
     rw is (sets-true t (in-table t k Done (unfold answer in ap accepted e)) k)
+
+pub due-true : DueTrue
+due-true t i out room = due-fetched t i out room

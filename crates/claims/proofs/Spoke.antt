@@ -40,7 +40,7 @@ use Rattle.trunk.specs.Displaced.{isDisplaced}
 use Rattle.work.specs.Work.{worked, afterOne, afterTick, afterLine}
 use Rattle.control.specs.declared.answer.Answer.{Answer}
 use Rattle.control.specs.declared.answer.Answer.the-variants.{Done, Lacpdu, Marker, Refused}
-use Rattle.control.specs.Call.{Call, start, receive, tick, line, configure, fetch, report, aggregator}
+use Rattle.control.specs.Call.{Call, start, receive, tick, line, configure, fetch, report, aggregator, due}
 use Rattle.control.specs.After.{answer, after, effect}
 use Rattle.control.specs.Accepted.{isLacpdu, accepted}
 use Rattle.control.proofs.CallLaws.{named, on-port, after-accepted}
@@ -264,6 +264,7 @@ module _ (t : List ℕ) (m : Made t) (i : ℕ) (h : i < countIn t) where
   call-ends (fetch n out) k e = absurd (false≢true e)
   call-ends (report n) k e = absurd (false≢true e)
   call-ends (aggregator n) k e = absurd (false≢true e)
+  call-ends due k e = absurd (false≢true e)
 
   call-told : (c : Call) → Takes c → Told t i → Told (after c t) i
   call-told c k x = by (ends c t i) refl x

@@ -44,7 +44,7 @@ use Rattle.control.specs.declared.answer.Answer.{Answer}
 use Rattle.control.specs.declared.answer.Answer.the-variants.{Done, Lacpdu, Marker, Refused}
 use Rattle.control.specs.declared.answer.Reason.the-variants as reason
 use Rattle.control.specs.Answer.{answerNumber, isNumber, withRoom, withDefault, dueAnswer}
-use Rattle.control.specs.Call.{Call, start, receive, tick, line, configure, fetch, report, aggregator}
+use Rattle.control.specs.Call.{Call, start, receive, tick, line, configure, fetch, report, aggregator, due as dueCall}
 use Rattle.control.specs.After.{answer, afterFrame, changedBy, unless, after, effect}
 use Rattle.control.specs.Accepted.{accepted}
 use Rattle.claims.specs.Run.{Takes, AllTake, run, Made}
@@ -276,6 +276,7 @@ module _ (t : List ℕ) (s : Sound t) (n : ℕ) (some : 1 ≤ n) (h : n - 1 < co
       (λ e. unfold effect in rw (e, and-true (eqb n m)) (fetch-at m out e)) (λ e. rw (e, and-false (eqb n m)))
   call-at (report m) g = left (report m) (λ e. unfold effect in same-ages t s (n - 1) h)
   call-at (aggregator m) g = left (aggregator m) (λ e. unfold effect in same-ages t s (n - 1) h)
+  call-at dueCall g = left dueCall (λ e. unfold effect in same-ages t s (n - 1) h)
 
 -- ---- runs
 
@@ -402,6 +403,7 @@ behind n t (fetch m out ∷ cs) f l a r =
     sooner n t c cs l a r a r (fetched (eqb n m && accepted (answer c t)) l (a ∷ r)) refl (behind n (after c t) cs (f .1) (sendsBy n c t l) a r)
 behind n t (report m ∷ cs) f l a r = sooner n t (report m) cs l a r a r refl refl (behind n (after (report m) t) cs (f .1) l a r)
 behind n t (aggregator m ∷ cs) f l a r = sooner n t (aggregator m) cs l a r a r refl refl (behind n (after (aggregator m) t) cs (f .1) l a r)
+behind n t (dueCall ∷ cs) f l a r = sooner n t dueCall cs l a r a r refl refl (behind n (after dueCall t) cs (f .1) l a r)
 
 pub four-sends-apart : FourSendsApart
 four-sends-apart t m n first last k e cs takes none two f =

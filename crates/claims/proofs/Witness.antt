@@ -12,7 +12,7 @@ use Rattle.frame.specs.Block.{blockFits}
 use Rattle.machine.specs.Compare.{sameAddress, sameSystem, sameNumbers, sameParty, sameView, maintained, inSync, sameState, sameBlock}
 use Rattle.port.specs.Receive.{recordDefault, recordPdu, updateSelected, updateDefaultSelected, updateNtt, initialized, portDisabled, expired, lacpDisabled, defaulted, pduRecorded, current, moved, received, receiveChoice, receiveStep, receiveRun, lined}
 use Rattle.port.specs.Periodic.{periodicChoice, periodicStep, periodicRun}
-use Rattle.port.specs.Transmit.{due, sent, silent as Port·silent, nttCleared, ticked, advanced}
+use Rattle.port.specs.Transmit.{due, isDue, sent, silent as Port·silent, nttCleared, ticked, advanced}
 use Rattle.port.specs.Mux.{muxChoice, muxStep, detached, placed, attachedIf, muxRun}
 use Rattle.settings.specs.Settings.{sameGrouping, sameSettings, regrouped, configured, lawful, blank, started}
 use Rattle.port.specs.Range.{timersInRange, agesInRange, valuesInRange, ownFits}
@@ -23,7 +23,8 @@ use Rattle.trunk.specs.Displaced.{isDisplaced, displacedIf, displaced}
 use Rattle.octets.specs.Octets.{Octets, sameOctets}
 use Rattle.frame.specs.Class.{foreign, unknown, wrongLength, wrongMarkerType, illegal, classOf, frameSize}
 use Rattle.frame.specs.Wire.{zeros}
-use Rattle.report.specs.Sets.{stands, setOf, setsOf}
+use Rattle.octets.specs.Sets.{member}
+use Rattle.report.specs.Sets.{stands, setOf, setsOf, dueOf}
 use Rattle.table.specs.Range.{codesInRange, recordInRange, headerFits}
 use Rattle.table.specs.Record.{encoded, decoded}
 use Rattle.table.specs.State.{portIn}
@@ -31,7 +32,7 @@ use Rattle.table.specs.Table.{recordAt, portsFrom, ports, recordsOctets, tableO
 use Rattle.work.specs.Work.{worked, afterOne, afterStart, receivedAt, afterReceived, afterTick, afterLine, afterSettings, afterSend, lacpduOf}
 use Rattle.control.specs.Answer.{found}
 use Rattle.control.specs.After.{answer, after, writtenBy, outgoing, effect}
-use Rattle.control.specs.Report.{portReport, aggregatorReport}
+use Rattle.control.specs.Report.{portReport, aggregatorReport, dueReport}
 use Rattle.control.specs.Call.{Call}
 use Rattle.claims.specs.Run.{Takes, AllTake, run}
 use Rattle.claims.specs.ThreeSends.{sends}
@@ -63,7 +64,7 @@ takes =
     (tt, (tt, (tt, (refl, (received-takes 1 1 0x3F refl, (received-takes 1 2 0x3F refl, ticks-take 10 later then))))))
 
 pub witness : Witness
-unfolding sameAddress sameSystem sameNumbers sameParty sameView maintained inSync sameState sameBlock recordDefault recordPdu updateSelected updateDefaultSelected updateNtt initialized portDisabled expired lacpDisabled defaulted pduRecorded current moved received receiveChoice receiveStep receiveRun lined periodicChoice periodicStep periodicRun due sent Port·silent nttCleared ticked muxChoice muxStep detached placed attachedIf muxRun sameGrouping sameSettings regrouped configured lawful blank started advanced individual sameKeys sameGroup joins sharesGroup firstFrom lowest ruleOf waitsFor hasWaiting holdsBack heldBack ready mapFrom mustMove reselected selectedAll attachedAll muxed settled isDisplaced displacedIf displaced sameOctets foreign unknown wrongLength wrongMarkerType illegal classOf stands setOf setsOf codesInRange timersInRange agesInRange valuesInRange recordInRange blockFits ownFits headerFits encoded decoded recordAt decodedAt portIn portsFrom ports recordsOctets tableOctets firstInRange tableInRange worked afterOne afterStart receivedAt afterReceived afterTick afterLine afterSettings afterSend lacpduOf found answer effect after writtenBy outgoing portReport aggregatorReport ones onesIn trailingZeros run ticks tables begun trunk parted narrowed fallen halved dropped rekeyed silent restarted threeGroups pluggedOver twoLags every noneEnds fourth sends
+unfolding sameAddress sameSystem sameNumbers sameParty sameView maintained inSync sameState sameBlock recordDefault recordPdu updateSelected updateDefaultSelected updateNtt initialized portDisabled expired lacpDisabled defaulted pduRecorded current moved received receiveChoice receiveStep receiveRun lined periodicChoice periodicStep periodicRun due isDue sent Port·silent nttCleared ticked muxChoice muxStep detached placed attachedIf muxRun sameGrouping sameSettings regrouped configured lawful blank started advanced individual sameKeys sameGroup joins sharesGroup firstFrom lowest ruleOf waitsFor hasWaiting holdsBack heldBack ready mapFrom mustMove reselected selectedAll attachedAll muxed settled isDisplaced displacedIf displaced sameOctets foreign unknown wrongLength wrongMarkerType illegal classOf stands setOf setsOf dueOf member codesInRange timersInRange agesInRange valuesInRange recordInRange blockFits ownFits headerFits encoded decoded recordAt decodedAt portIn portsFrom ports recordsOctets tableOctets firstInRange tableInRange worked afterOne afterStart receivedAt afterReceived afterTick afterLine afterSettings afterSend lacpduOf found answer effect after writtenBy outgoing portReport aggregatorReport dueReport ones onesIn trailingZeros run ticks tables begun trunk parted narrowed fallen halved dropped rekeyed silent restarted threeGroups pluggedOver twoLags every noneEnds fourth sends
 witness = record {
   started = refl;
   made = record {
@@ -111,6 +112,12 @@ witness = record {
   port-true = refl;
   trunk-true = refl;
   narrowed-true = refl;
+  due-down = refl;
+  due-up = refl;
+  due-sent = refl;
+  due-barred = refl;
+  due-later = refl;
+  due-as-fetched = refl;
   fourth-at-once = refl;
   fourth-too-soon = refl;
   fourth-in-time = refl;

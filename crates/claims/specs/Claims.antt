@@ -16,7 +16,7 @@ use Rattle.work.specs.Work.{worked}
 use Rattle.control.specs.declared.answer.Answer.the-variants.{Refused}
 use Rattle.control.specs.declared.answer.Reason.{Reason}
 use Rattle.control.specs.declared.answer.Reason.the-variants.{Table}
-use Rattle.control.specs.Call.{Call, start, receive, tick, line, configure, fetch, report, aggregator}
+use Rattle.control.specs.Call.{Call, start, receive, tick, line, configure, fetch, report, aggregator, due}
 use Rattle.control.specs.After.{answer, after, bufferOf, outgoing}
 use Rattle.claims.specs.Run.{Made}
 use Rattle.claims.specs.AtRest.{Sound}
@@ -36,6 +36,7 @@ isStart (configure n s) = false
 isStart (fetch n out) = false
 isStart (report n) = false
 isStart (aggregator k) = false
+isStart due = false
 
 abbrev pub NoAnswerOne : Type 0
 NoAnswerOne = (t : List ℕ) → Made t → (c : Call) → isStart c ≡ false → answer c t ≢ Refused Table

@@ -26,7 +26,7 @@ use Rattle.claims.specs.ReadBack.{Reads}
 use Rattle.claims.specs.LivePartner.{LivePartner}
 use Rattle.claims.specs.ThreeSends.{ThreeSends, FourSendsApart}
 use Rattle.claims.specs.LineCall.{LineTaken, LineRepeated, HalfSilent, StaysSilent}
-use Rattle.claims.specs.Reports.{PortTrue, AggregatorTrue}
+use Rattle.claims.specs.Reports.{PortTrue, AggregatorTrue, DueTrue}
 use Rattle.claims.specs.Moves.{OneAggregator, MovedForgets}
 use Rattle.claims.specs.Thinner.{ThinnerForAReason}
 use Rattle.claims.specs.Spoke.{PartnerSpoke}
@@ -101,9 +101,10 @@ pub record Further : Type 0 where
   pub line-repeated : LineRepeated
   pub half-silent : HalfSilent
   pub stays-silent : StaysSilent
-  -- the reports are the records, and those of all aggregators add up
+  -- the reports are the records, and say what a fetch would answer, and those of all aggregators add up
   pub port-true : PortTrue
   pub aggregator-true : AggregatorTrue
+  pub due-true : DueTrue
   pub register-adds-up : RegisterAddsUp
   -- the actor's bits say the mux state; whoever may carry does; whoever waits, waits for somebody
   pub bits-true : BitsTrue

@@ -9,7 +9,7 @@ use Rattle.table.specs.Table.{portAt}
 use Rattle.control.specs.declared.answer.Answer.the-variants.{Refused}
 use Rattle.control.specs.declared.answer.Reason.the-variants.{NothingToSend}
 use Rattle.control.specs.Answer.{isNumber, withRoom}
-use Rattle.control.specs.Call.{Call, start, receive, tick, line, configure, fetch, report, aggregator}
+use Rattle.control.specs.Call.{Call, start, receive, tick, line, configure, fetch, report, aggregator, due}
 use Rattle.control.specs.After.{answer, after}
 use Rattle.control.specs.Accepted.{accepted}
 use Rattle.octets.specs.Octets.{Octets}
@@ -42,6 +42,7 @@ relines (configure n s) i = false
 relines (fetch n out) i = false
 relines (report n) i = false
 relines (aggregator n) i = false
+relines due i = false
 
 abbrev pub NoneRelines : List Call → ℕ → Type 0
 NoneRelines [] i = Unit

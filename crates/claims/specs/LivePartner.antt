@@ -17,7 +17,7 @@ use Rattle.port.specs.Receive.{withState}
 use Rattle.table.specs.Table.{portAt}
 use Rattle.trunk.specs.Displaced.{isDisplaced}
 use Rattle.control.specs.declared.answer.Answer.the-variants.{Lacpdu}
-use Rattle.control.specs.Call.{Call, start, receive, tick, line, configure, fetch, report, aggregator}
+use Rattle.control.specs.Call.{Call, start, receive, tick, line, configure, fetch, report, aggregator, due}
 use Rattle.control.specs.After.{answer, after}
 use Rattle.control.specs.Accepted.{isLacpdu, accepted}
 use Rattle.claims.specs.Run.{Takes, AllTake, run, Made}
@@ -55,6 +55,7 @@ ends (configure n s) t i = false
 ends (fetch n out) t i = false
 ends (report n) t i = false
 ends (aggregator n) t i = false
+ends due t i = false
 
 -- no call of a run ends it
 abbrev pub NoneEnds : List ℕ → ℕ → List Call → Type 0

@@ -10,7 +10,7 @@ use Rattle.port.specs.Compared.{compared}
 use Rattle.table.specs.Table.{countIn, ports, portAt, ours}
 use Rattle.trunk.specs.Selection.{sharesGroup}
 use Rattle.trunk.specs.Displaced.{isDisplaced}
-use Rattle.control.specs.Call.{Call, start, receive, tick, line, configure, fetch, report, aggregator}
+use Rattle.control.specs.Call.{Call, start, receive, tick, line, configure, fetch, report, aggregator, due}
 use Rattle.control.specs.After.{answer, after}
 use Rattle.control.specs.Accepted.{isLacpdu}
 use Rattle.claims.specs.Run.{Takes, Made}
@@ -27,6 +27,7 @@ touches (configure n s) t k = eqb k (n - 1)
 touches (fetch n out) t k = eqb k (n - 1)
 touches (report n) t k = false
 touches (aggregator n) t k = false
+touches due t k = false
 
 -- port j shares a group with port k neither before nor after the call
 pub record Apart (c : Call) (t : List ℕ) (j k : ℕ) : Type 0 where

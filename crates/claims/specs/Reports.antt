@@ -1,19 +1,22 @@
--- What the two reports say, against the records.
+-- What the three reports say, against the records and against what a fetch would answer.
 use Prim.Native.Nat.{ℕ, _+_, _-_, _<_, _≤_}
 use mathlib.Core.Path.{_≡_}
 use mathlib.Core.Bool.{Bool, true, false, _&&_}
 use mathlib.Core.List.{List}
 use lib.Dec.{eqb}
+use lib.ListN.{length}
 use Rattle.machine.specs.Mux.{isAttached, distributes}
 use Rattle.port.specs.declared.record.Port.{Port}
 use Rattle.report.specs.declared.Sets.{Sets}
 use Rattle.report.specs.Sets.{counted}
 use Rattle.octets.specs.Sets.{member}
+use Rattle.frame.specs.Class.{frameSize}
 use Rattle.table.specs.Table.{countIn, ports, portAt}
 use Rattle.control.specs.declared.answer.Answer.the-variants.{Done}
-use Rattle.control.specs.Call.{report, aggregator}
+use Rattle.control.specs.Accepted.{accepted}
+use Rattle.control.specs.Call.{report, aggregator, fetch}
 use Rattle.control.specs.After.{answer}
-use Rattle.control.specs.Report.{portReport, aggregatorReport}
+use Rattle.control.specs.Report.{portReport, aggregatorReport, dueReport}
 
 -- 7: an accepted port report is the port's record
 abbrev pub PortTrue : Type 0
@@ -36,3 +39,7 @@ pub record SetsTrue (k : ℕ) (t : List ℕ) (s : Sets) : Type 0 where
 
 abbrev pub AggregatorTrue : Type 0
 AggregatorTrue = (t : List ℕ) (k : ℕ) → answer (aggregator k) t ≡ Done → SetsTrue k t (aggregatorReport k t .sets)
+
+-- of any memory: a port has something to send exactly if its fetch, lent room for a frame, would be answered 0
+abbrev pub DueTrue : Type 0
+DueTrue = (t : List ℕ) (i : ℕ) (out : List ℕ) → frameSize ≤ length out → member (dueReport t .ports) i ≡ accepted (answer (fetch (i + 1) out) t)

@@ -11,7 +11,7 @@ use Rattle.port.specs.Range.{ownFits}
 use Rattle.settings.specs.declared.Settings.{Settings}
 use Rattle.settings.specs.Settings.{ownOf}
 use Rattle.table.specs.Range.{headerFits}
-use Rattle.control.specs.Call.{Call, start, receive, tick, line, configure, fetch, report, aggregator}
+use Rattle.control.specs.Call.{Call, start, receive, tick, line, configure, fetch, report, aggregator, due}
 use Rattle.control.specs.After.{answer, after}
 use Rattle.control.specs.Accepted.{accepted}
 
@@ -26,6 +26,7 @@ Takes (configure n s) = ownFits (ownOf s) ≡ true
 Takes (fetch n out) = Octets out
 Takes (report n) = Unit
 Takes (aggregator k) = Unit
+Takes due = Unit
 
 abbrev pub AllTake : List Call → Type 0
 AllTake [] = Unit

@@ -12,7 +12,7 @@ use Rattle.machine.specs.Time.{fastPeriodicTime}
 use Rattle.table.specs.Table.{countIn, portAt}
 use Rattle.control.specs.declared.answer.Answer.the-variants.{Done}
 use Rattle.control.specs.Answer.{answerNumber}
-use Rattle.control.specs.Call.{Call, start, receive, tick, line, configure, fetch, report, aggregator}
+use Rattle.control.specs.Call.{Call, start, receive, tick, line, configure, fetch, report, aggregator, due}
 use Rattle.control.specs.After.{answer, after}
 use Rattle.control.specs.Accepted.{accepted}
 use Rattle.claims.specs.Run.{Takes, AllTake, run, Made}
@@ -31,6 +31,7 @@ sendsBy n (configure m s) t l = l
 sendsBy n (fetch m out) t l = cond (eqb n m && accepted (answer (fetch m out) t)) (0 ∷ l) l
 sendsBy n (report m) t l = l
 sendsBy n (aggregator k) t l = l
+sendsBy n due t l = l
 
 -- along calls, from table t and the sends l before them
 unfoldable pub sends : ℕ → List ℕ → List Call → List ℕ → List ℕ
@@ -75,6 +76,7 @@ isTick (configure m s) = false
 isTick (fetch m out) = false
 isTick (report m) = false
 isTick (aggregator k) = false
+isTick due = false
 
 -- the ticks among some calls; of a table that calls made, none is refused
 unfoldable pub ticksIn : List Call → ℕ

@@ -1,12 +1,13 @@
 -- One run, computed: a table that calls made, and what each theorem says of it and of what a call makes of it. So no theorem is empty, and a
 -- definition that breaks one shows here, whatever the laws below say of it.
-use Prim.Native.Nat.{ℕ, zero, suc, _-_}
+use Prim.Native.Nat.{ℕ, zero, suc, _+_, _-_}
 use mathlib.Core.Path.{_≡_}
 use mathlib.Core.Bool.{Bool, true, false, not, _&&_, _||_}
 use mathlib.Core.List.{List, [], _∷_, map}
 use lib.ListN.{replicate}
 use lib.Dec.{eqb}
 use Rattle.octets.specs.Octets.{sameOctets}
+use Rattle.octets.specs.Sets.{member}
 use Rattle.frame.specs.declared.block.Block.{Block}
 use Rattle.frame.specs.declared.class.Class.{Class}
 use Rattle.frame.specs.declared.class.Class.the-variants as class
@@ -29,9 +30,9 @@ use Rattle.trunk.specs.Selection.{sameKeys, sharesGroup, ruleOf}
 use Rattle.trunk.specs.Displaced.{isDisplaced}
 use Rattle.work.specs.Work.{worked}
 use Rattle.control.specs.Answer.{answerNumber, lengthSent}
-use Rattle.control.specs.Call.{Call, start, receive, tick, line, configure, fetch, report, aggregator}
+use Rattle.control.specs.Call.{Call, start, receive, tick, line, configure, fetch, report, aggregator, due}
 use Rattle.control.specs.After.{answer, after, bufferOf, outgoing}
-use Rattle.control.specs.Report.{portReport, aggregatorReport}
+use Rattle.control.specs.Report.{portReport, aggregatorReport, dueReport}
 use Rattle.control.specs.Accepted.{accepted, isLacpdu as isLacpdu·answer}
 use Rattle.claims.specs.Run.{run, Made}
 use Rattle.claims.specs.Locality.{touches}
@@ -158,7 +159,7 @@ asks n = receive n question (zeros frameSize)
 -- frames on the other ports and ticks; then a Marker, a fetch, reports, a start that is refused, other settings, a link that falls and comes back
 abbrev pub further : List Call
 further =
-    asks 1 ∷ fetch 1 lent ∷ report 1 ∷ aggregator 1 ∷ start 2 (system 9) noDelay (settings true 0) ∷ configure 1 (keyedSettings 3 false 0x3C)
+    asks 1 ∷ fetch 1 lent ∷ report 1 ∷ aggregator 1 ∷ due ∷ start 2 (system 9) noDelay (settings true 0) ∷ configure 1 (keyedSettings 3 false 0x3C)
     ∷ line 1 downHalf ∷ line 1 downFull ∷ line 1 upFull ∷ tick ∷ []
 
 abbrev pub since : List Call
@@ -231,6 +232,10 @@ setsAre s h a d n l = eqb (s .holding) h && (eqb (s .attached) a && (eqb (s .dis
 -- nothing is due on port 1
 abbrev pub quiet : List ℕ → Bool
 quiet t = not (portAt t 0 .ntt) && silently (fetch 1 lent) t
+
+-- the report of what is due says of port i what its fetch would be answered
+abbrev pub tellsFetch : List ℕ → ℕ → Bool
+tellsFetch t i = alike (member (dueReport t .ports) i) (accepted (answer (fetch (i + 1) lent) t))
 
 -- port j shares a group, before and after the call, with none that it touches
 abbrev pub apartFrom : Call → List ℕ → ℕ → ℕ → Bool
@@ -308,6 +313,13 @@ pub record Witness : Type 0 where
   pub port-true : sameOctets (encoded (portReport 2 trunk .port)) (encoded (portAt trunk 1)) ≡ true
   pub trunk-true : setsAre (aggregatorReport 1 trunk .sets) 3 3 3 2 1 ≡ true
   pub narrowed-true : setsAre (aggregatorReport 1 narrowed .sets) 3 3 1 1 1 ≡ true
+  -- nothing is to be sent where no link is up; then one LACPDU on each port; on the others when port 1 has sent; and none where three sends bar it
+  pub due-down : dueReport begun .ports ≡ 0
+  pub due-up : dueReport linked .ports ≡ 7
+  pub due-sent : dueReport (after (fetch 1 lent) linked) .ports ≡ 6
+  pub due-barred : dueReport (run begun (line 1 upFull ∷ sendsBefore false (sendsBefore true (sendsBefore false [])))) .ports ≡ 0
+  pub due-later : dueReport (run begun (line 1 upFull ∷ sendsBefore false (sendsBefore true (sendsBefore false (ticks 11 []))))) .ports ≡ 1
+  pub due-as-fetched : every (λ t. every (tellsFetch t) (0 ∷ 1 ∷ 2 ∷ 3 ∷ [])) seen ≡ true
   -- 8
   pub fourth-at-once : fourth 0 ≡ 11
   pub fourth-too-soon : fourth 10 ≡ 11

@@ -1,3 +1,4 @@
 pub mod CallLaws
 pub mod OneResult
 pub mod RuleLaws
+pub mod DueLaws

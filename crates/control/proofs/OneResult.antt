@@ -6,9 +6,10 @@ use mathlib.Core.List.{List}
 use Rattle.control.specs.declared.answer.Answer.{Answer}
 use Rattle.control.specs.declared.answer.PortReport.{PortReport}
 use Rattle.control.specs.declared.answer.AggregatorReport.{AggregatorReport}
+use Rattle.control.specs.declared.answer.DueReport.{DueReport}
 use Rattle.control.specs.Call.{Call}
-use Rattle.control.specs.Meets.{Meets, MeetsOut, MeetsNumber, MeetsNumberOut, MeetsFrame, MeetsPort, MeetsAggregator}
-use Rattle.control.specs.Report.{portReport, aggregatorReport}
+use Rattle.control.specs.Meets.{Meets, MeetsOut, MeetsNumber, MeetsNumberOut, MeetsFrame, MeetsPort, MeetsAggregator, MeetsDue}
+use Rattle.control.specs.Report.{portReport, aggregatorReport, dueReport}
 
 -- both equal what the contract names
 same : {A : Type 0} {x y z : A} → x ≡ z → y ≡ z → x ≡ y
@@ -30,6 +31,9 @@ one-port-report n t r s x y = same x y
 pub one-aggregator-report : (k : ℕ) (t : List ℕ) (r s : AggregatorReport) → r ≡ aggregatorReport k t → s ≡ aggregatorReport k t → r ≡ s
 one-aggregator-report k t r s x y = same x y
 
+pub one-due-report : (t : List ℕ) (r s : DueReport) → r ≡ dueReport t → s ≡ dueReport t → r ≡ s
+one-due-report t r s x y = same x y
+
 -- ---- the C functions
 
 module _ (c : Call) (t : List ℕ) (n m : ℕ) (u v : List ℕ) where
@@ -49,3 +53,6 @@ pub one-aggregator : (k : ℕ) (t : List ℕ) (n m h i a b d e c f l g : ℕ) �
     → (n ≡ m) × (h ≡ i) × (a ≡ b) × (d ≡ e) × (c ≡ f) × (l ≡ g)
 one-aggregator k t n m h i a b d e c f l g x y =
     (same (x .0) (y .0), same (x .1) (y .1), same (x .2) (y .2), same (x .3) (y .3), same (x .4) (y .4), same (x .5) (y .5))
+
+pub one-due : (t : List ℕ) (n m p q : ℕ) → MeetsDue t n p → MeetsDue t m q → (n ≡ m) × (p ≡ q)
+one-due t n m p q x y = (same (x .0) (y .0), same (x .1) (y .1))

@@ -1,17 +1,16 @@
 -- What each call answers, and what it leaves in the table and in the outgoing buffer.
 use Prim.Native.Nat.{ℕ, _-_}
-use mathlib.Core.Bool.{cond}
 use mathlib.Core.List.{List, []}
 use Rattle.frame.specs.Class.{classOf}
-use Rattle.port.specs.Transmit.{due}
+use Rattle.port.specs.Transmit.{due as dueOn}
 use Rattle.table.specs.State.{State}
 use Rattle.table.specs.Table.{tableInRange, portAt, stateOf, onOctets}
 use Rattle.work.specs.Work.{afterStart, afterReceived, afterTick, afterLine, afterSettings, afterSend, lacpduOf, responseOf, writtenOver}
 use Rattle.control.specs.declared.answer.Answer.{Answer}
 use Rattle.control.specs.declared.answer.Answer.the-variants.{Done, Lacpdu, Marker, Refused}
 use Rattle.control.specs.declared.answer.Reason.the-variants as reason
-use Rattle.control.specs.Answer.{onPort, withRoom, withDefault, frameAnswer, dueAnswer, startAnswer}
-use Rattle.control.specs.Call.{Call, start, receive, tick, line, configure, fetch, report, aggregator}
+use Rattle.control.specs.Answer.{onTable, onPort, withRoom, withDefault, frameAnswer, dueAnswer, startAnswer}
+use Rattle.control.specs.Call.{Call, start, receive, tick, line, configure, fetch, report, aggregator, due}
 
 -- what came before where the call is refused, and otherwise what comes then
 abbrev pub unless : {A : Type 0} → Answer → A → A → A
@@ -24,12 +23,13 @@ unless (Refused r) before then = before
 unfoldable pub answer : Call → List ℕ → Answer
 answer (start count system delay s) t = startAnswer t count s
 answer (receive n frame out) t = onPort t n (withRoom out (frameAnswer (classOf frame) (portAt t (n - 1) .line) (portAt t (n - 1) .phase .mux)))
-answer tick t = cond (tableInRange t) Done (Refused reason.Table)
+answer tick t = onTable t
 answer (line n l) t = onPort t n Done
 answer (configure n s) t = onPort t n (withDefault s Done)
-answer (fetch n out) t = onPort t n (withRoom out (dueAnswer (due (portAt t (n - 1)))))
+answer (fetch n out) t = onPort t n (withRoom out (dueAnswer (dueOn (portAt t (n - 1)))))
 answer (report n) t = onPort t n Done
 answer (aggregator k) t = onPort t k Done
+answer due t = onTable t
 
 -- a received frame: an accepted LACPDU changes records, and nothing else does
 abbrev pub afterFrame : Answer → ℕ → List ℕ → State → State
@@ -48,6 +48,7 @@ effect (configure n x) a s = afterSettings (n - 1) x s
 effect (fetch n out) a s = afterSend (n - 1) s
 effect (report n) a s = s
 effect (aggregator k) a s = s
+effect due a s = s
 
 -- and of its octets
 abbrev pub changedBy : Call → List ℕ → List ℕ
@@ -69,6 +70,7 @@ bufferOf (configure n s) = []
 bufferOf (fetch n out) = out
 bufferOf (report n) = []
 bufferOf (aggregator k) = []
+bufferOf due = []
 
 -- a received frame: an accepted Marker is answered, and nothing else writes
 abbrev pub sentFor : Answer → State → ℕ → List ℕ → List ℕ → List ℕ
@@ -86,6 +88,7 @@ writtenBy (configure n s) t = []
 writtenBy (fetch n out) t = writtenOver (lacpduOf (stateOf t) (n - 1)) out
 writtenBy (report n) t = []
 writtenBy (aggregator k) t = []
+writtenBy due t = []
 
 -- a refusal leaves it as it came
 unfoldable pub outgoing : Call → List ℕ → List ℕ

@@ -53,6 +53,10 @@ lengthSent (Refused r) = 0
 
 -- ---- the tests
 
+-- 1: what a call on the whole table tests
+abbrev pub onTable : List ℕ → Answer
+onTable t = cond (tableInRange t) Done (Refused reason.Table)
+
 -- R2.2: whether a port, and so an aggregator, has this number
 abbrev pub isNumber : List ℕ → ℕ → Bool
 isNumber t n = within 1 n (countIn t)

@@ -16,3 +16,4 @@ pub data Call : Type 0 where
   fetch : (port : ℕ) → (out : List ℕ) → Call
   report : (port : ℕ) → Call
   aggregator : (number : ℕ) → Call
+  due : Call

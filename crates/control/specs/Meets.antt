@@ -11,7 +11,7 @@ use Rattle.control.specs.declared.answer.Answer.{Answer}
 use Rattle.control.specs.Answer.{answerNumber, lengthSent, withRoom, frameAnswer, dueAnswer}
 use Rattle.control.specs.Call.{Call}
 use Rattle.control.specs.After.{answer, after, outgoing, unless, afterFrame, sentFor}
-use Rattle.control.specs.Report.{portReport, aggregatorReport}
+use Rattle.control.specs.Report.{portReport, aggregatorReport, dueReport}
 
 -- of a call on table t: the answer a, and the table u afterwards
 abbrev pub Meets : Call → List ℕ → Answer → List ℕ → Type 0
@@ -58,3 +58,7 @@ MeetsAggregator k t n holding attached distributing count lowest =
     × (distributing ≡ aggregatorReport k t .sets .distributing)
     × (count ≡ aggregatorReport k t .sets .count)
     × (lowest ≡ aggregatorReport k t .sets .lowest)
+
+-- which ports have something to send: their set
+abbrev pub MeetsDue : List ℕ → ℕ → ℕ → Type 0
+MeetsDue t n ports = (n ≡ answerNumber (dueReport t .answer)) × (ports ≡ dueReport t .ports)

@@ -97,3 +97,9 @@ pub struct AggregatorReport {
     pub answer: Answer,
     pub sets: Sets,
 }
+
+// The ports that have something to send; beside a refusal, none.
+pub struct DueReport {
+    pub answer: Answer,
+    pub ports: u32,
+}

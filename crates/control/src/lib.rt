@@ -4,9 +4,10 @@ ghost use mathlib.Core.Path.{_≡_};
 ghost use Rattle.table.specs.Table.{InTable};
 ghost use Rattle.control.specs.Call.{start as Call·start, receive as Call·receive, tick as Call·tick, line as Call·line, configure as Call·configure, fetch as Call·fetch};
 ghost use Rattle.control.specs.Meets.{Meets, MeetsOut, MeetsReceive, MeetsFetch};
-ghost use Rattle.control.specs.Report.{portReport, aggregatorReport};
+ghost use Rattle.control.specs.Report.{portReport, aggregatorReport, dueReport};
 use crate::answer::AggregatorReport;
 use crate::answer::Answer;
+use crate::answer::DueReport;
 use crate::answer::PortReport;
 use crate::answer::Reason;
 use crate::checks::Found;
@@ -184,5 +185,21 @@ pub fn report_aggregator(table: &[u8], n: u32) -> AggregatorReport
             answer: Answer::Done,
             sets: report::aggregator_of(table, n as u8),
         },
+    }
+}
+
+// The ports that have something to send: those whose fetch would be answered 0.
+pub fn report_due(table: &[u8]) -> DueReport
+    ensures { λ r. ⌜ r ≡ dueReport (now (table .entry)) ⌝ }
+{
+    if !table::is_table(table) {
+        return DueReport {
+            answer: Answer::Refused(Reason::Table),
+            ports: 0,
+        };
+    }
+    DueReport {
+        answer: Answer::Done,
+        ports: report::due_ports(table),
     }
 }

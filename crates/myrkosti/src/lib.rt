@@ -2,7 +2,7 @@
 ghost use mathlib.Core.Path.{_≡_};
 ghost use Rattle.table.specs.Layout.{publishedSize};
 ghost use Rattle.control.specs.Call.{start as Call·start, receive as Call·receive, tick as Call·tick, line as Call·line, configure as Call·configure, fetch as Call·fetch};
-ghost use Rattle.control.specs.Meets.{MeetsNumber, MeetsNumberOut, MeetsFrame, MeetsPort, MeetsAggregator};
+ghost use Rattle.control.specs.Meets.{MeetsNumber, MeetsNumberOut, MeetsFrame, MeetsPort, MeetsAggregator, MeetsDue};
 ghost use Rattle.myrkosti.specs.Arguments.{settingsOf, systemOf, delayOf};
 use frame::block::Address;
 use frame::block::Block;
@@ -152,6 +152,17 @@ pub extern "C" fn myrkosti_aggregator(
     *distributing = r.sets.distributing;
     *count = r.sets.count;
     *lowest = r.sets.lowest;
+    let a = r.answer;
+    a.number() as u32
+}
+
+// The ports that have something to send: those whose fetch would be answered 0; none beside a refusal.
+#[no_mangle]
+pub extern "C" fn myrkosti_due(table: &[u8], ports: &mut u32) -> u32
+    ensures { λ r. ⌜ MeetsDue (now (table .entry)) r (now (ports .exit)) ⌝ }
+{
+    let r = control::report_due(table);
+    *ports = r.ports;
     let a = r.answer;
     a.number() as u32
 }

@@ -1,4 +1,4 @@
--- The aggregator report (R15.2 to R15.4): sets of ports, by how they stand to an aggregator.
+-- The aggregator report (R15.2 to R15.4), and which ports have something to send: sets of ports, by how they stand.
 use Prim.Native.Nat.{ℕ, _+_, _*_}
 use mathlib.Core.Bool.{Bool, cond, _&&_}
 use mathlib.Core.List.{List, [], _∷_}
@@ -7,15 +7,17 @@ use lib.Count.{ones, trailingZeros}
 use Rattle.frame.specs.State.{weighed}
 use Rattle.machine.specs.Mux.{isAttached, distributes}
 use Rattle.port.specs.declared.record.Port.{Port}
+use Rattle.port.specs.Transmit.{isDue}
 use Rattle.report.specs.declared.Role.{Role}
-use Rattle.report.specs.declared.Role.the-variants.{Holds, Attached, Distributes}
+use Rattle.report.specs.declared.Role.the-variants.{Holds, Attached, Distributes, Due}
 use Rattle.report.specs.declared.Sets.{Sets}
 
--- how a port stands to aggregator k
+-- how a port stands to aggregator k, or whether an LACPDU is due on it
 unfoldable pub stands : Role → ℕ → Port → Bool
 stands Holds k p = eqb (p .aggregator) k
 stands Attached k p = eqb (p .aggregator) k && isAttached (p .phase .mux)
 stands Distributes k p = eqb (p .aggregator) k && distributes (p .phase .mux)
+stands Due k p = isDue p
 
 -- the ports that pass a test, bit 0 the first
 unfoldable pub setOf : (Port → Bool) → List Port → ℕ
@@ -35,6 +37,10 @@ setsOf k ps = record {
   count = ones (setOf (stands Distributes k) ps);
   lowest = lowestOf (setOf (stands Distributes k) ps);
 }
+
+-- the ports on which an LACPDU is due (R12)
+unfoldable pub dueOf : List Port → ℕ
+dueOf ps = setOf isDue ps
 
 -- ---- what a set and a count say
 

@@ -1,15 +1,23 @@
-// The aggregator report: the ports of a table that hold an aggregator, are attached to it and distribute, as 32-bit sets.
+// Reports of several ports as 32-bit sets: those that hold an aggregator, are attached to it and distribute, and those that have an LACPDU to send.
 ghost use mathlib.Core.Path.{_≡_};
 ghost use mathlib.Core.Bool.{true};
+ghost use lib.ListN.{length};
 ghost use Rattle.frame.specs.State.{weighed};
+ghost use Rattle.port.specs.Transmit.{isDue};
+ghost use Rattle.table.specs.Layout.{recordSize};
+ghost use Rattle.table.specs.Record.{decoded};
 ghost use Rattle.table.specs.Table.{tableInRange, InTable, ports, portAt};
-ghost use Rattle.report.specs.Sets.{stands, setOf, lowestOf, setsOf};
+ghost use Rattle.report.specs.Sets.{stands, setOf, lowestOf, setsOf, dueOf};
+use table::record::ages_in;
+use table::record::line_in;
+use table::record::ntt_in;
 
-// How a port stands to an aggregator.
+// How a port stands to an aggregator; or, whichever it holds, that it has an LACPDU to send.
 pub enum Role {
     Holds,
     Attached,
     Distributes,
+    Due,
 }
 
 // The ports of an aggregator as sets, bit 0 the first port, with how many distribute and the lowest that does (from 1; 0 for none).
@@ -19,6 +27,16 @@ pub struct Sets {
     pub distributing: u32,
     pub count: u32,
     pub lowest: u32,
+}
+
+// Whether an LACPDU is due on the port with these octets, of which NTT, link, duplex and ages are looked at.
+fn is_due(s: &[u8]) -> bool
+    requires { ⌜ length (now s) ≡ recordSize ⌝ }
+    ensures { λ r. ⌜ r ≡ isDue (decoded (now (s .entry))) ⌝ }
+{
+    let line = line_in(s);
+    let ages = ages_in(s);
+    ntt_in(s) & (line.up & (line.full & !ages.is_barred()))
 }
 
 // Whether port i, from 0, stands so to aggregator k.
@@ -33,6 +51,7 @@ fn stands_to(table: &[u8], i: usize, role: Role, k: u8) -> bool
         Role::Holds => held == k,
         Role::Attached => (held == k) & m.is_attached(),
         Role::Distributes => (held == k) & m.distributes(),
+        Role::Due => is_due(table::look(table, i)),
     }
 }
 
@@ -82,4 +101,12 @@ pub fn aggregator_of(table: &[u8], k: u8) -> Sets
         count: u32::count_ones(distributing),
         lowest: lowest_of(distributing),
     }
+}
+
+// The ports on which an LACPDU is due, bit 0 the first port.
+pub fn due_ports(table: &[u8]) -> u32
+    requires { ⌜ tableInRange (now table) ≡ true ⌝ }
+    ensures { λ r. ⌜ r ≡ dueOf (ports (now (table .entry))) ⌝ }
+{
+    set_of(table, Role::Due, 0)
 }
