@@ -166,11 +166,19 @@ uint32_t myrkosti_settings(uint8_t *table, size_t table_len, uint32_t port,
 
 /*
  * The next LACPDU of a port. On answer 0 `out` begins with a frame of 124 octets, which you send on that port at once; octets after it are kept.
- * Ask every port after every call that was answered 0, and after every tick; but first let the chip receive on each port whose record has
- * MYRKOSTI_COLLECTING in its state, since the LACPDU says so, and stop it sending on each port that distributes no longer.
- * Answers 0 to 3, 10 or 11.
+ * Fetch on each port that myrkosti_due gives; but first let the chip receive on each port whose record has MYRKOSTI_COLLECTING in its state,
+ * since the LACPDU says so, and stop it sending on each port that distributes no longer. Answers 0 to 3, 10 or 11.
  */
 uint32_t myrkosti_fetch(uint8_t *table, size_t table_len, uint32_t port, uint8_t *out, size_t out_len);
+
+/*
+ * The ports that have something to send, as a set, bit 0 is port 1: exactly those on which myrkosti_fetch, with a buffer of 124 octets, would be
+ * answered 0. Ask once after every call that was answered 0 and may have changed something, and so after every tick, and fetch on these ports alone.
+ * A fetch on every port would find the same, but every call checks the whole table's ranges first, and with nothing to send that check is all that a
+ * fetch costs: this call costs about one of them. A port that three sends bar is in the set once a tick lets it speak. `ports` is written at every
+ * call, with 0 beside a refusal, and nothing else is. Answers 0 or 1.
+ */
+uint32_t myrkosti_due(const uint8_t *table, size_t table_len, uint32_t *ports);
 
 /* The record of a port. `record` is written at every call, with zeros beside a refusal. Answers 0, 1 or 2. */
 uint32_t myrkosti_port(const uint8_t *table, size_t table_len, uint32_t port, uint8_t record[MYRKOSTI_RECORD]);

@@ -109,6 +109,9 @@ static void refuse_tables(void)
     a = b = c = d = e = 9;
     IS(myrkosti_aggregator(table, SIZE, 1, &a, &b, &c, &d, &e), MYRKOSTI_TABLE_WRONG);
     IS(a | b | c | d | e, 0);
+    a = 9;
+    IS(myrkosti_due(table, SIZE, &a), MYRKOSTI_TABLE_WRONG);
+    IS(a, 0);
     IS(memcmp(table, before, sizeof table), 0);
 }
 
@@ -434,6 +437,164 @@ static void repeat_a_line(void)
     IS(field(table, 1, MYRKOSTI_AT_MUX), ATTACHED);
 }
 
+/* ---- what is due ---- */
+
+enum { LARGEST = MYRKOSTI_TABLE(MYRKOSTI_PORTS) };
+
+/* the answer, and the set in *ports, beside which nothing is written and no octet of the table changes */
+static uint32_t ask_due(const uint8_t *table, size_t length, uint32_t *ports)
+{
+    uint8_t before[LARGEST];
+    uint32_t written[3] = {7, 0xffffffff, 7};
+    memcpy(before, table, length);
+    uint32_t answer = myrkosti_due(table, length, &written[1]);
+    IS(memcmp(table, before, length), 0);
+    IS(written[0], 7);
+    IS(written[2], 7);
+    *ports = written[1];
+    return answer;
+}
+
+/* the set, which must be that of the ports on which a fetch, tried on a copy, is answered 0 */
+static uint32_t due(const uint8_t *table, uint32_t count)
+{
+    uint8_t copy[LARGEST], out[MYRKOSTI_FRAME];
+    uint32_t ports, fetched = 0;
+    IS(ask_due(table, MYRKOSTI_TABLE(count), &ports), MYRKOSTI_DONE);
+    for (uint32_t port = 1; port <= count; port++) {
+        memcpy(copy, table, MYRKOSTI_TABLE(count));
+        if (myrkosti_fetch(copy, MYRKOSTI_TABLE(count), port, out, sizeof out) == MYRKOSTI_DONE) {
+            fetched |= 1u << (port - 1);
+        }
+    }
+    IS(ports, fetched);
+    return ports;
+}
+
+static void refuse_due(const uint8_t *table, size_t length)
+{
+    uint8_t record[MYRKOSTI_RECORD];
+    uint32_t ports;
+    IS(myrkosti_port(table, length, 1, record), MYRKOSTI_TABLE_WRONG);
+    IS(ask_due(table, length, &ports), MYRKOSTI_TABLE_WRONG);
+    IS(ports, 0);
+}
+
+/* an octet that is out of range there, whatever stands beside it */
+static const struct {
+    unsigned at;
+    uint8_t octet;
+} OUT_OF_RANGE[] = {
+    {MYRKOSTI_AT_RECEIVE, 6}, {MYRKOSTI_AT_PERIODIC, 4}, {MYRKOSTI_AT_MUX, 5}, {MYRKOSTI_AT_SELECTED, 2},
+    {MYRKOSTI_AT_AGGREGATOR, 0}, {MYRKOSTI_AT_AGGREGATOR, PORTS + 1}, {MYRKOSTI_AT_NTT, 2}, {MYRKOSTI_AT_LINK, 2},
+    {MYRKOSTI_AT_DUPLEX, 2}, {MYRKOSTI_AT_CURRENT_WHILE, 4}, {MYRKOSTI_AT_PERIODIC_TIMER, 2}, {MYRKOSTI_AT_WAIT_TIMER, 21},
+    {MYRKOSTI_AT_AGES, 11}, {MYRKOSTI_AT_AGES + 1, 11}, {MYRKOSTI_AT_AGES + 2, 254},
+};
+
+/* no table, no set, though both ports had something to send: another size, another port count, and each field of each port */
+static void refuse_to_say_what_is_due(void)
+{
+    uint8_t table[SIZE + 1] = {0}, broken[SIZE];
+    IS(start(table, SIZE, PORTS, NOBODY), MYRKOSTI_DONE);
+    IS(myrkosti_line(table, SIZE, 1, true, true), MYRKOSTI_DONE);
+    IS(myrkosti_line(table, SIZE, 2, true, true), MYRKOSTI_DONE);
+    IS(due(table, PORTS), 3);
+    refuse_due(table, 0);
+    refuse_due(table, MYRKOSTI_HEADER - 1);
+    refuse_due(table, MYRKOSTI_TABLE(1));
+    refuse_due(table, SIZE - 1);
+    refuse_due(table, SIZE + 1);
+    for (unsigned count = 0; count < 256; count++) {
+        memcpy(broken, table, SIZE);
+        broken[0] = (uint8_t)count;
+        if (count != PORTS) {
+            refuse_due(broken, SIZE);
+        }
+    }
+    for (unsigned i = 0; i < sizeof OUT_OF_RANGE / sizeof OUT_OF_RANGE[0]; i++) {
+        for (unsigned port = 0; port < PORTS; port++) {
+            memcpy(broken, table, SIZE);
+            broken[MYRKOSTI_HEADER + MYRKOSTI_RECORD * port + OUT_OF_RANGE[i].at] = OUT_OF_RANGE[i].octet;
+            refuse_due(broken, SIZE);
+        }
+    }
+}
+
+/* nothing without a link or at half duplex; once for each thing to say; and not while three sends bar a fourth */
+static void say_what_is_due(void)
+{
+    uint8_t table[SIZE];
+    IS(start(table, SIZE, PORTS, NOBODY), MYRKOSTI_DONE);
+    IS(due(table, PORTS), 0);
+    IS(myrkosti_line(table, SIZE, 2, true, true), MYRKOSTI_DONE);
+    IS(due(table, PORTS), 2);
+    IS(myrkosti_line(table, SIZE, 1, true, true), MYRKOSTI_DONE);
+    IS(due(table, PORTS), 3);
+    IS(myrkosti_line(table, SIZE, 2, true, false), MYRKOSTI_DONE);
+    IS(due(table, PORTS), 1);
+    for (uint16_t key = 2; key < 5; key++) {
+        IS(settings(table, 1, key, NOBODY), MYRKOSTI_DONE);
+        IS(due(table, PORTS), 1);
+        IS(fetch(table), MYRKOSTI_DONE);
+        IS(due(table, PORTS), 0);
+    }
+    IS(settings(table, 1, 5, NOBODY), MYRKOSTI_DONE);
+    for (int ticks = 0; ticks < 11; ticks++) {
+        IS(fetch(table), MYRKOSTI_TOO_MANY_SENDS);
+        IS(due(table, PORTS), 0);
+        pass(table, 1);
+    }
+    IS(due(table, PORTS), 1);
+    IS(myrkosti_line(table, SIZE, 1, false, true), MYRKOSTI_DONE);
+    IS(due(table, PORTS), 0);
+}
+
+/* NTT, link, duplex, and for each of the three ages whether there is one, by the bits of a number below 64 */
+static void put_what_due_looks_at(uint8_t *record, unsigned bits)
+{
+    record[MYRKOSTI_AT_NTT] = bits & 1;
+    record[MYRKOSTI_AT_LINK] = bits >> 1 & 1;
+    record[MYRKOSTI_AT_DUPLEX] = bits >> 2 & 1;
+    for (unsigned i = 0; i < 3; i++) {
+        record[MYRKOSTI_AT_AGES + i] = bits >> (3 + i) & 1 ? (uint8_t)(5 * i) : 255;
+    }
+}
+
+/* whatever two ports have in the fields that count, also in tables that no run makes: a gap between ages, NTT at half duplex */
+static void say_what_is_due_in_any_table(void)
+{
+    uint8_t table[SIZE];
+    IS(start(table, SIZE, PORTS, NOBODY), MYRKOSTI_DONE);
+    for (unsigned both = 0; both < 64 * 64; both++) {
+        uint32_t expected = 0;
+        for (unsigned port = 0; port < PORTS; port++) {
+            unsigned bits = port == 0 ? both % 64 : both / 64;
+            put_what_due_looks_at(table + MYRKOSTI_HEADER + MYRKOSTI_RECORD * port, bits);
+            if (bits % 8 == 7 && bits / 8 != 7) {
+                expected |= 1u << port;
+            }
+        }
+        IS(due(table, PORTS), expected);
+    }
+}
+
+/* the first port is bit 0 and the last bit 31 */
+static void say_what_is_due_on_32_ports(void)
+{
+    uint8_t table[LARGEST], out[MYRKOSTI_FRAME];
+    IS(start(table, LARGEST, MYRKOSTI_PORTS, NOBODY), MYRKOSTI_DONE);
+    for (uint32_t port = MYRKOSTI_PORTS; port > 0; port--) {
+        IS(myrkosti_line(table, LARGEST, port, true, true), MYRKOSTI_DONE);
+        IS(due(table, MYRKOSTI_PORTS), 0xffffffffu << (port - 1));
+    }
+    for (uint32_t port = 1; port < MYRKOSTI_PORTS; port++) {
+        IS(myrkosti_fetch(table, LARGEST, port, out, sizeof out), MYRKOSTI_DONE);
+        IS(due(table, MYRKOSTI_PORTS), 0xffffffffu << port);
+    }
+    IS(myrkosti_fetch(table, LARGEST, MYRKOSTI_PORTS, out, sizeof out), MYRKOSTI_DONE);
+    IS(due(table, MYRKOSTI_PORTS), 0);
+}
+
 int main(void)
 {
     uint8_t table[SIZE];
@@ -448,6 +609,10 @@ int main(void)
     come_up_at_half_duplex();
     fall_at_once_or_by_way_of_half_duplex();
     repeat_a_line();
+    refuse_to_say_what_is_due();
+    say_what_is_due();
+    say_what_is_due_in_any_table();
+    say_what_is_due_on_32_ports();
     printf("C interface: %u checks passed, %u failed\n", passed, failed);
     return failed != 0;
 }
