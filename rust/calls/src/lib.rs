@@ -81,6 +81,8 @@ pub enum Report {
         /// Aggregator, from 1.
         aggregator: u32,
     },
+    /// The ports on which a fetch would be answered 0, none beside a refusal. Answers 0 or 1.
+    Due,
 }
 
 /// Settings as the calls take them.
@@ -103,8 +105,8 @@ pub struct SettingsArguments {
 }
 
 /// The names of the calls, each at its number.
-pub const NAMES: [&str; 9] =
-    ["table_size", "start", "receive", "tick", "line", "settings", "fetch", "port", "aggregator"];
+pub const NAMES: [&str; 10] =
+    ["table_size", "start", "receive", "tick", "line", "settings", "fetch", "port", "aggregator", "due"];
 
 impl Call<'_> {
     /// The call's number: its place in [`NAMES`], and what the bridge knows it by.
@@ -119,6 +121,7 @@ impl Call<'_> {
             Call::Fetch { .. } => 6,
             Call::Report(Report::Port { .. }) => 7,
             Call::Report(Report::Aggregator { .. }) => 8,
+            Call::Report(Report::Due) => 9,
         }
     }
 }
@@ -140,6 +143,8 @@ pub struct Outcome {
     pub record: [u8; RECORD],
     /// holding, attached, distributing, count, lowest, of an aggregator.
     pub aggregator: [u32; 5],
+    /// `ports`, of what is due: bit 0 is port 1.
+    pub due: u32,
 }
 
 impl Outcome {
@@ -147,12 +152,12 @@ impl Outcome {
     pub const UNTOUCHED: Outcome = {
         const UNTOUCHED: u8 = 0xEE;
         let number = u32::from_ne_bytes([UNTOUCHED; 4]);
-        Outcome { answer: number, sent: number, record: [UNTOUCHED; RECORD], aggregator: [number; 5] }
+        Outcome { answer: number, sent: number, record: [UNTOUCHED; RECORD], aggregator: [number; 5], due: number }
     };
 
     /// This answer, and zeros.
     pub const fn refused(answer: u32) -> Outcome {
-        Outcome { answer, sent: 0, record: [0; RECORD], aggregator: [0; 5] }
+        Outcome { answer, sent: 0, record: [0; RECORD], aggregator: [0; 5], due: 0 }
     }
 }
 

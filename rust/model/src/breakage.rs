@@ -54,11 +54,17 @@ pub enum Breakage {
     LineAsTwoCalls,
     /// The same with the link first: from down and half to up and full the partner is forgotten on the way.
     LinkBeforeDuplex,
+    /// A port without a link is among those that have something to send.
+    DueWithoutLink,
+    /// So is a port at half duplex.
+    DueAtHalfDuplex,
+    /// So is a port that three sends bar.
+    DueBeyondThreeSends,
 }
 
 impl Breakage {
     /// Every breakage, with the name by which it is asked for.
-    pub const ALL: [(&'static str, Breakage); 24] = [
+    pub const ALL: [(&'static str, Breakage); 27] = [
         ("partners-timeout", Breakage::PartnersTimeout),
         ("compares-after-recording", Breakage::ComparesAfterRecording),
         ("expired-records-default", Breakage::ExpiredRecordsDefault),
@@ -83,6 +89,9 @@ impl Breakage {
         ("response-repeats-padding", Breakage::ResponseRepeatsPadding),
         ("line-as-two-calls", Breakage::LineAsTwoCalls),
         ("link-before-duplex", Breakage::LinkBeforeDuplex),
+        ("due-without-link", Breakage::DueWithoutLink),
+        ("due-at-half-duplex", Breakage::DueAtHalfDuplex),
+        ("due-beyond-three-sends", Breakage::DueBeyondThreeSends),
     ];
 
     /// The breakage of that name.

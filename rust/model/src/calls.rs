@@ -71,6 +71,11 @@ pub fn report(report: Report, table: &[u8]) -> Outcome {
             outcome.aggregator = ports.unwrap_or([0; 5]);
             number(ports)
         }
+        Report::Due => {
+            let ports = due(table);
+            outcome.due = ports.unwrap_or(0);
+            number(ports)
+        }
     };
     outcome
 }
@@ -338,4 +343,21 @@ fn ports_of(memory: &[u8], aggregator: u32) -> Result<[u32; 5], Refusal> {
         }
     }
     Ok([holding, attached, distributing, count, lowest])
+}
+
+/// The ports that have something to send.
+fn due(memory: &[u8]) -> Result<u32, Refusal> {
+    let table = Table::read(memory).ok_or(Refusal::TableWrong)?;
+    let ports = table.ports.iter().enumerate().filter(|(_, port)| port.may_send());
+    Ok(ports.fold(0, |set, (place, _)| set | 1 << place))
+}
+
+impl Port {
+    /// An LACPDU is due, the link is up, LACP is on, and fewer than three sends are remembered.
+    fn may_send(&self) -> bool {
+        let up = self.link || breakage::is(Breakage::DueWithoutLink);
+        let lacp_on = self.full_duplex || breakage::is(Breakage::DueAtHalfDuplex);
+        let within_the_limit = self.ages.iter().flatten().count() < 3 || breakage::is(Breakage::DueBeyondThreeSends);
+        self.ntt && up && lacp_on && within_the_limit
+    }
 }

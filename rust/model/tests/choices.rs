@@ -678,6 +678,59 @@ fn aggregator_report() {
 }
 
 #[test]
+fn due_is_what_a_fetch_would_send() {
+    let mut t = Bench::start(3, 5, 0);
+    assert!((1..=3).all(|n| t.port(n).ntt));
+    assert_eq!(t.due(), 0);
+    for n in [1, 3] {
+        t.link(n, true);
+    }
+    assert_eq!(t.due(), 0b101);
+    assert_eq!((t.fetch(1), t.due()), (0, 0b100));
+    t.duplex(3, false);
+    assert_eq!(t.due(), 0);
+    t.poke(3, |p| p.ntt = true);
+    assert_eq!((t.due(), t.fetch(3)), (0, 10));
+    for key in [2, 3, 4] {
+        assert_eq!(t.settings(1, Set { key, ..set(5, 0) }), 0);
+        assert_eq!((t.due(), t.fetch(1)), if key < 4 { (1, 0) } else { (0, 11) });
+    }
+    t.ticks(10);
+    assert_eq!((t.due(), t.fetch(1)), (0, 11));
+    t.ticks(1);
+    assert_eq!((t.due(), t.fetch(1), t.due()), (1, 0, 0));
+}
+
+#[test]
+fn due_counts_sends_wherever_they_stand() {
+    let mut t = Bench::start(32, 5, 0);
+    t.link(32, true);
+    for ages in 0..8_u8 {
+        t.poke(32, |p| p.ages = [1, 2, 4].map(|bit| (ages & bit != 0).then_some(bit)));
+        assert_eq!(t.due(), u32::from(ages != 7) << 31);
+    }
+}
+
+#[test]
+fn nothing_is_due_beside_a_refusal() {
+    let mut t = Bench::start(2, 5, 0);
+    t.link(1, true);
+    assert_eq!(t.due(), 1);
+    let refused = |memory: Vec<u8>| {
+        let outcome = Bench { memory }.report(Report::Due);
+        assert_eq!((outcome.answer, outcome.due), (1, 0));
+    };
+    for length in (0..t.memory.len()).chain([t.memory.len() + 1]) {
+        let mut memory = t.memory.clone();
+        memory.resize(length, 0);
+        refused(memory);
+    }
+    let mut memory = t.memory.clone();
+    memory[11 + 57 + 14] = 11;
+    refused(memory);
+}
+
+#[test]
 fn the_lent_blocks_stay() {
     let mut t = Bench::start(1, 5, 0x1D);
     t.link(1, true);

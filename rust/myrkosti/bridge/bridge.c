@@ -4,7 +4,7 @@
  *
  * A batch is its length in octets (4), then its requests, one after the other. A request is
  *
- *    0       call: 0 table_size, 1 start, 2 receive, 3 tick, 4 line, 5 settings, 6 fetch, 7 port, 8 aggregator
+ *    0       call: 0 table_size, 1 start, 2 receive, 3 tick, 4 line, 5 settings, 6 fetch, 7 port, 8 aggregator, 9 due
  *    1       flags: bit 0 activity or up; bit 1 timeout or full; bit 2 aggregation
  *    2-5     ports, port or aggregator
  *    6-7     system priority          8-9     CollectorMaxDelay
@@ -13,8 +13,8 @@
  *   26-40    partner
  *   41-44    octets of the table     45-48    octets of the frame      49-52    octets of the outgoing buffer
  *
- * and then those octets. A reply is answer (4), sent (4), record (57), five numbers of an aggregator (4 each), then the octets of the
- * table and of the outgoing buffer. What a call does not write comes back as 0xEE. Numbers are low octet first.
+ * and then those octets. A reply is answer (4), sent (4), record (57), five numbers of an aggregator (4 each), the set of what is due (4),
+ * then the octets of the table and of the outgoing buffer. What a call does not write comes back as 0xEE. Numbers are low octet first.
  *
  * The table, the frame and the buffer are lent so that they end where memory ends: a call that reads or writes past them is stopped by
  * the machine. Octets before them are looked at after each call.
@@ -28,7 +28,7 @@
 #include <sys/mman.h>
 #include <unistd.h>
 
-enum { REQUEST = 53, REPLY = 85, PAGE = 65536, AREA = 4 * PAGE, BEFORE = 64, UNTOUCHED = 0xee, GUARD = 0xa5, BATCH = 1 << 24 };
+enum { REQUEST = 53, REPLY = 89, PAGE = 65536, AREA = 4 * PAGE, BEFORE = 64, UNTOUCHED = 0xee, GUARD = 0xa5, BATCH = 1 << 24 };
 
 static void fail(const char *why)
 {
@@ -136,7 +136,7 @@ static uint8_t *perform(const uint8_t **request, const uint8_t *end, uint8_t *re
     uint8_t *frame = lend(frame_end, r + REQUEST + table_len, frame_len);
     uint8_t *out = lend(out_end, r + REQUEST + table_len + frame_len, out_len);
 
-    uint32_t n = number(r + 2, 4), answer, sent, five[5];
+    uint32_t n = number(r + 2, 4), answer, sent, five[5], due;
     uint16_t system_priority = (uint16_t)number(r + 6, 2), delay = (uint16_t)number(r + 8, 2);
     uint16_t key = (uint16_t)number(r + 10, 2), priority = (uint16_t)number(r + 12, 2);
     const uint8_t *system = r + 14, *address = r + 20, *partner = r + 26;
@@ -144,6 +144,7 @@ static uint8_t *perform(const uint8_t **request, const uint8_t *end, uint8_t *re
     uint8_t record[MYRKOSTI_RECORD];
     memset(&sent, UNTOUCHED, sizeof sent);
     memset(five, UNTOUCHED, sizeof five);
+    memset(&due, UNTOUCHED, sizeof due);
     memset(record, UNTOUCHED, sizeof record);
 
     switch (r[0]) {
@@ -158,6 +159,7 @@ static uint8_t *perform(const uint8_t **request, const uint8_t *end, uint8_t *re
     case 6: answer = myrkosti_fetch(table, table_len, n, out, out_len); break;
     case 7: answer = myrkosti_port(table, table_len, n, record); break;
     case 8: answer = myrkosti_aggregator(table, table_len, n, &five[0], &five[1], &five[2], &five[3], &five[4]); break;
+    case 9: answer = myrkosti_due(table, table_len, &due); break;
     default: fail("no such call"); return reply;
     }
 
@@ -173,6 +175,7 @@ static uint8_t *perform(const uint8_t **request, const uint8_t *end, uint8_t *re
     for (unsigned i = 0; i < 5; i++) {
         reply = put_number(reply, five[i]);
     }
+    reply = put_number(reply, due);
     reply = put_octets(reply, table, table_len);
     *request = r + REQUEST + table_len + frame_len + out_len;
     return put_octets(reply, out, out_len);

@@ -22,12 +22,16 @@
 //! table.line(1, true, true)?; // up, at full duplex
 //!
 //! let mut out = [0; FRAME];
+//! assert_eq!(table.due()?.iter().collect::<Vec<_>>(), [1]);
 //! assert_eq!(table.fetch(1, &mut out)?.len(), FRAME); // send it on port 1
 //! assert_eq!(table.fetch(1, &mut out), Err(Refusal::NothingToSend));
 //! assert_eq!(table.receive(1, b"no frame of ours", &mut out), Err(Refusal::Foreign));
 //!
 //! for _ in 0..20 {
 //!     table.tick()?; // ten times a second
+//!     for port in table.due()?.iter() {
+//!         table.fetch(port, &mut out)?; // send it on that port
+//!     }
 //! }
 //! assert!(table.port(1)?.mux.attached());
 //! assert_eq!(table.aggregator(1)?.distributing.iter().count(), 0);

@@ -196,8 +196,8 @@ impl<M: AsRef<[u8]> + AsMut<[u8]>> Table<M> {
         Ok(())
     }
 
-    /// The next LACPDU of a port, to be sent on it at once: the first [`FRAME`] octets of the outgoing buffer. Ask every port
-    /// after every call that was not refused, and after every tick.
+    /// The next LACPDU of a port, to be sent on it at once: the first [`FRAME`] octets of the outgoing buffer. Fetch on each port
+    /// that [`Table::due`] gives.
     ///
     /// # Errors
     /// Refusals 1 to 3, [`Refusal::NothingToSend`], [`Refusal::TooManySends`].
@@ -230,6 +230,16 @@ impl<M: AsRef<[u8]> + AsMut<[u8]>> Table<M> {
             count,
             lowest: (lowest != 0).then_some(lowest),
         })
+    }
+
+    /// The ports that have something to send: those on which [`Table::fetch`], with an outgoing buffer that is long enough, is not
+    /// refused. Ask once after every call that was not refused and may have changed something, and so after every tick, and fetch
+    /// on these ports alone: that costs much less than a fetch on every port.
+    ///
+    /// # Errors
+    /// [`Refusal::TableWrong`].
+    pub fn due(&self) -> Result<PortSet, Refusal> {
+        Ok(PortSet(self.report(Report::Due)?.due))
     }
 
     fn perform(&mut self, call: &Call, out: &mut [u8]) -> Result<Outcome, Refusal> {

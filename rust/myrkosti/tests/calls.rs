@@ -124,6 +124,40 @@ fn one_call_carries_link_and_duplex() {
     assert_eq!((record.mux, record.partner.system), (MuxState::Attached, THEIRS));
 }
 
+/// The ports that [`Table::due`] gives, which must be those on which a fetch, tried on a copy, is not refused.
+fn due(table: &Table) -> Vec<u32> {
+    let due = table.due().unwrap();
+    for port in 0..=33 {
+        assert_eq!(table.clone().fetch(port, &mut [0; FRAME]).is_ok(), due.contains(port), "port {port} of {due:?}");
+    }
+    due.iter().collect()
+}
+
+#[test]
+fn what_is_due_is_fetched() {
+    let mut table = Table::start(32, OURS, 0, &settings()).unwrap();
+    let mut out = [0; FRAME];
+    assert_eq!(due(&table), []);
+    for port in [1, 2, 32] {
+        table.line(port, true, true).unwrap();
+    }
+    assert_eq!(due(&table), [1, 2, 32]);
+    table.line(2, true, false).unwrap();
+    assert_eq!(due(&table), [1, 32]);
+    for port in due(&table) {
+        assert_eq!(table.fetch(port, &mut out).map(<[u8]>::len), Ok(FRAME));
+    }
+    assert_eq!(due(&table), []);
+    for key in 2..4 {
+        table.settings(32, &Settings { key, ..settings() }).unwrap();
+        assert_eq!(due(&table), [32]);
+        table.fetch(32, &mut out).unwrap();
+    }
+    table.settings(32, &settings()).unwrap();
+    assert_eq!(due(&table), []);
+    assert_eq!(table.fetch(32, &mut out), Err(Refusal::TooManySends));
+}
+
 #[test]
 fn refusals() {
     assert_eq!(Table::start(0, OURS, 0, &settings()), Err(Refusal::TableWrong));
@@ -175,6 +209,7 @@ fn any_memory() {
             wrong(table.receive(1, &[], &mut out).map(|_| ()));
             wrong(table.port(1).map(|_| ()));
             wrong(table.aggregator(1).map(|_| ()));
+            wrong(table.due().map(|_| ()));
             assert!(all_ones || table.as_octets().iter().all(|at| *at == octet));
         }
     }

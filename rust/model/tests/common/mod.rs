@@ -128,6 +128,17 @@ impl Bench {
         self.call(&Call::Fetch { port: n })
     }
 
+    /// The ports that have something to send, which must be those on which a fetch, tried on a copy, is answered 0.
+    pub fn due(&self) -> u32 {
+        let Outcome { answer, due, .. } = self.report(Report::Due);
+        assert_eq!(answer, 0);
+        for n in 0..=33 {
+            let sends = Bench { memory: self.memory.clone() }.fetch(n) == 0;
+            assert_eq!(sends, n > 0 && u64::from(due) >> (n - 1) & 1 == 1, "port {n} of {due:b}");
+        }
+        due
+    }
+
     /// Hands over a frame with a buffer of 124 octets.
     pub fn hand(&mut self, n: u32, frame: &[u8]) -> u32 {
         let Outcome { answer, sent, .. } =

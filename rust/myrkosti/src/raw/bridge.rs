@@ -54,6 +54,7 @@ impl Bridge {
         for figure in &mut outcome.aggregator {
             *figure = self.number()?;
         }
+        outcome.due = self.number()?;
         Ok(Reply { outcome, table: self.octets(request.table.len())?, out: self.octets(request.out.len())? })
     }
 
@@ -113,6 +114,7 @@ fn arguments<'a>(call: &'a Call) -> Arguments<'a> {
             | Report::Port { port: number }
             | Report::Aggregator { aggregator: number },
         ) => Arguments { number, ..none },
+        Call::Report(Report::Due) => none,
     }
 }
 

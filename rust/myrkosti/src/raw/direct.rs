@@ -56,6 +56,7 @@ mod library {
             count: *mut u32,
             lowest: *mut u32,
         ) -> u32;
+        pub fn myrkosti_due(table: *const u8, table_len: usize, ports: *mut u32) -> u32;
     }
 }
 
@@ -123,8 +124,8 @@ pub fn report(report: Report, table: &[u8]) -> Outcome {
     let mut outcome = Outcome::UNTOUCHED;
     let [holding, attached, distributing, count, lowest] = &mut outcome.aggregator;
     // SAFETY: `table` is readable for its whole length and not written; `record` is writable for the octets that the header names, and
-    // the five numbers are five different writable ones. Exclusive borrows overlap nothing. The library keeps no pointer after the
-    // call, and is defined for every content and number.
+    // the five numbers of an aggregator and the set are different writable ones. Exclusive borrows overlap nothing. The library keeps
+    // no pointer after the call, and is defined for every content and number.
     outcome.answer = unsafe {
         match report {
             Report::TableSize { ports } => library::myrkosti_table_size(ports),
@@ -141,6 +142,7 @@ pub fn report(report: Report, table: &[u8]) -> Outcome {
                 count,
                 lowest,
             ),
+            Report::Due => library::myrkosti_due(table.as_ptr(), table.len(), &mut outcome.due),
         }
     };
     outcome
