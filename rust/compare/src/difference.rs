@@ -71,6 +71,7 @@ pub fn describe(request: &Request, model: &Reply, library: &Reply) -> String {
         &model.outcome.aggregator,
         &library.outcome.aggregator,
     );
+    line(&mut text, "due, as a set", &model.outcome.due, &library.outcome.due);
     line(&mut text, "outgoing buffer", &hex(&model.out), &hex(&library.out));
     tables(&mut text, &request.table, &model.table, &library.table);
     text

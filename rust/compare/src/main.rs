@@ -1,10 +1,12 @@
 //! Drives the library and the model side by side through random calls and compares every octet that a call can write: table,
-//! outgoing buffer, answer, `sent`, record, and the five numbers of an aggregator.
+//! outgoing buffer, answer, `sent`, record, the five numbers of an aggregator, and the set of what is due. A fetch that comes after the
+//! library said what is due must also be answered accordingly.
 //!
 //! The model goes first, and the library then performs the same calls in batches, each on the octets that stood before it. As long
 //! as no difference was found these are the library's own octets, and at the first difference the comparison ends.
 
 mod difference;
+mod due;
 mod memory;
 mod random;
 mod scenario;
@@ -12,6 +14,7 @@ mod tally;
 mod world;
 
 use calls::{Reply, Request};
+use due::Said;
 use model::breakage::{self, Breakage};
 use myrkosti::raw::{self, Unreachable};
 use random::Random;
@@ -59,6 +62,7 @@ struct Pending {
 
 struct Comparison {
     tally: Tally,
+    said: Said,
     runs: [u64; Kind::ALL.len()],
     requests: Vec<Request<'static>>,
     pending: Vec<Pending>,
@@ -66,7 +70,13 @@ struct Comparison {
 
 impl Comparison {
     fn new() -> Comparison {
-        Comparison { tally: Tally::default(), runs: [0; Kind::ALL.len()], requests: Vec::new(), pending: Vec::new() }
+        Comparison {
+            tally: Tally::default(),
+            said: Said::default(),
+            runs: [0; Kind::ALL.len()],
+            requests: Vec::new(),
+            pending: Vec::new(),
+        }
     }
 
     /// Runs until the limit or the first difference.
@@ -106,13 +116,14 @@ impl Comparison {
         let replies = raw::perform_all(&self.requests)?;
         for ((request, pending), library) in self.requests.drain(..).zip(self.pending.drain(..)).zip(replies) {
             self.tally.count(&request, &library);
-            if pending.reply != library {
+            let wrong = self.said.hold(&request, &library);
+            if pending.reply != library || wrong.is_some() {
                 return Ok(Some(Difference {
                     run: pending.run,
                     kind: pending.kind,
                     step: pending.step,
                     calls: self.tally.total(),
-                    text: difference::describe(&request, &pending.reply, &library),
+                    text: difference::describe(&request, &pending.reply, &library) + &wrong.unwrap_or_default(),
                 }));
             }
         }
@@ -127,6 +138,7 @@ fn compare(seed: u64, limit: Limit) -> Result<bool, Unreachable> {
     let difference = comparison.run(seed, limit)?;
     let seconds = begun.elapsed().as_secs_f64();
     println!("{}", comparison.tally);
+    println!("{}", comparison.said);
     for ((_, kind), runs) in Kind::ALL.iter().zip(comparison.runs) {
         println!("{runs} runs {kind:?}");
     }
@@ -216,6 +228,7 @@ mod tests {
         let difference = comparison.run(1, Limit { calls: 20_000, time: Duration::MAX });
         assert!(difference.unwrap().is_none());
         assert!(comparison.tally.least_line() > 0, "{}", comparison.tally);
+        assert!(comparison.said.sent.min(comparison.said.refused) > 100, "{}", comparison.said);
     }
 
     /// A table that library and model hold alike.
@@ -238,12 +251,26 @@ mod tests {
 
         /// Both perform the call, with the same reply; its answer.
         fn call(&mut self, call: Call) -> u32 {
+            let reply = self.reply(call);
+            self.0 = reply.table;
+            reply.outcome.answer
+        }
+
+        /// What both reply, on copies of the table.
+        fn reply(&self, call: Call) -> Reply {
             let out = vec![0; world::FRAME];
             let request = Request { call, table: self.0.clone(), out };
             let reply = request.performed_by(model::perform);
             assert_eq!(raw::perform_all(from_ref(&request)).unwrap(), from_ref(&reply));
-            self.0 = reply.table;
-            reply.outcome.answer
+            reply
+        }
+
+        /// A fetch, which is answered 0 exactly if the port is in the set of what is due.
+        fn fetch(&mut self) -> u32 {
+            let due = self.reply(Report::Due.into());
+            let fetched = self.call(Call::Fetch { port: 1 });
+            assert_eq!((due.outcome.answer, due.outcome.due), (0, u32::from(fetched == 0)));
+            fetched
         }
 
         fn ticks(&mut self, count: u32) {
@@ -271,7 +298,7 @@ mod tests {
         /// Another own address, so that an LACPDU is due; then a fetch.
         fn fetch_anew(&mut self, address: u8) -> u32 {
             assert_eq!(self.call(Call::Settings { port: 1, settings: settings(address) }), 0);
-            self.call(Call::Fetch { port: 1 })
+            self.fetch()
         }
 
         fn ages(&self) -> &[u8] {
@@ -306,7 +333,9 @@ mod tests {
         for (place, age) in (14..17).flat_map(|place| (0..=255).map(move |age| (place, age))) {
             let kept = both.0.clone();
             both.0[world::HEADER + place] = age;
-            assert_eq!(both.call(Report::Port { port: 1 }.into()), u32::from((11..=254).contains(&age)));
+            let wrong = u32::from((11..=254).contains(&age));
+            assert_eq!(both.call(Report::Port { port: 1 }.into()), wrong);
+            assert_eq!(both.call(Report::Due.into()), wrong);
             both.0 = kept;
         }
     }
@@ -322,7 +351,7 @@ mod tests {
                 assert_eq!(world::line_of(&both.0, 1), (up, full));
                 assert_eq!(both.0 == before, old == (up, full));
             }
-            let fetched = both.call(Call::Fetch { port: 1 });
+            let fetched = both.fetch();
             assert!(fetched == 10 || up && full);
             both.ticks(31);
         }

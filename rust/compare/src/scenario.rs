@@ -38,6 +38,8 @@ enum Plan {
     Duplex(u32, bool),
     Line(u32, bool, bool),
     Settings(u32),
+    /// Which ports have something to send; fetches that follow are held against it.
+    Due,
     Fetch(u32),
 }
 
@@ -73,6 +75,7 @@ enum Action {
     Response,
     Port,
     Aggregator,
+    Due,
     MoveCable,
     FarEnd,
     Restart,
@@ -101,6 +104,7 @@ const REALISTIC: &[(u32, Action)] = &[
     (6, Action::Response),
     (16, Action::Port),
     (20, Action::Aggregator),
+    (20, Action::Due),
     (16, Action::MoveCable),
     (24, Action::FarEnd),
     (2, Action::Restart),
@@ -124,6 +128,7 @@ const BALANCED: &[(u32, Action)] = &[
     (2, Action::Response),
     (6, Action::Port),
     (8, Action::Aggregator),
+    (8, Action::Due),
     (1, Action::MoveCable),
     (2, Action::FarEnd),
     (1, Action::Refused),
@@ -211,8 +216,15 @@ impl Scenario {
             Plan::Settings(port) => {
                 Call::Settings { port, settings: self.world.next_settings(random, &self.table, port) }
             }
+            Plan::Due => Report::Due.into(),
             Plan::Fetch(port) => Call::Fetch { port },
         }
+    }
+
+    /// Fetches as a driver does: first it asks what is due.
+    fn fetch(&mut self, ports: impl IntoIterator<Item = u32>) {
+        self.plans.push_back(Plan::Due);
+        self.plans.extend(ports.into_iter().map(Plan::Fetch));
     }
 
     fn ticks(&mut self, count: u32) {
@@ -249,7 +261,7 @@ impl Scenario {
                 self.ticks(random.of(&[0, 1, 19, 20, 21]));
                 for collecting in [false, true, false] {
                     self.plans.push_back(Plan::HearCollecting(port, collecting));
-                    self.plans.push_back(Plan::Fetch(port));
+                    self.fetch([port]);
                 }
             }
             Action::Link => self.plans.push_back(Plan::Link(port, random.percent(60))),
@@ -269,18 +281,18 @@ impl Scenario {
             Action::Line => {
                 self.plans.push_back(Plan::Line(port, random.flag(), random.flag()));
                 if random.percent(60) {
-                    self.plans.push_back(Plan::Fetch(port));
+                    self.fetch([port]);
                     self.ticks(random.of(&[0, 1, 5, 20]));
                     self.plans.push_back(Plan::Line(port, random.percent(80), random.percent(80)));
                 }
             }
             Action::Settings => self.plans.push_back(Plan::Settings(port)),
-            Action::Fetch => self.plans.push_back(Plan::Fetch(port)),
-            Action::FetchAll => self.plans.extend((1..=self.world.count).map(Plan::Fetch)),
+            Action::Fetch => self.fetch([port]),
+            Action::FetchAll => self.fetch(1..=self.world.count),
             Action::FetchTooMuch => {
                 for _ in 0..random.between(3, 8) {
                     self.plans.push_back(Plan::Settings(port));
-                    self.plans.push_back(Plan::Fetch(port));
+                    self.fetch([port]);
                     self.ticks(random.of(&[0, 0, 0, 1, 4, 10, 11]));
                 }
             }
@@ -294,6 +306,7 @@ impl Scenario {
             }
             Action::Port => return self.request(random, Report::Port { port }.into()),
             Action::Aggregator => return self.request(random, Report::Aggregator { aggregator: port }.into()),
+            Action::Due => return self.request(random, Report::Due.into()),
             Action::MoveCable => self.world.move_cable(random),
             Action::FarEnd => self.world.change_far_end(random),
             Action::Restart => {
@@ -349,7 +362,7 @@ impl Scenario {
         if random.percent(60) {
             settings.partner[14] ^= random.of(&[0x08, 0x10, 0x18]);
         }
-        let call = match random.below(9) {
+        let call = match random.below(10) {
             0 if random.percent(80) => Report::TableSize { ports: random.below(40) }.into(),
             0 => Report::TableSize { ports: random.bits() as u32 }.into(),
             1 => match self.world.start(random) {
@@ -365,6 +378,7 @@ impl Scenario {
             5 => Call::Fetch { port },
             6 => Report::Port { port }.into(),
             7 => Report::Aggregator { aggregator: port }.into(),
+            8 => Report::Due.into(),
             _ if random.flag() => Call::Receive { port, frame: self.world.lacpdu(random, &self.table, port).into() },
             _ => match self.damaged(random) {
                 Call::Receive { frame, .. } => Call::Receive { port, frame },
