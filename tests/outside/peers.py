@@ -45,10 +45,13 @@ class World:
     def carry(self):
         """Frames that are ready at either end go to the other; how many there were."""
         moved = 0
+        due = self.switch.due()
         for port, name in self.cables.items():
-            while (fetched := self.switch.fetch(port))[0] == DONE:
+            if port in due:
                 moved += 1
-                self.send(port, name, fetched[1])
+                answer, frame = self.switch.fetch(port)
+                self.checks.equal("answer to a fetch of what is due", answer, DONE)
+                self.send(port, name, frame)
         for port, name in self.cables.items():
             for frame in self.neighbour.received(name):
                 moved += 1

@@ -7,11 +7,12 @@
  *   line PORT UP FULL
  *   tick
  *   receive PORT FRAME                answer, Response
+ *   due                               answer, ports
  *   fetch PORT                        answer, LACPDU
  *   port PORT                         answer, record
  *   aggregator NUMBER                 answer, holding, attached, distributing, count, lowest
  *
- * With the argument --mute it never sends: a fetch finds nothing, and a Marker gets no Response. A line that it cannot read ends it.
+ * With the argument --mute it never sends: nothing is due, a fetch finds nothing, and a Marker gets no Response. A line that it cannot read ends it.
  */
 #include "myrkosti.h"
 
@@ -148,6 +149,12 @@ static void do_receive(void)
     say_octets(answer, out, mute ? 0 : sent);
 }
 
+static void do_due(void)
+{
+    uint32_t ports, answer = myrkosti_due(table, size, &ports);
+    printf("%u %u\n", (unsigned)answer, mute ? 0 : (unsigned)ports);
+}
+
 static void do_fetch(void)
 {
     uint8_t out[MYRKOSTI_FRAME];
@@ -176,7 +183,7 @@ static const struct {
     void (*act)(void);
 } COMMANDS[] = {
     {"start", do_start}, {"settings", do_settings}, {"line", do_line}, {"tick", do_tick},
-    {"receive", do_receive}, {"fetch", do_fetch}, {"port", do_port}, {"aggregator", do_aggregator},
+    {"receive", do_receive}, {"due", do_due}, {"fetch", do_fetch}, {"port", do_port}, {"aggregator", do_aggregator},
 };
 
 static void obey(char *line)

@@ -178,6 +178,10 @@ class Switch:
         """The answer to a received frame, and the Response."""
         return self.framed("receive", port, frame.hex() or "-")
 
+    def due(self):
+        """The ports that have something to send."""
+        return members(int(self.done("due")[0]))
+
     def fetch(self, port):
         """The answer to a fetch, and the LACPDU."""
         return self.framed("fetch", port)

@@ -164,15 +164,15 @@ class Tour:
         self.frames, self.expected = [], []
 
     def send(self):
-        """Fetches on every port; the record at the fetch says what the frame must be, and keeps all but NTT and the ages."""
-        for port in self.switch.ports:
+        """Fetches what is due; the record at the fetch says what the frame must be, and keeps all but NTT and the ages."""
+        for port in sorted(self.switch.due()):
             before, actor = self.switch.port(port), self.switch.actor(port)
             answer, frame = self.switch.fetch(port)
-            if answer == DONE:
-                self.frames.append(frame)
-                self.expected.append(lacpdu_layers(before.address, actor, before.partner, self.switch.system.delay))
-                after = self.switch.port(port)
-                self.checks.equal("record after a fetch", after, before._replace(ntt=0, ages=after.ages))
+            self.checks.equal("answer to a fetch of what is due", answer, DONE)
+            self.frames.append(frame)
+            self.expected.append(lacpdu_layers(before.address, actor, before.partner, self.switch.system.delay))
+            after = self.switch.port(port)
+            self.checks.equal("record after a fetch", after, before._replace(ntt=0, ages=after.ages))
 
     def hear(self, port, actor, partner):
         """An LACPDU comes in: where the link is up and the duplex full its actor block is recorded, else nothing changes."""

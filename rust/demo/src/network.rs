@@ -133,15 +133,15 @@ impl Network {
         (!self.silent[a.index()]).then_some(far)
     }
 
-    /// Every port is fetched once; then the frames arrive.
+    /// Every port that has something to send is fetched once; then the frames arrive.
     fn exchange(&mut self) -> Result<(), Refusal> {
         let mut frames = Vec::new();
-        for port in all_ports(self.ports) {
-            let mut out = [0; FRAME];
-            match self.table_mut(port).fetch(port.number, &mut out) {
-                Ok(_) => frames.push((port, out)),
-                Err(Refusal::NothingToSend | Refusal::TooManySends) => {}
-                Err(refusal) => return Err(refusal),
+        for switch in Switch::BOTH {
+            for number in self.tables[switch.index()].due()?.iter() {
+                let port = Port { switch, number };
+                let mut out = [0; FRAME];
+                self.table_mut(port).fetch(number, &mut out)?;
+                frames.push((port, out));
             }
         }
         for (port, frame) in frames {
