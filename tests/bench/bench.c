@@ -20,7 +20,8 @@
 #include <time.h>
 #include <ucontext.h>
 
-static const uint32_t PORT_COUNTS[] = {1, 2, 4, 8, 16, 32};
+/* 31 is the most that one of the peers of docs/BENCHMARKS.md takes; it comes last, since the model's heap remembers what came before */
+static const uint32_t PORT_COUNTS[] = {1, 2, 4, 8, 16, 32, 31};
 enum { PORT_COUNTS_COUNT = sizeof PORT_COUNTS / sizeof PORT_COUNTS[0] };
 
 /* a call that does nothing: what it takes to make one */

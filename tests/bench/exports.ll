@@ -1,5 +1,5 @@
 ; The functions of include/myrkosti.h over the compiler's own form of them, in which a lent slice is a place that holds a pointer and a
-; length. tools/bench-native.sh puts this behind the module of the library where that is compiled for another machine than x86-64.
+; length. tools/bench/native.sh puts this behind the module of the library where that is compiled for another machine than x86-64.
 
 define internal void @lend(ptr %slice, ptr %octets, i64 %length) alwaysinline {
   store ptr %octets, ptr %slice, align 8
@@ -80,5 +80,12 @@ define i32 @myrkosti_aggregator(ptr %table, i64 %length, i32 %aggregator, ptr %h
   %lent = alloca [16 x i8], align 8
   call void @lend(ptr %lent, ptr %table, i64 %length)
   %answer = call i32 @"myrkosti::myrkosti_aggregator"(ptr %lent, i32 %aggregator, ptr %holding, ptr %attached, ptr %distributing, ptr %count, ptr %lowest)
+  ret i32 %answer
+}
+
+define i32 @myrkosti_due(ptr %table, i64 %length, ptr %ports) nounwind {
+  %lent = alloca [16 x i8], align 8
+  call void @lend(ptr %lent, ptr %table, i64 %length)
+  %answer = call i32 @"myrkosti::myrkosti_due"(ptr %lent, ptr %ports)
   ret i32 %answer
 }

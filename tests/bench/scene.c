@@ -209,6 +209,11 @@ static uint32_t report_aggregator(const struct side *side, const struct scene *s
     return side->aggregator(area->table, scene->size, 1, &sets[0], &sets[1], &sets[2], &sets[3], &sets[4]);
 }
 
+static uint32_t report_due(const struct side *side, const struct scene *scene, struct area *area)
+{
+    return side->due(area->table, scene->size, &area->ports);
+}
+
 static uint32_t fall(const struct side *side, const struct scene *scene, struct area *area)
 {
     return side->line(area->table, scene->size, 1, false, true);
@@ -237,6 +242,7 @@ const struct call CALLS[] = {
     {"tick, all apart", apart, tick, MYRKOSTI_DONE},
     {"fetch", due, fetch, MYRKOSTI_DONE},
     {"fetch, nothing due", trunk, fetch, MYRKOSTI_NOTHING_TO_SEND},
+    {"due", trunk, report_due, MYRKOSTI_DONE},
     {"port report", trunk, report_port, MYRKOSTI_DONE},
     {"aggregator report", trunk, report_aggregator, MYRKOSTI_DONE},
     {"line, link falls", trunk, fall, MYRKOSTI_DONE},

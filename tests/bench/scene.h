@@ -24,6 +24,7 @@ struct area {
     uint8_t out[MYRKOSTI_FRAME];
     uint8_t record[MYRKOSTI_RECORD];
     uint32_t sets[5];
+    uint32_t ports;
     uint32_t sent;
 };
 

@@ -18,13 +18,14 @@ uint32_t model_port(const uint8_t *table, size_t table_len, uint32_t port, uint8
 uint32_t model_aggregator(const uint8_t *table, size_t table_len, uint32_t aggregator,
                           uint32_t *holding, uint32_t *attached, uint32_t *distributing,
                           uint32_t *count, uint32_t *lowest);
+uint32_t model_due(const uint8_t *table, size_t table_len, uint32_t *ports);
 #endif
 
 const struct side SIDES[] = {
     {"library", myrkosti_start, myrkosti_receive, myrkosti_tick, myrkosti_line, myrkosti_settings, myrkosti_fetch, myrkosti_port,
-     myrkosti_aggregator},
+     myrkosti_aggregator, myrkosti_due},
 #ifndef WITHOUT_MODEL
-    {"model", model_start, model_receive, model_tick, model_line, model_settings, model_fetch, model_port, model_aggregator},
+    {"model", model_start, model_receive, model_tick, model_line, model_settings, model_fetch, model_port, model_aggregator, model_due},
 #endif
 };
 const size_t SIDE_COUNT = sizeof SIDES / sizeof SIDES[0];

@@ -22,6 +22,7 @@ struct side {
     uint32_t (*aggregator)(const uint8_t *table, size_t table_len, uint32_t aggregator,
                            uint32_t *holding, uint32_t *attached, uint32_t *distributing,
                            uint32_t *count, uint32_t *lowest);
+    uint32_t (*due)(const uint8_t *table, size_t table_len, uint32_t *ports);
 };
 
 /* The library first; the model after it, where the program is linked with the model. */

@@ -48,12 +48,12 @@ def parts():
     bounds = stack_bounds(measure.stacks(shipped, build.EMULATOR) if shipped else stacks)
     shipped_counts = measure.trace_counts(shipped, program) if shipped else counts
     profiles = {call: measure.by_function(files[call, 32, "library"]) for call in tables.WHERE}
-    PICTURE.write_text(picture.picture(counts))
+    PICTURE.write_text(picture.picture(counts, tables.GROWTH))
     kinds = {"instructions here": counts, "ns here": times} | ({"instructions, x86-64": shipped_counts} if shipped else {})
-    return {"aim": tables.aim(kinds.values(), bounds),
+    return {"aim": tables.aim(counts, bounds),
             "at-32": "\n\n".join([machine(len(counts)), tables.at_32(kinds, bounds, stacks), tables.text(measure.texts())]),
             "growth": tables.growth(times, "ns") + "\n\n" + tables.growth(counts, "Instructions"),
-            "where": tables.where(profiles), "second": tables.budget(counts)}
+            "where": tables.where(profiles), "second": tables.budget(counts), "peers": tables.peers(counts)}
 
 
 def stack_bounds(seen):

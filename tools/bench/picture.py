@@ -1,93 +1,90 @@
-"""docs/benchmarks.svg: how the cost of a call grows with the ports, on logarithmic axes."""
+"""docs/benchmarks.svg: how the cost of a call grows with the ports, a diagram for each kind of call. Both axes begin at 0 and are linear, so what grows
+with the ports is a straight line, and what grows with their square is bent."""
 
-from math import log2, log10
+from math import log10
 
 PORTS = [1, 2, 4, 8, 16, 32]
-PANELS = [("calls that run the machines of all ports", ["receive, repeated", "receive, moves all", "tick"]),
-          ("calls that concern one port or aggregator", ["fetch", "port report", "aggregator report"])]
-LEAST, MOST = 1, 6  # powers of ten
-WIDTH, HEIGHT, TOP, BOTTOM = 560, 480, 76, 50
-LEFT, LABELS = 80, 200  # before and behind the lines of a panel
-GAP = 15  # between two labels
+COLUMNS = 4
+WIDTH, HEIGHT, HEAD = 290, 222, 58  # of a diagram, and what stands above all
+LEFT, RIGHT, TOP, BOTTOM = 56, 60, 30, 44  # around the lines of a diagram
+GAP = 14  # between two labels
+MARKED = [1, 8, 16, 32]  # ports that are written below
 
 STYLE = """
-  text { font: 13px system-ui, sans-serif; fill: #24292f } .small { font-size: 12px; fill: #57606a }
-  .head { font-size: 16px; font-weight: 600 } .panel { font-size: 14px; font-weight: 600 }
-  .ground { fill: #ffffff } .grid { stroke: #d8dee4 } .lead { stroke-width: 1; opacity: .5; fill: none }
-  .line { fill: none; stroke-width: 2.4 } .model { stroke-dasharray: 7 5; stroke-width: 1.8 }
-  .a { stroke: #0550ae } .b { stroke: #bc4c00 } .c { stroke: #1a7f37 } .floor { stroke: #6e7781; stroke-dasharray: 2 4 }
-  text.a { fill: #0550ae; stroke: none } text.b { fill: #bc4c00; stroke: none } text.c { fill: #1a7f37; stroke: none }
-  text.floor { fill: #57606a; stroke: none }
+  text { font: 13px system-ui, sans-serif; fill: #24292f } .small { font-size: 11px; fill: #57606a }
+  .head { font-size: 16px; font-weight: 600 } .kind { font-size: 13px; font-weight: 600 }
+  .ground { fill: #ffffff } .grid { stroke: #d8dee4 } .line { fill: none; stroke-width: 2 }
+  .model { stroke-dasharray: 6 4; stroke-width: 1.6 } .copy { stroke-dasharray: 1.5 3; stroke-width: 1.6 } text.small { stroke: none }
+  .library { stroke: #0550ae } .model { stroke: #bc4c00 } .copy { stroke: #6e7781 }
+  .dot.library, text.library { fill: #0550ae; stroke: none } .dot.model, text.model { fill: #bc4c00; stroke: none }
+  text.copy { fill: #57606a; stroke: none }
   @media (prefers-color-scheme: dark) {
-    text { fill: #e6edf3 } .small, text.floor { fill: #9198a1 } .ground { fill: #0d1117 } .grid { stroke: #30363d }
-    .a { stroke: #79c0ff } .b { stroke: #ffa657 } .c { stroke: #7ee787 } .floor { stroke: #9198a1 }
-    text.a { fill: #79c0ff } text.b { fill: #ffa657 } text.c { fill: #7ee787 }
+    text { fill: #e6edf3 } .small, text.copy { fill: #9198a1 } .ground { fill: #0d1117 } .grid { stroke: #30363d }
+    .library { stroke: #79c0ff } .model { stroke: #ffa657 } .copy { stroke: #9198a1 }
+    .dot.library, text.library { fill: #79c0ff } .dot.model, text.model { fill: #ffa657 }
   }"""
 
 
 def across(ports):
-    return LEFT + log2(ports) / 5 * (WIDTH - LEFT - LABELS)
+    return LEFT + ports / PORTS[-1] * (WIDTH - LEFT - RIGHT)
 
 
-def down(figure):
-    return TOP + (MOST - log10(figure)) / (MOST - LEAST) * (HEIGHT - TOP - BOTTOM)
+def steps(most):
+    """Round numbers from 0, three to five of them above it, of which the last is no less than the most."""
+    power = 10 ** int(log10(most))
+    step = next(step for step in (power / 5, power / 4, power / 2, power, 2 * power, 2.5 * power) if 5 * step >= most)
+    return [step * i for i in range(6) if step * (i - 1) < most]
 
 
-def spread(heights):
-    """The heights, moved apart so that no two labels touch."""
-    order = sorted(range(len(heights)), key=lambda i: heights[i])
-    places = [heights[i] for i in order]
-    for _ in range(200):
-        for k in range(1, len(places)):
-            short = GAP - (places[k] - places[k - 1])
-            if short > 0:
-                places[k - 1] -= short / 2
-                places[k] += short / 2
-    return {i: place for i, place in zip(order, places)}
+def apart(heights):
+    """Two heights, moved so that their labels do not touch."""
+    (first, second), short = heights, GAP - abs(heights[0] - heights[1])
+    if short <= 0:
+        return heights
+    up = -1 if first <= second else 1
+    return [first + up * short / 2, second - up * short / 2]
 
 
-def grid():
-    lines = []
-    for power in range(LEAST, MOST + 1):
-        y = down(10 ** power)
-        lines.append(f'<line class="grid" x1="{LEFT}" y1="{y:.1f}" x2="{across(32):.1f}" y2="{y:.1f}"/>')
-        lines.append(f'<text class="small" x="{LEFT - 8}" y="{y + 4:.1f}" text-anchor="end">{10 ** power:,}</text>')
-    for ports in PORTS:
-        x = across(ports)
-        lines.append(f'<line class="grid" x1="{x:.1f}" y1="{TOP}" x2="{x:.1f}" y2="{HEIGHT - BOTTOM}"/>')
-        lines.append(f'<text class="small" x="{x:.1f}" y="{HEIGHT - BOTTOM + 18}" text-anchor="middle">{ports}</text>')
-    lines.append(f'<text class="small" x="{(LEFT + across(32)) / 2:.1f}" y="{HEIGHT - BOTTOM + 38}" text-anchor="middle">ports</text>')
-    return lines
+def diagram(counts, call, x, y):
+    """One kind of call: the library's line, the model's, and the copy's."""
+    lines = {"copy": [counts["copy", n, "copy"] for n in PORTS]}
+    lines |= {side: [counts[call, n, side] for n in PORTS] for side in ("model", "library")}
+    rows = steps(max(max(figures) for figures in lines.values()))
+
+    def down(figure):
+        return TOP + (1 - figure / rows[-1]) * (HEIGHT - TOP - BOTTOM)
+
+    drawn = [f'<g transform="translate({x} {y})">', f'<text class="kind" x="{LEFT}" y="{TOP - 12}">{call}</text>']
+    for row in rows:
+        drawn.append(f'<line class="grid" x1="{LEFT}" y1="{down(row):.1f}" x2="{across(32):.1f}" y2="{down(row):.1f}"/>')
+        drawn.append(f'<text class="small" x="{LEFT - 7}" y="{down(row) + 4:.1f}" text-anchor="end">{row:,.0f}</text>')
+    for n in MARKED:
+        drawn.append(f'<line class="grid" x1="{across(n):.1f}" y1="{TOP}" x2="{across(n):.1f}" y2="{HEIGHT - BOTTOM}"/>')
+        drawn.append(f'<text class="small" x="{across(n):.1f}" y="{HEIGHT - BOTTOM + 15}" text-anchor="middle">{n}</text>')
+    drawn.append(f'<text class="small" x="{across(16):.1f}" y="{HEIGHT - BOTTOM + 30}" text-anchor="middle">ports</text>')
+    for side, figures in lines.items():
+        points = [(across(n), down(figure)) for n, figure in zip(PORTS, figures)]
+        drawn.append(f'<polyline class="{side} line" points="{" ".join(f"{a:.1f},{b:.1f}" for a, b in points)}"/>')
+        drawn += [f'<circle class="{side} dot" cx="{a:.1f}" cy="{b:.1f}" r="2.2"/>' for a, b in points if side != "copy"]
+    ends = {side: lines[side][-1] for side in ("library", "model")}
+    for (side, figure), height in zip(ends.items(), apart([down(figure) for figure in ends.values()])):
+        drawn.append(f'<text class="{side}" x="{across(32) + 7:.1f}" y="{height + 4:.1f}">{figure:,.0f}</text>')
+    return [*drawn, "</g>"]
 
 
-def curves(counts, calls):
-    """(class, label, figures by ports) of each line of a panel."""
-    found = []
-    for letter, call in zip("abc", calls):
-        found.append((f"{letter} line", call, [counts[call, n, "library"] for n in PORTS]))
-        found.append((f"{letter} line model", f"{call}, model", [counts[call, n, "model"] for n in PORTS]))
-    return [*found, ("floor line", "copy of the table", [counts["copy", n, "copy"] for n in PORTS])]
+def key(x, side, words):
+    """A sample of a line, and what it is."""
+    return [f'<line class="{side} line" x1="{x}" y1="43" x2="{x + 30}" y2="43"/>', f'<text class="{side}" x="{x + 37}" y="47">{words}</text>']
 
 
-def panel(counts, title, calls, x):
-    lines = [f'<g transform="translate({x} 0)">', f'<text class="panel" x="{LEFT}" y="{TOP - 14}">{title}</text>', *grid()]
-    drawn = curves(counts, calls)
-    places = spread([down(figures[-1]) for _, _, figures in drawn])
-    for i, (kind, label, figures) in enumerate(drawn):
-        points = " ".join(f"{across(n):.1f},{down(figure):.1f}" for n, figure in zip(PORTS, figures))
-        letter, end, y = kind.split()[0], across(32), places[i]
-        lines.append(f'<polyline class="{kind}" points="{points}"/>')
-        lines.append(f'<polyline class="lead {letter}" points="{end:.1f},{down(figures[-1]):.1f} {end + 14:.1f},{y:.1f}"/>')
-        lines.append(f'<text class="{letter}" x="{end + 18:.1f}" y="{y + 4:.1f}">{label}</text>')
-    return [*lines, "</g>"]
-
-
-def picture(counts):
-    width = WIDTH * len(PANELS)
-    lines = [f'<svg xmlns="http://www.w3.org/2000/svg" viewBox="0 0 {width} {HEIGHT}" width="{width}" height="{HEIGHT}">',
+def picture(counts, calls):
+    rows = -(-len(calls) // COLUMNS)
+    width, height = WIDTH * COLUMNS, HEAD + HEIGHT * rows
+    lines = [f'<svg xmlns="http://www.w3.org/2000/svg" viewBox="0 0 {width} {height}" width="{width}" height="{height}">',
              f"<title>Instructions of a call over the number of ports</title>\n<style>{STYLE}\n</style>",
-             f'<rect class="ground" width="{width}" height="{HEIGHT}"/>',
-             f'<text class="head" x="{LEFT}" y="28">Instructions of a call over the number of ports (solid: library, dashed: model)</text>']
-    for i, (title, calls) in enumerate(PANELS):
-        lines += panel(counts, title, calls, i * WIDTH)
+             f'<rect class="ground" width="{width}" height="{height}"/>',
+             f'<text class="head" x="{LEFT}" y="26">Instructions of a call over the number of ports, on linear axes; the figures are those at 32 ports</text>',
+             *key(LEFT, "library", "library"), *key(LEFT + 120, "model", "model"), *key(LEFT + 230, "copy", "a copy of the table")]
+    for i, call in enumerate(calls):
+        lines += diagram(counts, call, i % COLUMNS * WIDTH, HEAD + i // COLUMNS * HEIGHT)
     return "\n".join([*lines, "</svg>", ""])

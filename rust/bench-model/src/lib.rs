@@ -114,3 +114,11 @@ pub unsafe extern "C" fn model_aggregator(
     [*holding, *attached, *distributing, *count, *lowest] = outcome.aggregator;
     outcome.answer
 }
+
+/// The ports that have something to send.
+#[no_mangle]
+pub unsafe extern "C" fn model_due(table: *const u8, table_len: usize, ports: &mut u32) -> u32 {
+    let outcome = report(Report::Due, from_raw_parts(table, table_len));
+    *ports = outcome.due;
+    outcome.answer
+}
