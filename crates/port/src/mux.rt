@@ -1,5 +1,6 @@
 // The Mux machine on a record (43.4.15).
 ghost use mathlib.Core.Path.{_≡_};
+ghost use Rattle.machine.specs.declared.states.Mux.the-variants.{Detached};
 ghost use Rattle.port.specs.Mux.{muxEntered, muxChoice, muxStep, detached, placed, attachedIf, muxRun};
 use crate::record::Port;
 use machine::mux::MuxStep;
@@ -66,12 +67,14 @@ impl Port {
         }
     }
 
-    // Step 4: the port holds this aggregator now, is SELECTED, and waits.
+    // Step 4: the port, which is detached, holds this aggregator now, is SELECTED, and waits.
     pub fn place(mut self, aggregator: u8) -> Self
+        requires { ⌜ self .phase .mux ≡ Detached ⌝ }
         ensures { λ r. ⌜ r ≡ placed aggregator self ⌝ }
     {
         self.aggregator = aggregator;
-        self.with_selected(Selection::Selected).mux_step(false)
+        self.with_selected(Selection::Selected)
+            .enter_mux(Mux::Waiting)
     }
 
     // Step 5: a port that waits attaches where its aggregator is Ready.

@@ -38,7 +38,7 @@ setsOf k ps = record {
   lowest = lowestOf (setOf (stands Distributes k) ps);
 }
 
--- the ports on which an LACPDU is due (R12)
+-- the ports on which an LACPDU is due (R15.5)
 unfoldable pub dueOf : List Port → ℕ
 dueOf ps = setOf isDue ps
 

@@ -101,7 +101,7 @@ unfolding tableOctets
 made-more h ps p = append-assoc (headerOctets h) (recordsOctets ps) (encoded p) ∙ ap (λ (l : List ℕ). headerOctets h ++ l) (records-more ps p)
 
 module _ (h : Header) (ps : List Port) where
-  made-length : length (tableOctets h ps) ≡ tableSize (length ps)
+  pub made-length : length (tableOctets h ps) ≡ tableSize (length ps)
   unfolding tableOctets
   made-length = length-append (headerOctets h) (recordsOctets ps) ∙ ap (λ (n : ℕ). headerSize + n) (records-length ps)
 

@@ -14,7 +14,7 @@ ghost use Rattle.port.specs.Range.{portInRange, timersInRange, agesInRange};
 ghost use Rattle.port.specs.Record.{withTimers, withCurrent, withAges};
 ghost use Rattle.table.specs.Record.{encoded, decoded};
 ghost use Rattle.table.specs.Table.{countIn, portAt, recordAt, firstInRange, tableInRange, isRoom, InTable};
-ghost use Rattle.table.specs.Leaves.{Holds, Became};
+ghost use Rattle.table.specs.Leaves.{Holds, Repeated, Became};
 use crate::layout::HEADER;
 use crate::layout::Header;
 use crate::layout::MOST_PORTS;
@@ -167,12 +167,21 @@ pub fn fill(table: &mut [u8], header: Header, p: Port)
     requires { ⌜ (isRoom (now table) (header .count) ≡ true) × (portInRange (header .count) p ≡ true) ⌝ }
     ensures { λ _. ⌜ Holds (now (table .exit)) header (replicate (header .count) p) ⌝ }
 {
-    let n = header.count as usize;
     write_header(table, header);
-    let mut i: usize = 0;
-    while i < n {
-        put(table, i, p);
-        i += 1;
+    put(table, 0, p);
+    repeat_first(table);
+}
+
+// Every octet behind the first record becomes the one that stands a record before it, so that all records are the first.
+fn repeat_first(table: &mut [u8])
+    requires { ⌜ place 1 ≤ length (now table) ⌝ }
+    ensures { λ _. ⌜ Repeated (now (table .entry)) (now (table .exit)) ⌝ }
+{
+    let n = table.len();
+    let mut j = HEADER + RECORD;
+    while j < n {
+        table[j] = table[j - RECORD];
+        j += 1;
     }
 }
 

@@ -35,8 +35,6 @@ pub enum Step {
     Displaced(usize, Block),
 }
 
-// Each step has a function of its own, so that the records of one lie in the stack where those of another do.
-
 // ---- whether a step leaves a record as it is, from the few of its octets that the step looks at
 
 // The receive machine stays.
@@ -90,7 +88,7 @@ fn is_settled(s: &[u8]) -> bool
     step.stays() & !(ntt_in(s) & silent)
 }
 
-// ---- the steps
+// ---- the steps, each in a function of its own, so that the records of one lie in the stack where those of another do
 
 // Timers fall and sends grow older, where they stand.
 fn pass_time(table: &mut [u8], i: usize)

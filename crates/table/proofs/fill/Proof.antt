@@ -1,73 +1,51 @@
--- `fill` meets its contract: after the header, the loop has filled the first i records (`filled`), and a turn fills the next.
--- Assumes nothing.
-use Prim.Native.Nat.{_≤_, _-_}
+-- `fill` meets its contract: a header, a first record, and that one repeated (`filled-holds`). Assumes nothing.
+use Prim.Native.Nat.{_+_, _≤_}
 use mathlib.Core.Path.{_≡_, sym, ap, _∙_}
 use native.Mathlib.Omega.{arith}
 use denote.Ref.{now}
 use lib.ListN.{length}
 use Rattle.octets.proofs.Laws.{length-put}
-use Rattle.table.specs.Layout.{headerOctets, place, mostPorts}
+use Rattle.table.specs.Layout.{headerOctets, place, recordSize}
 use Rattle.table.proofs.StoreLaws.{stored-length}
-use Rattle.table.proofs.FillLaws.{room-is, filled, filled-none, filled-more, filled-holds}
+use Rattle.table.proofs.FillLaws.{room-is, filled-holds}
+use borrow.Author.Needs.{needs}
 use Rattle.table.proofs.fill.Statement.{statement}
 use Rattle.table.proofs.fill.Tie as tie
 
-abbrev Inv-loop : tie.InvT-loop
-Inv-loop table₀ p n i₀ table i = (i ≤ n) × (n ≤ mostPorts) × (length table ≡ place n) × (table ≡ filled i p table₀)
+write-header-requires : tie.Need-write-header-requires
+write-header-requires c κs =
+    let room = room-is (now (c .before .before .args .table)) (c .before .before .args .header .count) (c .before .before .pre .0) in
+    omega (arith, room .some, room .size)
 
-abbrev μ-loop : tie.MeasureT-loop
-μ-loop table₀ p n i₀ table i = n - i
-
-cast-n : tie.Need-cast-n Inv-loop μ-loop
-cast-n c = omega (arith, room-is (now (c .before .before .args .table)) (c .before .before .args .header .count) (c .before .before .pre .0) .few)
-
-write-header-requires : tie.Need-write-header-requires Inv-loop μ-loop
-write-header-requires c κs = omega (arith, room-is (now (c .before .before .before .args .table)) (c .before .before .before .args .header .count) (c .before .before .before .pre .0) .size)
-
-loop-holds : tie.Need-loop-holds Inv-loop μ-loop
-loop-holds c =
-    let a = (c .before .before .before .before .before .before .args) in
-    let room = room-is (now (c .before .before .before .before .before .before .args .table)) (c .before .before .before .before .before .before .args .header .count) (c .before .before .before .before .before .before .pre .0) in (
-      omega arith,
-      room .few,
-      ap length (c .before .before .write-header .ensures) ∙ (length-put 0 (headerOctets (a .header)) (now (a .table)) (omega (arith, room .size)) ∙ room .size),
-      filled-none _ _,
-    )
-
-put-requires : tie.Need-put-requires Inv-loop μ-loop
+put-requires : tie.Need-put-requires
 put-requires c κs =
-    let inv = (c .before .before .loop .inv) in
-    omega (arith, inv .2, c .before .loop-test .taken)
+    let a = c .before .before .before .before .before .before .args in
+    let room = room-is (now (a .table)) (a .header .count) (c .before .before .before .before .before .before .pre .0) in
+    let kept = ap length (c .before .before .before .write-header .ensures) ∙ length-put 0 (headerOctets (a .header)) (now (a .table)) (omega (arith, room .some, room .size)) in
+    omega (arith, kept, room .some, room .size)
 
-add-i : tie.Need-add-i Inv-loop μ-loop
-add-i c = let inv = (c .before .before .before .before .before .loop .inv) in omega (arith, inv .1)
+repeat-first-requires : tie.Need-repeat-first-requires
+repeat-first-requires c κs =
+    let a = c .before .before .before .before .before .before .before .before .before .before .args in
+    let room = room-is (now (a .table)) (a .header .count) (c .before .before .before .before .before .before .before .before .before .before .pre .0) in
+    let kept = ap length (c .before .before .before .before .before .before .before .write-header .ensures) ∙ length-put 0 (headerOctets (a .header)) (now (a .table)) (omega (arith, room .some, room .size)) in
+    let put = ap length (c .before .before .before .put .ensures) ∙ stored-length 0 (a .p) _ (omega (arith, kept, room .some, room .size)) in
+    omega (arith, put, kept, room .some, room .size)
 
-loop-less : tie.Need-loop-less Inv-loop μ-loop
-loop-less c = omega arith
+same-length : tie.Need-same-length
+same-length c =
+    let a = c .before .before .before .before .before .before .before .before .before .before .before .before .before .args in
+    let room = room-is (now (a .table)) (a .header .count) (c .before .before .before .before .before .before .before .before .before .before .before .before .before .pre .0) in
+    let kept = ap length (c .before .before .before .before .before .before .before .before .before .before .write-header .ensures) ∙ length-put 0 (headerOctets (a .header)) (now (a .table)) (omega (arith, room .some, room .size)) in
+    let put = ap length (c .before .before .before .before .before .before .put .ensures) ∙ stored-length 0 (a .p) _ (omega (arith, kept, room .some, room .size)) in
+    c .before .before .repeat-first .ensures .size ∙ put ∙ kept
 
-loop-again : tie.Need-loop-again Inv-loop μ-loop
-loop-again c =
-    let inv = (c .before .before .before .before .before .loop .inv) in
-    let i = (c .before .before .before .before .before .loop .i) in
-    let p = (c .before .before .before .before .before .before .before .before .before .before .before .before .args .p) in
-    let u = (c .before .before .before .before .before .loop .table) in (
-      omega arith,
-      inv .1,
-      ap length (c .before .before .put .ensures) ∙ (stored-length i p u (omega (arith, inv .2, c .before .before .before .before .loop-test .taken)) ∙ inv .2),
-      filled-more i p _ u _ (inv .3) (c .before .before .put .ensures),
-    )
-
-same-length : tie.Need-same-length Inv-loop μ-loop
-same-length c = (c .before .loop .inv .2) ∙ sym (room-is (now (c .before .before .before .before .before .before .before .before .args .table)) (c .before .before .before .before .before .before .before .before .args .header .count) (c .before .before .before .before .before .before .before .before .pre .0) .size)
-
-returns : tie.Need-returns Inv-loop μ-loop
+returns : tie.Need-returns
 returns c =
-    let a = (c .before .before .before .before .before .before .before .before .args) in
-    let h = (a .header) in
-    let inv = (c .before .loop .inv) in
-    let end : c .before .loop .i ≡ h .count = omega arith in
-    filled-holds h (a .p) (now (a .table)) (room-is (now (c .before .before .before .before .before .before .before .before .args .table)) (c .before .before .before .before .before .before .before .before .args .header .count) (c .before .before .before .before .before .before .before .before .pre .0)) (c .before .before .before .before .before .before .before .before .pre .1) _
-    (inv .3 ∙ (λ j. filled (end j) (a .p) ((c .before .before .before .before .write-header .ensures) j)))
+    let a = c .before .before .before .before .before .before .before .before .before .before .before .before .before .args in
+    let e = c .before .before .before .before .before .before .before .before .before .before .before .before .before .pre in
+    filled-holds (a .header) (a .p) (now (a .table)) (room-is (now (a .table)) (a .header .count) (e .0)) (e .1) _
+    (rw (c .before .before .before .before .before .before .put .ensures, c .before .before .before .before .before .before .before .before .before .before .write-header .ensures) at (c .before .before .repeat-first .ensures))
 
 pub fill-spec : {M : Type 1} → statement M
-fill-spec = tie.close (tie.spec Inv-loop μ-loop cast-n write-header-requires loop-holds put-requires add-i loop-less loop-again same-length returns)
+fill-spec = tie.close (tie.spec write-header-requires put-requires repeat-first-requires same-length returns)

@@ -5,6 +5,7 @@ use denote.Ref.{now}
 use lib.ListN.{set}
 use Rattle.port.specs.declared.record.Port.{Port}
 use Rattle.port.specs.Mux.{detached, placed}
+use Rattle.port.proofs.MuxLaws.{detached-is}
 use Rattle.port.proofs.RangeLaws.{placed-ranged, detached-ranged}
 use Rattle.table.specs.Table.{countIn, ports, portAt}
 use Rattle.table.proofs.LeavesLaws.{left-alone, said}
@@ -25,7 +26,7 @@ detach-requires : tie.Need-detach-requires
 detach-requires c κs = search needs
 
 place-requires : tie.Need-place-requires
-place-requires c κs = search needs
+place-requires c κs = ap (λ (x : Port). x .phase .mux) (c .detach .ensures) ∙ detached-is (c .before .load .result)
 
 store-requires : tie.Need-store-requires
 store-requires c κs =
