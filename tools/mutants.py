@@ -313,7 +313,7 @@ MUTANTS = [
         ("report/proofs/stands_to/Proof.antt", "distributes-requires : tie.Need-distributes-requires\ndistributes-requires c",
          "collects-requires : tie.Need-collects-requires\ncollects-requires c"),
         ("report/proofs/stands_to/Proof.antt", "c .distributes .ensures", "c .collects .ensures"),
-        ("report/proofs/stands_to/Proof.antt", "    distributes-requires\n    returns\n", "    collects-requires\n    returns\n"))),
+        ("report/proofs/stands_to/Proof.antt", "    distributes-requires\n    enum-told-4\n", "    collects-requires\n    enum-told-4\n"))),
     Mutant("7 reports", "the count of the attached ports", ("narrowed-true",), "report::aggregator_of", (
         ("report/specs/Sets.antt", "count = ones (setOf (stands Distributes k) ps);", "count = ones (setOf (stands Attached k) ps);"),
         ("report/src/lib.rt", "count: u32::count_ones(distributing),", "count: u32::count_ones(attached),"))),
@@ -332,11 +332,11 @@ MUTANTS = [
         ("machine/src/mux.rt", "                        return MuxStep::Enter(Mux::Distributing);", "                        return MuxStep::Stay;"))),
     Mutant("11 waiting for someone", "Ready while a timer runs, and no longer when none does", ("waiting",), "", (
         ("trunk/specs/Ready.antt", "ready k ps = hasWaiting k ps && not (heldBack k ps)", "ready k ps = hasWaiting k ps && heldBack k ps"),)),
-    Mutant("13 one aggregator", "a port that goes over without being detached", ("thinner",), "port::record::Port::detach", (
+    Mutant("13 one aggregator", "a port that goes over without being detached", ("thinner",), "", (
         ("port/specs/Mux.antt", "detached p = muxStep false (muxStep false (muxStep false (withSelected p Unselected)))",
-         "detached p = muxStep false (muxStep false (muxStep false (withSelected p Selected)))"),
-        ("port/src/mux.rt", "        self.with_selected(Selection::Unselected)\n            .mux_step(false)\n            .mux_step(false)",
-         "        self.with_selected(Selection::Selected)\n            .mux_step(false)\n            .mux_step(false)"))),
+         "detached p = muxStep false (muxStep false (muxStep false (withSelected p Selected)))"),)),
+    Mutant("7 reports", "what is due without the limit of three sends", ("due-barred", "due-as-fetched"), "", (
+        ("port/specs/Transmit.antt", "goes Barred = false", "goes Barred = true"),)),
     Mutant("14 a moved partner is forgotten", "a displaced port that is left as it is", ("forgotten",), "", (
         ("trunk/specs/Displaced.antt", "cond (not (eqb i r) && isDisplaced a p) (moved p) p", "cond (not (eqb i r) && isDisplaced a p) p p"),)),
     Mutant("15 thinner for a reason", "any other settings make a port UNSELECTED", ("still-carries",), "settings::Settings::regroup", (
