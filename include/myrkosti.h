@@ -10,8 +10,10 @@
  * memory that you lend is readable (the table and what is written, writable) for its whole length, nobody else uses it until the call
  * returns, and the areas that you lend to one call do not overlap.
  *
- * Link with libmyrkosti.a (`rt staticlib myrkosti`). docs/GUIDE-FIRMWARE.md shows how the calls go together, docs/RULES.md what each does.
- * Each function here is proved to meet its contract; docs/PROOFS.md says what that is.
+ * Link with target/staticlib/libmyrkosti.a, which `rt staticlib myrkosti` proves and builds. Then read, in this order: examples/loop.c, a driver's loop
+ * to copy from; docs/GUIDE-FIRMWARE.md, why it is as it is and what to start with; 'What is left to the chip and the firmware' in
+ * docs/CONFORMANCE.md, the table of your duties. docs/RULES.md says what each call does. Each function that is not `static inline` is proved to
+ * meet its contract; docs/PROOFS.md says what that is.
  */
 #ifndef MYRKOSTI_H
 #define MYRKOSTI_H
@@ -24,14 +26,22 @@
 extern "C" {
 #endif
 
-/* ---- sizes ---- */
+/* ---- version and sizes ---- */
+
+/*
+ * The version of this interface. Its high octet changes where a program that was compiled with the header of before no longer fits; its low octet
+ * where something is added: a call, an answer, fields behind the others of a record. Ask myrkosti_fits at start.
+ */
+#define MYRKOSTI_VERSION 0x0100
 
 #define MYRKOSTI_PORTS 32  /* the most ports that a table has */
 #define MYRKOSTI_HEADER 11 /* octets before the first record of a table */
 #define MYRKOSTI_RECORD 57 /* octets of a port's record; later versions append fields and move none */
 #define MYRKOSTI_FRAME 124 /* octets of every frame that the library writes, without FCS; an outgoing buffer has at least as many */
 #define MYRKOSTI_BLOCK 15  /* octets of an information block */
-#define MYRKOSTI_TABLE(ports) (MYRKOSTI_HEADER + MYRKOSTI_RECORD * (ports)) /* for a table whose port count is known beforehand */
+
+/* The size of a table whose port count is a constant, of this version. myrkosti_table_size gives that of the library which is linked. */
+#define MYRKOSTI_TABLE(ports) (MYRKOSTI_HEADER + MYRKOSTI_RECORD * (ports))
 
 /* ---- answers ---- */
 
@@ -54,12 +64,13 @@ enum {
 /*
  * ---- the record of a port, MYRKOSTI_RECORD octets, as it lies in the table and as myrkosti_port gives it ----
  *
- * Record i (from 0, of port i + 1) begins at octet 11 + 57 * i of a table. Numbers are high octet first.
+ * Record i (from 0, of port i + 1) begins at octet 11 + 57 * i of a table of this version. Numbers of two octets are high octet first:
+ * myrkosti_number reads one.
  *
- *    0       receive state: 0 INITIALIZE, 1 PORT_DISABLED, 2 EXPIRED, 3 LACP_DISABLED, 4 DEFAULTED, 5 CURRENT
- *    1       periodic state: 0 NO_PERIODIC, 1 FAST_PERIODIC, 2 SLOW_PERIODIC, 3 PERIODIC_TX
- *    2       mux state: 0 DETACHED, 1 WAITING, 2 ATTACHED, 3 COLLECTING, 4 DISTRIBUTING
- *    3       Selected: 0 UNSELECTED, 1 SELECTED
+ *    0       receive state
+ *    1       periodic state
+ *    2       mux state
+ *    3       Selected
  *    4       aggregator held, from 1
  *    5       NTT: 1 if an LACPDU is due
  *    6       link: 1 up
@@ -73,9 +84,7 @@ enum {
  *   23-24    key
  *   25-26    port priority
  *   27-41    default partner block
- *   42-56    partner information in force
- *
- * An information block, MYRKOSTI_BLOCK octets: 0-1 system priority, 2-7 system, 8-9 key, 10-11 port priority, 12-13 port, 14 state.
+ *   42-56    partner information in force, a block
  */
 enum {
     MYRKOSTI_AT_RECEIVE = 0,
@@ -98,6 +107,16 @@ enum {
     MYRKOSTI_AT_PARTNER = 42
 };
 
+/* the octets of an information block */
+enum {
+    MYRKOSTI_BLOCK_SYSTEM_PRIORITY = 0, /* two octets */
+    MYRKOSTI_BLOCK_SYSTEM = 2,          /* six */
+    MYRKOSTI_BLOCK_KEY = 8,             /* two */
+    MYRKOSTI_BLOCK_PORT_PRIORITY = 10,  /* two */
+    MYRKOSTI_BLOCK_PORT = 12,           /* two */
+    MYRKOSTI_BLOCK_STATE = 14           /* one, bits below */
+};
+
 /* the bits of a state octet */
 enum {
     MYRKOSTI_ACTIVITY = 0x01,
@@ -110,7 +129,43 @@ enum {
     MYRKOSTI_EXPIRED = 0x80
 };
 
+/* receive states. Between calls no port is in INITIALIZE; beside a refusal the zeros of a record say so */
+enum {
+    MYRKOSTI_RECEIVE_INITIALIZE = 0,
+    MYRKOSTI_RECEIVE_PORT_DISABLED = 1,
+    MYRKOSTI_RECEIVE_EXPIRED = 2,
+    MYRKOSTI_RECEIVE_LACP_DISABLED = 3,
+    MYRKOSTI_RECEIVE_DEFAULTED = 4,
+    MYRKOSTI_RECEIVE_CURRENT = 5
+};
+
+/* periodic states; between calls no port is in PERIODIC_TX */
+enum {
+    MYRKOSTI_PERIODIC_NO_PERIODIC = 0,
+    MYRKOSTI_PERIODIC_FAST = 1,
+    MYRKOSTI_PERIODIC_SLOW = 2,
+    MYRKOSTI_PERIODIC_TX = 3
+};
+
+/* mux states; between calls no port is in DETACHED */
+enum {
+    MYRKOSTI_MUX_DETACHED = 0,
+    MYRKOSTI_MUX_WAITING = 1,
+    MYRKOSTI_MUX_ATTACHED = 2,
+    MYRKOSTI_MUX_COLLECTING = 3,
+    MYRKOSTI_MUX_DISTRIBUTING = 4
+};
+
+/* Selected */
+enum {
+    MYRKOSTI_UNSELECTED = 0,
+    MYRKOSTI_SELECTED = 1
+};
+
 /* ---- calls ---- */
+
+/* The version of the library that is linked. */
+uint32_t myrkosti_version(void);
 
 /* The octets that the memory of a table of `ports` ports has, no more and no less; 0 for a count outside 1 to 32. */
 uint32_t myrkosti_table_size(uint32_t ports);
@@ -180,8 +235,12 @@ uint32_t myrkosti_fetch(uint8_t *table, size_t table_len, uint32_t port, uint8_t
  */
 uint32_t myrkosti_due(const uint8_t *table, size_t table_len, uint32_t *ports);
 
-/* The record of a port. `record` is written at every call, with zeros beside a refusal. Answers 0, 1 or 2. */
-uint32_t myrkosti_port(const uint8_t *table, size_t table_len, uint32_t port, uint8_t record[MYRKOSTI_RECORD]);
+/*
+ * The record of a port: as many octets of it as fit into the memory lent, from the front, at every call, with zeros beside a refusal. What the memory
+ * has beyond the record stays as it was. Pass MYRKOSTI_RECORD octets: with a library whose record is longer you are given the fields that this header
+ * knows. Answers 0, 1 or 2.
+ */
+uint32_t myrkosti_port(const uint8_t *table, size_t table_len, uint32_t port, uint8_t *record, size_t record_len);
 
 /*
  * The ports of an aggregator as sets, bit 0 is port 1: those that hold it, those of them that are attached, and those that distribute: only
@@ -191,6 +250,91 @@ uint32_t myrkosti_port(const uint8_t *table, size_t table_len, uint32_t port, ui
 uint32_t myrkosti_aggregator(const uint8_t *table, size_t table_len, uint32_t aggregator,
                              uint32_t *holding, uint32_t *attached, uint32_t *distributing,
                              uint32_t *count, uint32_t *lowest);
+
+/* ---- the calls with names for their arguments ---- */
+
+/* This switch as it names itself to its neighbours; address and priority must be its own. */
+struct myrkosti_system {
+    uint8_t address[6];
+    uint16_t priority;
+    uint16_t collector_max_delay; /* in tens of microseconds */
+};
+
+/* The settings of a port. */
+struct myrkosti_port_settings {
+    uint8_t address[6]; /* the port's own, with which its frames go out */
+    uint16_t key;       /* ports of different keys are never in one trunk */
+    uint16_t priority;
+    bool activity;      /* true is active: it speaks without being spoken to */
+    bool timeout;       /* true is short: the partner is asked for an LACPDU a second, and given up after three without one */
+    bool aggregation;   /* false: always by itself */
+    uint8_t partner[MYRKOSTI_BLOCK]; /* assumed of a partner that is not heard */
+};
+
+/* What to start with where nothing else is known; docs/GUIDE-FIRMWARE.md says why. `address` is one of the switch's own. */
+static inline struct myrkosti_system myrkosti_usual_system(const uint8_t address[6])
+{
+    struct myrkosti_system system;
+    for (size_t i = 0; i < 6; i++)
+        system.address[i] = address[i];
+    system.priority = 32768;
+    system.collector_max_delay = 0;
+    return system;
+}
+
+/* Active, short, aggregatable; a partner that is not heard carries nothing. `key`: one for each data rate, not 0. */
+static inline struct myrkosti_port_settings myrkosti_usual_settings(const uint8_t address[6], uint16_t key)
+{
+    struct myrkosti_port_settings settings;
+    for (size_t i = 0; i < 6; i++)
+        settings.address[i] = address[i];
+    settings.key = key;
+    settings.priority = 32768;
+    settings.activity = true;
+    settings.timeout = true;
+    settings.aggregation = true;
+    for (size_t i = 0; i < MYRKOSTI_BLOCK; i++)
+        settings.partner[i] = 0;
+    settings.partner[MYRKOSTI_BLOCK_STATE] = MYRKOSTI_TIMEOUT;
+    return settings;
+}
+
+/* myrkosti_start */
+static inline uint32_t myrkosti_start_with(uint8_t *table, size_t table_len, uint32_t ports,
+                                           const struct myrkosti_system *system, const struct myrkosti_port_settings *settings)
+{
+    return myrkosti_start(table, table_len, ports, system->priority, system->address, system->collector_max_delay,
+                          settings->address, settings->key, settings->priority,
+                          settings->activity, settings->timeout, settings->aggregation, settings->partner);
+}
+
+/* myrkosti_settings */
+static inline uint32_t myrkosti_settings_with(uint8_t *table, size_t table_len, uint32_t port, const struct myrkosti_port_settings *settings)
+{
+    return myrkosti_settings(table, table_len, port, settings->address, settings->key, settings->priority,
+                             settings->activity, settings->timeout, settings->aggregation, settings->partner);
+}
+
+/* Whether the library that is linked is of this header's generation and has all that this header tells of. */
+static inline bool myrkosti_fits(void)
+{
+    const uint32_t linked = myrkosti_version();
+    return linked >> 8 == MYRKOSTI_VERSION >> 8 && linked >= MYRKOSTI_VERSION;
+}
+
+/* The number of two octets that begins here, as the key at record + MYRKOSTI_AT_KEY. */
+static inline uint16_t myrkosti_number(const uint8_t *octets)
+{
+    return (octets[0] << 8 | octets[1]) & 0xffff;
+}
+
+/* Writes a number of two octets here, as a port into a block + MYRKOSTI_BLOCK_PORT. */
+static inline void myrkosti_put_number(uint8_t *octets, uint16_t number)
+{
+    const uint32_t wide = number;
+    octets[0] = wide >> 8 & 0xff;
+    octets[1] = wide & 0xff;
+}
 
 #ifdef __cplusplus
 }

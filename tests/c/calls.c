@@ -1,6 +1,9 @@
 /* Drives every function of include/myrkosti.h, with its refusals. Prints one line for each check that fails, and how many passed. */
 #include "myrkosti.h"
 
+#include "check.h"
+#include "neighbour.h"
+
 #include <stdio.h>
 #include <string.h>
 
@@ -10,20 +13,6 @@ static const uint8_t OURS[6] = {0, 0, 0, 0, 0, 9};
 static const uint8_t THEIRS[6] = {0, 0, 0, 0, 0, 5};
 static const uint8_t ADDRESS[6] = {0x02, 0x00, 0x5e, 0x10, 0x20, 0x30};
 static const uint8_t NOBODY[MYRKOSTI_BLOCK];
-
-static unsigned passed, failed;
-
-static void check(bool holds, const char *what)
-{
-    if (holds) {
-        passed++;
-    } else {
-        failed++;
-        printf("failed: %s\n", what);
-    }
-}
-
-#define IS(expression, value) check((expression) == (value), #expression " is " #value)
 
 /* active, short timeout, aggregatable */
 static uint32_t start(uint8_t *table, size_t length, uint32_t ports, const uint8_t partner[MYRKOSTI_BLOCK])
@@ -36,37 +25,23 @@ static uint32_t settings(uint8_t *table, uint32_t port, uint16_t key, const uint
     return myrkosti_settings(table, SIZE, port, ADDRESS, key, 1, true, true, true, partner);
 }
 
-static uint8_t *put_block(uint8_t *at, const uint8_t system[6], uint8_t port, uint8_t state)
+static void put_block(uint8_t block[MYRKOSTI_BLOCK], const uint8_t system[6], uint16_t port, uint8_t state)
 {
-    uint8_t block[MYRKOSTI_BLOCK] = {0, 1, 0, 0, 0, 0, 0, 0, 0, 1, 0, 1, 0, 0, 0};
-    memcpy(block + 2, system, 6);
-    block[13] = port;
-    block[14] = state;
-    memcpy(at, block, sizeof block);
-    return at + sizeof block;
+    myrkosti_put_number(block + MYRKOSTI_BLOCK_SYSTEM_PRIORITY, 1);
+    memcpy(block + MYRKOSTI_BLOCK_SYSTEM, system, 6);
+    myrkosti_put_number(block + MYRKOSTI_BLOCK_KEY, 1);
+    myrkosti_put_number(block + MYRKOSTI_BLOCK_PORT_PRIORITY, 1);
+    myrkosti_put_number(block + MYRKOSTI_BLOCK_PORT, port);
+    block[MYRKOSTI_BLOCK_STATE] = state;
 }
 
 /* an LACPDU of the same port of system 5, in sync, collecting and distributing, that says `state` of ours */
-static void write_lacpdu(uint8_t frame[MYRKOSTI_FRAME], uint8_t port, uint8_t state)
+static void write_lacpdu(uint8_t frame[MYRKOSTI_FRAME], uint16_t port, uint8_t state)
 {
-    static const uint8_t header[18] = {0x01, 0x80, 0xc2, 0, 0, 2, 2, 0, 0, 0, 0, 5, 0x88, 0x09, 1, 1, 1, 20};
-    memset(frame, 0, MYRKOSTI_FRAME);
-    memcpy(frame, header, sizeof header);
-    put_block(frame + 18, THEIRS, port, 0x3f);
-    frame[36] = 2;
-    frame[37] = 20;
-    put_block(frame + 38, OURS, port, state);
-    frame[56] = 3;
-    frame[57] = 16;
-}
-
-static void write_marker(uint8_t frame[MYRKOSTI_FRAME], uint8_t type)
-{
-    static const uint8_t header[18] = {0x01, 0x80, 0xc2, 0, 0, 2, 2, 0, 0, 0, 0, 5, 0x88, 0x09, 2, 1, 0, 16};
-    memset(frame, 0, MYRKOSTI_FRAME);
-    memcpy(frame, header, sizeof header);
-    frame[16] = type;
-    frame[29] = 7; /* transaction */
+    uint8_t theirs[MYRKOSTI_BLOCK], ours[MYRKOSTI_BLOCK];
+    put_block(theirs, THEIRS, port, 0x3f);
+    put_block(ours, OURS, port, state);
+    put_lacpdu(frame, theirs, ours);
 }
 
 /* a port's record, and that a refused report gives zeros */
@@ -74,7 +49,7 @@ static uint8_t field(const uint8_t *table, uint32_t port, unsigned at)
 {
     uint8_t record[MYRKOSTI_RECORD];
     memset(record, 0xff, sizeof record);
-    IS(myrkosti_port(table, SIZE, port, record), MYRKOSTI_DONE);
+    IS(myrkosti_port(table, SIZE, port, record, sizeof record), MYRKOSTI_DONE);
     IS(memcmp(record, table + MYRKOSTI_HEADER + MYRKOSTI_RECORD * (port - 1), sizeof record), 0);
     return record[at];
 }
@@ -84,7 +59,7 @@ static void refuse_tables(void)
     uint8_t table[SIZE + 1], before[SIZE + 1], out[MYRKOSTI_FRAME], record[MYRKOSTI_RECORD];
     uint8_t wrong[MYRKOSTI_BLOCK] = {0};
     uint32_t a, b, c, d, e, sent = 9;
-    wrong[14] = MYRKOSTI_COLLECTING;
+    wrong[MYRKOSTI_BLOCK_STATE] = MYRKOSTI_COLLECTING;
     memset(table, 0xa5, sizeof table);
     memcpy(before, table, sizeof table);
     IS(myrkosti_table_size(0), 0);
@@ -100,9 +75,9 @@ static void refuse_tables(void)
     IS(myrkosti_fetch(table, SIZE, 1, out, sizeof out), MYRKOSTI_TABLE_WRONG);
     IS(myrkosti_receive(table, SIZE, 1, out, 0, out, sizeof out, &sent), MYRKOSTI_TABLE_WRONG);
     IS(sent, 0);
-    IS(myrkosti_port(table, 0, 1, record), MYRKOSTI_TABLE_WRONG);
+    IS(myrkosti_port(table, 0, 1, record, sizeof record), MYRKOSTI_TABLE_WRONG);
     memset(record, 0xff, sizeof record);
-    IS(myrkosti_port(table, SIZE, 1, record), MYRKOSTI_TABLE_WRONG);
+    IS(myrkosti_port(table, SIZE, 1, record, sizeof record), MYRKOSTI_TABLE_WRONG);
     for (unsigned i = 0; i < sizeof record; i++) {
         IS(record[i], 0);
     }
@@ -121,13 +96,13 @@ static void refuse_arguments(uint8_t *table)
     uint32_t a, b, c, d, e, sent = 9;
     memset(out, 0xff, sizeof out);
     memcpy(before, table, SIZE);
-    wrong[14] = MYRKOSTI_SYNCHRONIZATION;
+    wrong[MYRKOSTI_BLOCK_STATE] = MYRKOSTI_SYNCHRONIZATION;
     write_lacpdu(frame, 1, 0x07);
     IS(myrkosti_line(table, SIZE, 0, true, true), MYRKOSTI_NO_SUCH_PORT);
     IS(myrkosti_line(table, SIZE, PORTS + 1, true, false), MYRKOSTI_NO_SUCH_PORT);
     IS(settings(table, 4000000000u, 1, wrong), MYRKOSTI_NO_SUCH_PORT);
     IS(settings(table, 1, 1, wrong), MYRKOSTI_DEFAULT_WRONG);
-    IS(myrkosti_port(table, SIZE, 0, record), MYRKOSTI_NO_SUCH_PORT);
+    IS(myrkosti_port(table, SIZE, 0, record, sizeof record), MYRKOSTI_NO_SUCH_PORT);
     IS(myrkosti_aggregator(table, SIZE, 3, &a, &b, &c, &d, &e), MYRKOSTI_NO_SUCH_PORT);
     IS(myrkosti_fetch(table, SIZE, 1, out, 123), MYRKOSTI_BUFFER_SHORT);
     IS(myrkosti_receive(table, SIZE, 1, frame, 5, out, 123, &sent), MYRKOSTI_BUFFER_SHORT);
@@ -136,9 +111,9 @@ static void refuse_arguments(uint8_t *table)
     IS(myrkosti_receive(table, SIZE, 1, frame, 124, out, sizeof out, &sent), MYRKOSTI_LACP_OFF);
     frame[14] = 10;
     IS(myrkosti_receive(table, SIZE, 1, frame, 124, out, sizeof out, &sent), MYRKOSTI_UNKNOWN);
-    write_marker(frame, 1);
+    put_marker(frame, 1);
     IS(myrkosti_receive(table, SIZE, 1, frame, 124, out, sizeof out, &sent), MYRKOSTI_NOT_COLLECTING);
-    write_marker(frame, 2);
+    put_marker(frame, 2);
     IS(myrkosti_receive(table, SIZE, 1, frame, 124, out, sizeof out, &sent), MYRKOSTI_RESPONSE);
     IS(myrkosti_fetch(table, SIZE, 1, out, sizeof out), MYRKOSTI_NOTHING_TO_SEND);
     IS(sent, 0);
@@ -167,10 +142,10 @@ static void form_a_trunk(uint8_t *table)
     hear(table, 1);
     hear(table, 2);
     for (int i = 0; i < 20; i++) {
-        IS(field(table, 2, MYRKOSTI_AT_MUX), 1);
+        IS(field(table, 2, MYRKOSTI_AT_MUX), MYRKOSTI_MUX_WAITING);
         IS(myrkosti_tick(table, SIZE), MYRKOSTI_DONE);
     }
-    IS(field(table, 1, MYRKOSTI_AT_MUX), 4);
+    IS(field(table, 1, MYRKOSTI_AT_MUX), MYRKOSTI_MUX_DISTRIBUTING);
     IS(field(table, 1, MYRKOSTI_AT_ACTOR_STATE), 0x3f);
     IS(myrkosti_aggregator(table, SIZE, 1, &holding, &attached, &distributing, &count, &lowest), MYRKOSTI_DONE);
     IS(holding, 3);
@@ -178,7 +153,7 @@ static void form_a_trunk(uint8_t *table)
     IS(distributing, 3);
     IS(count, 2);
     IS(lowest, 1);
-    write_marker(frame, 1);
+    put_marker(frame, 1);
     memset(out, 0xff, sizeof out);
     IS(myrkosti_receive(table, SIZE, 1, frame, sizeof frame, out, sizeof out, &sent), MYRKOSTI_DONE);
     IS(sent, MYRKOSTI_FRAME);
@@ -191,12 +166,12 @@ static void form_a_trunk(uint8_t *table)
         IS(myrkosti_fetch(table, SIZE, 2, out, sizeof out), MYRKOSTI_DONE);
         IS(out[27], 2 + i);
         IS(out[51], 2);
-        IS(out[52], field(table, 2, MYRKOSTI_AT_PARTNER + 14));
+        IS(out[52], field(table, 2, MYRKOSTI_AT_PARTNER + MYRKOSTI_BLOCK_STATE));
     }
     IS(settings(table, 2, 1, NOBODY), MYRKOSTI_DONE);
     IS(myrkosti_fetch(table, SIZE, 2, out, sizeof out), MYRKOSTI_TOO_MANY_SENDS);
     IS(myrkosti_line(table, SIZE, 1, true, false), MYRKOSTI_DONE);
-    IS(field(table, 1, MYRKOSTI_AT_RECEIVE), 3);
+    IS(field(table, 1, MYRKOSTI_AT_RECEIVE), MYRKOSTI_RECEIVE_LACP_DISABLED);
     IS(myrkosti_aggregator(table, SIZE, 1, &holding, &attached, &distributing, &count, &lowest), MYRKOSTI_DONE);
     IS(holding, 1);
     IS(distributing | count | lowest, 0);
@@ -251,7 +226,7 @@ static void range_ages(void)
         uint8_t *stored = table + MYRKOSTI_HEADER + MYRKOSTI_RECORD + MYRKOSTI_AT_AGES + place;
         for (unsigned age = 0; age < 256; age++) {
             *stored = (uint8_t)age;
-            IS(myrkosti_port(table, SIZE, 1, record), age <= 10 || age == 255 ? MYRKOSTI_DONE : MYRKOSTI_TABLE_WRONG);
+            IS(myrkosti_port(table, SIZE, 1, record, sizeof record), age <= 10 || age == 255 ? MYRKOSTI_DONE : MYRKOSTI_TABLE_WRONG);
         }
         *stored = 11;
         memcpy(before, table, SIZE);
@@ -306,16 +281,12 @@ static void arrive(uint8_t *table, struct line line)
         pass(table, 20);
         IS(fetch(table), MYRKOSTI_DONE);
     }
-    IS(field(table, 1, MYRKOSTI_AT_MUX), 4);
+    IS(field(table, 1, MYRKOSTI_AT_MUX), MYRKOSTI_MUX_DISTRIBUTING);
     IS(field(table, 1, MYRKOSTI_AT_NTT), 0);
     if (!line.up) {
         IS(set_line(table, line), MYRKOSTI_DONE);
     }
 }
-
-enum { PORT_DISABLED = 1, EXPIRED = 2, LACP_DISABLED = 3 };
-enum { NO_PERIODIC = 0, FAST_PERIODIC = 1 };
-enum { WAITING = 1, ATTACHED = 2 };
 
 /* what a change leaves in the fields that it may touch, and what a fetch is answered then */
 struct change {
@@ -326,17 +297,17 @@ struct change {
 };
 
 #define NOWHERE {0}
-#define TO_LACP_DISABLED {LACP_DISABLED, NO_PERIODIC, WAITING, 0, 0x47, 0, 0, 20, IN_SYNC + 2, 0x3a, MYRKOSTI_NOTHING_TO_SEND}
+#define TO_LACP_DISABLED {MYRKOSTI_RECEIVE_LACP_DISABLED, MYRKOSTI_PERIODIC_NO_PERIODIC, MYRKOSTI_MUX_WAITING, 0, 0x47, 0, 0, 20, IN_SYNC + 2, 0x3a, MYRKOSTI_NOTHING_TO_SEND}
 #define TO_PORT_DISABLED(ntt, state, system, partner_state) \
-    {PORT_DISABLED, NO_PERIODIC, ATTACHED, ntt, state, 0, 0, 0, system, partner_state, MYRKOSTI_NOTHING_TO_SEND}
+    {MYRKOSTI_RECEIVE_PORT_DISABLED, MYRKOSTI_PERIODIC_NO_PERIODIC, MYRKOSTI_MUX_ATTACHED, ntt, state, 0, 0, 0, system, partner_state, MYRKOSTI_NOTHING_TO_SEND}
 #define TO_EXPIRED(ntt, state, system, partner_state) \
-    {EXPIRED, FAST_PERIODIC, ATTACHED, ntt, state, 30, 10, 0, system, partner_state, ntt ? MYRKOSTI_DONE : MYRKOSTI_NOTHING_TO_SEND}
+    {MYRKOSTI_RECEIVE_EXPIRED, MYRKOSTI_PERIODIC_FAST, MYRKOSTI_MUX_ATTACHED, ntt, state, 30, 10, 0, system, partner_state, ntt ? MYRKOSTI_DONE : MYRKOSTI_NOTHING_TO_SEND}
 
 /* the rows are old values, the columns new ones */
 static const struct change CHANGES[4][4] = {
-    /* up, full: a fall keeps the partner, whatever the duplex; NTT, which ATTACHED sets, stays at full duplex alone */
+    /* up, full: a fall keeps the partner, whatever the duplex; NTT, which MYRKOSTI_MUX_ATTACHED sets, stays at full duplex alone */
     {NOWHERE, TO_LACP_DISABLED, TO_PORT_DISABLED(1, 0x0f, THEIRS, 0x37), TO_PORT_DISABLED(0, 0x0f, THEIRS, 0x37)},
-    /* up, half, carrying on its default block: the fall to ATTACHED sets NTT, and at full duplex LACP is on */
+    /* up, half, carrying on its default block: the fall to MYRKOSTI_MUX_ATTACHED sets NTT, and at full duplex LACP is on */
     {TO_EXPIRED(1, 0xcf, IN_SYNC + 2, 0x32), NOWHERE, TO_PORT_DISABLED(1, 0x4f, IN_SYNC + 2, 0x32),
      TO_PORT_DISABLED(0, 0x4f, IN_SYNC + 2, 0x32)},
     /* down, full: what the fall made due is still due */
@@ -395,7 +366,7 @@ static void come_up_at_half_duplex(void)
     IS(start(table, SIZE, PORTS, IN_SYNC), MYRKOSTI_DONE);
     IS(field(table, 1, MYRKOSTI_AT_NTT), 1);
     IS(myrkosti_line(table, SIZE, 1, true, false), MYRKOSTI_DONE);
-    IS(field(table, 1, MYRKOSTI_AT_RECEIVE), LACP_DISABLED);
+    IS(field(table, 1, MYRKOSTI_AT_RECEIVE), MYRKOSTI_RECEIVE_LACP_DISABLED);
     IS(field(table, 1, MYRKOSTI_AT_ACTOR_STATE), 0x47);
     for (int i = 0; i < 40; i++) {
         IS(fetch(table), MYRKOSTI_NOTHING_TO_SEND);
@@ -414,14 +385,14 @@ static void fall_at_once_or_by_way_of_half_duplex(void)
     arrive(once, LINES[0]);
     memcpy(twice, once, SIZE);
     IS(myrkosti_line(once, SIZE, 1, false, false), MYRKOSTI_DONE);
-    IS(field(once, 1, MYRKOSTI_AT_PARTNER + 7), THEIRS[5]);
+    IS(field(once, 1, MYRKOSTI_AT_PARTNER + MYRKOSTI_BLOCK_SYSTEM + 5), THEIRS[5]);
     IS(field(once, 1, MYRKOSTI_AT_ACTOR_STATE) & MYRKOSTI_DEFAULTED, 0);
-    IS(field(once, 1, MYRKOSTI_AT_MUX), ATTACHED);
+    IS(field(once, 1, MYRKOSTI_AT_MUX), MYRKOSTI_MUX_ATTACHED);
     IS(myrkosti_line(twice, SIZE, 1, true, false), MYRKOSTI_DONE);
     IS(myrkosti_line(twice, SIZE, 1, false, false), MYRKOSTI_DONE);
-    IS(field(twice, 1, MYRKOSTI_AT_PARTNER + 7), IN_SYNC[7]);
+    IS(field(twice, 1, MYRKOSTI_AT_PARTNER + MYRKOSTI_BLOCK_SYSTEM + 5), IN_SYNC[7]);
     IS(field(twice, 1, MYRKOSTI_AT_ACTOR_STATE) & MYRKOSTI_DEFAULTED, MYRKOSTI_DEFAULTED);
-    IS(field(twice, 1, MYRKOSTI_AT_MUX), WAITING);
+    IS(field(twice, 1, MYRKOSTI_AT_MUX), MYRKOSTI_MUX_WAITING);
 }
 
 /* values as they are change nothing, also in a table that no run makes: a down port that distributes, for which steps 2 to 6 have work */
@@ -429,12 +400,12 @@ static void repeat_a_line(void)
 {
     uint8_t table[SIZE], before[SIZE];
     IS(start(table, SIZE, PORTS, NOBODY), MYRKOSTI_DONE);
-    table[MYRKOSTI_HEADER + MYRKOSTI_AT_MUX] = 4;
+    table[MYRKOSTI_HEADER + MYRKOSTI_AT_MUX] = MYRKOSTI_MUX_DISTRIBUTING;
     memcpy(before, table, SIZE);
     IS(myrkosti_line(table, SIZE, 1, false, true), MYRKOSTI_DONE);
     IS(memcmp(table, before, SIZE), 0);
     IS(myrkosti_line(table, SIZE, 2, true, true), MYRKOSTI_DONE);
-    IS(field(table, 1, MYRKOSTI_AT_MUX), ATTACHED);
+    IS(field(table, 1, MYRKOSTI_AT_MUX), MYRKOSTI_MUX_ATTACHED);
 }
 
 /* ---- what is due ---- */
@@ -475,7 +446,7 @@ static void refuse_due(const uint8_t *table, size_t length)
 {
     uint8_t record[MYRKOSTI_RECORD];
     uint32_t ports;
-    IS(myrkosti_port(table, length, 1, record), MYRKOSTI_TABLE_WRONG);
+    IS(myrkosti_port(table, length, 1, record, sizeof record), MYRKOSTI_TABLE_WRONG);
     IS(ask_due(table, length, &ports), MYRKOSTI_TABLE_WRONG);
     IS(ports, 0);
 }
@@ -595,6 +566,35 @@ static void say_what_is_due_on_32_ports(void)
     IS(due(table, MYRKOSTI_PORTS), 0);
 }
 
+/* ---- the memory lent for a record ---- */
+
+/* memory of this length holds what fits of the expected record, from the front; what is beyond it or beyond the memory stays */
+static void lend(const uint8_t *table, uint32_t port, size_t length, uint32_t answer, const uint8_t expected[MYRKOSTI_RECORD])
+{
+    uint8_t memory[3 * MYRKOSTI_RECORD];
+    memset(memory, 0xa5, sizeof memory);
+    IS(myrkosti_port(table, SIZE, port, memory + MYRKOSTI_RECORD, length), answer);
+    for (size_t i = 0; i < sizeof memory; i++) {
+        const size_t at = i - MYRKOSTI_RECORD; /* wraps before the memory lent */
+        IS(memory[i], at < length && at < MYRKOSTI_RECORD ? expected[at] : 0xa5);
+    }
+}
+
+static void lend_any_length(void)
+{
+    static const uint8_t zeros[MYRKOSTI_RECORD];
+    uint8_t table[SIZE], broken[SIZE];
+    arrive(table, LINES[0]);
+    memcpy(broken, table, SIZE);
+    broken[MYRKOSTI_HEADER + MYRKOSTI_AT_MUX] = MYRKOSTI_MUX_DISTRIBUTING + 1;
+    for (size_t length = 0; length <= 2 * MYRKOSTI_RECORD; length++) {
+        lend(table, 1, length, MYRKOSTI_DONE, table + MYRKOSTI_HEADER);
+        lend(table, 2, length, MYRKOSTI_DONE, table + MYRKOSTI_HEADER + MYRKOSTI_RECORD);
+        lend(table, 3, length, MYRKOSTI_NO_SUCH_PORT, zeros);
+        lend(broken, 1, length, MYRKOSTI_TABLE_WRONG, zeros);
+    }
+}
+
 int main(void)
 {
     uint8_t table[SIZE];
@@ -613,6 +613,6 @@ int main(void)
     say_what_is_due();
     say_what_is_due_in_any_table();
     say_what_is_due_on_32_ports();
-    printf("C interface: %u checks passed, %u failed\n", passed, failed);
-    return failed != 0;
+    lend_any_length();
+    return finish("C interface");
 }

@@ -16,7 +16,10 @@ use frame::wire::TensOfMicroseconds;
 use libc::STDOUT_FILENO;
 use machine::states::Mux;
 use machine::states::Receive;
+use port::record::Port;
 use settings::Settings;
+use table::layout::RECORD;
+use table::record::read_record;
 
 // ---- lines
 
@@ -57,10 +60,16 @@ fn print_wait(waits: bool, n: u16) {
     print_number(n as u32);
 }
 
+// What the report of port n tells.
+fn reported(table: &[u8], n: u32) -> Port {
+    let mut s = [0u8; RECORD];
+    control::report_port(table, n, &mut s);
+    read_record(&s)
+}
+
 // Aggregator held, receive state, mux state, wait timer.
 fn print_cell(table: &[u8], n: u32) {
-    let r = control::report_port(table, n);
-    let p = r.port;
+    let p = reported(table, n);
     let h = p.phase;
     print_number(p.aggregator as u32);
     let receive = h.receive;
@@ -118,11 +127,10 @@ fn tell_aggregator(table: &[u8], k: u32) {
 }
 
 fn tell_port(table: &[u8], n: u32) {
-    let r = control::report_port(table, n);
+    let p = reported(table, n);
     print(b"  port ");
     print_number(n);
     print(b" ");
-    let p = r.port;
     print_machines(p);
 }
 
@@ -212,8 +220,7 @@ fn far_end(s: u16, q: u16) -> Block {
 
 // What our port n says of itself.
 fn our_end(table: &[u8], n: u32) -> Block {
-    let r = control::report_port(table, n);
-    let p = r.port;
+    let p = reported(table, n);
     p.actor_block(system(9), (n % 65536) as u16)
 }
 
@@ -489,9 +496,7 @@ fn tell_short_table(table: &mut [u8])
 }
 
 fn tell_port_answer(what: &[u8], table: &[u8], n: u32) {
-    let r = control::report_port(table, n);
-    let a = r.answer;
-    tell_answer(what, a);
+    tell_answer(what, control::report_port(table, n, &mut []));
 }
 
 fn tell_aggregator_answer(what: &[u8], table: &[u8], k: u32) {

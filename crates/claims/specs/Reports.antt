@@ -20,7 +20,7 @@ use Rattle.control.specs.Report.{portReport, aggregatorReport, dueReport}
 
 -- 7: an accepted port report is the port's record
 abbrev pub PortTrue : Type 0
-PortTrue = (t : List ℕ) (n : ℕ) → answer (report n) t ≡ Done → portReport n t .port ≡ portAt t (n - 1)
+PortTrue = (t : List ℕ) (n : ℕ) → answer (report n) t ≡ Done → portReport n t ≡ portAt t (n - 1)
 
 -- a port that holds aggregator k and distributes
 abbrev pub sendsOn : ℕ → Port → Bool

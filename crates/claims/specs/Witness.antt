@@ -310,7 +310,7 @@ pub record Witness : Type 0 where
   -- a Marker is answered by a port that distributes
   pub marker-answered : lengthSent (answer (asks 1) trunk) ≡ frameSize
   -- 7
-  pub port-true : sameOctets (encoded (portReport 2 trunk .port)) (encoded (portAt trunk 1)) ≡ true
+  pub port-true : sameOctets (encoded (portReport 2 trunk)) (encoded (portAt trunk 1)) ≡ true
   pub trunk-true : setsAre (aggregatorReport 1 trunk .sets) 3 3 3 2 1 ≡ true
   pub narrowed-true : setsAre (aggregatorReport 1 narrowed .sets) 3 3 1 1 1 ≡ true
   -- nothing is to be sent where no link is up; then one LACPDU on each port; on the others when port 1 has sent; and none where three sends bar it

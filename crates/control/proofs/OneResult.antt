@@ -4,12 +4,11 @@ use Prim.Native.Nat.{ℕ}
 use mathlib.Core.Path.{_≡_, sym, _∙_}
 use mathlib.Core.List.{List}
 use Rattle.control.specs.declared.answer.Answer.{Answer}
-use Rattle.control.specs.declared.answer.PortReport.{PortReport}
 use Rattle.control.specs.declared.answer.AggregatorReport.{AggregatorReport}
 use Rattle.control.specs.declared.answer.DueReport.{DueReport}
 use Rattle.control.specs.Call.{Call}
-use Rattle.control.specs.Meets.{Meets, MeetsOut, MeetsNumber, MeetsNumberOut, MeetsFrame, MeetsPort, MeetsAggregator, MeetsDue}
-use Rattle.control.specs.Report.{portReport, aggregatorReport, dueReport}
+use Rattle.control.specs.Meets.{Meets, MeetsOut, MeetsNumber, MeetsNumberOut, MeetsFrame, MeetsPort, MeetsRecord, MeetsAggregator, MeetsDue}
+use Rattle.control.specs.Report.{aggregatorReport, dueReport}
 
 -- both equal what the contract names
 same : {A : Type 0} {x y z : A} → x ≡ z → y ≡ z → x ≡ y
@@ -25,8 +24,8 @@ module _ (c : Call) (t : List ℕ) (a b : Answer) (u v : List ℕ) where
   one-outcome-out o q x y = (same (x .0) (y .0), same (x .1) (y .1), same (x .2) (y .2))
 
 -- the reports are lent the table to read only
-pub one-port-report : (n : ℕ) (t : List ℕ) (r s : PortReport) → r ≡ portReport n t → s ≡ portReport n t → r ≡ s
-one-port-report n t r s x y = same x y
+pub one-port-report : (n : ℕ) (t m : List ℕ) (a b : Answer) (r s : List ℕ) → MeetsPort n t m a r → MeetsPort n t m b s → (a ≡ b) × (r ≡ s)
+one-port-report n t m a b r s x y = (same (x .0) (y .0), same (x .1) (y .1))
 
 pub one-aggregator-report : (k : ℕ) (t : List ℕ) (r s : AggregatorReport) → r ≡ aggregatorReport k t → s ≡ aggregatorReport k t → r ≡ s
 one-aggregator-report k t r s x y = same x y
@@ -46,8 +45,8 @@ module _ (c : Call) (t : List ℕ) (n m : ℕ) (u v : List ℕ) where
   pub one-frame : (o q : List ℕ) (k l : ℕ) → MeetsFrame c t n u o k → MeetsFrame c t m v q l → (n ≡ m) × (u ≡ v) × (o ≡ q) × (k ≡ l)
   one-frame o q k l x y = (same (x .0) (y .0), same (x .1) (y .1), same (x .2) (y .2), same (x .3) (y .3))
 
-pub one-port : (port : ℕ) (t : List ℕ) (n m : ℕ) (r s : List ℕ) → MeetsPort port t n r → MeetsPort port t m s → (n ≡ m) × (r ≡ s)
-one-port port t n m r s x y = (same (x .0) (y .0), same (x .1) (y .1))
+pub one-port : (port : ℕ) (t lent : List ℕ) (n m : ℕ) (r s : List ℕ) → MeetsRecord port t lent n r → MeetsRecord port t lent m s → (n ≡ m) × (r ≡ s)
+one-port port t lent n m r s x y = (same (x .0) (y .0), same (x .1) (y .1))
 
 pub one-aggregator : (k : ℕ) (t : List ℕ) (n m h i a b d e c f l g : ℕ) → MeetsAggregator k t n h a d c l → MeetsAggregator k t m i b e f g
     → (n ≡ m) × (h ≡ i) × (a ≡ b) × (d ≡ e) × (c ≡ f) × (l ≡ g)

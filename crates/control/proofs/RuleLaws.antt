@@ -172,7 +172,7 @@ no-length Marker e = absurd (e refl)
 no-length (Refused r) e = refl
 
 -- R2.20: beside a refusal stand constants
-pub refused-port : (t : List ℕ) (n : ℕ) (r : Reason) → answer (report n) t ≡ Refused r → portReport n t .port ≡ noPort
+pub refused-port : (t : List ℕ) (n : ℕ) (r : Reason) → answer (report n) t ≡ Refused r → portReport n t ≡ noPort
 unfolding portReport
 refused-port t n r e = ap (λ (a : Answer). unless a noPort (portAt t (n - 1))) e
 

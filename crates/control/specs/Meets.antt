@@ -2,6 +2,7 @@
 use Prim.Native.Nat.{ℕ}
 use mathlib.Core.Path.{_≡_}
 use mathlib.Core.List.{List}
+use Rattle.octets.specs.Octets.{fitted}
 use Rattle.frame.specs.Class.{classOf}
 use Rattle.port.specs.Transmit.{due}
 use Rattle.table.specs.Record.{encoded}
@@ -9,7 +10,7 @@ use Rattle.table.specs.Table.{portAt, stateOf, onOctets}
 use Rattle.work.specs.Work.{afterSend, lacpduOf, writtenOver}
 use Rattle.control.specs.declared.answer.Answer.{Answer}
 use Rattle.control.specs.Answer.{answerNumber, lengthSent, withRoom, frameAnswer, dueAnswer}
-use Rattle.control.specs.Call.{Call}
+use Rattle.control.specs.Call.{Call, report}
 use Rattle.control.specs.After.{answer, after, outgoing, unless, afterFrame, sentFor}
 use Rattle.control.specs.Report.{portReport, aggregatorReport, dueReport}
 
@@ -20,6 +21,10 @@ Meets c t a u = (a ≡ answer c t) × (u ≡ after c t)
 -- of a call that is lent an outgoing buffer, the buffer o afterwards too
 abbrev pub MeetsOut : Call → List ℕ → Answer → List ℕ → List ℕ → Type 0
 MeetsOut c t a u o = (a ≡ answer c t) × (u ≡ after c t) × (o ≡ outgoing c t)
+
+-- of a report of port n, lent memory m: its record, as many octets as fit, from the front; r is the memory afterwards
+abbrev pub MeetsPort : ℕ → List ℕ → List ℕ → Answer → List ℕ → Type 0
+MeetsPort n t m a r = (a ≡ answer (report n) t) × (r ≡ fitted (encoded (portReport n t)) m)
 
 -- ---- behind answers 1 and 2: port i, from 0, of a table in range
 
@@ -45,9 +50,9 @@ MeetsNumberOut c t n u o = (n ≡ answerNumber (answer c t)) × (u ≡ after c t
 abbrev pub MeetsFrame : Call → List ℕ → ℕ → List ℕ → List ℕ → ℕ → Type 0
 MeetsFrame c t n u o k = (n ≡ answerNumber (answer c t)) × (u ≡ after c t) × (o ≡ outgoing c t) × (k ≡ lengthSent (answer c t))
 
--- the report of a port: its record's octets r
-abbrev pub MeetsPort : ℕ → List ℕ → ℕ → List ℕ → Type 0
-MeetsPort port t n r = (n ≡ answerNumber (portReport port t .answer)) × (r ≡ encoded (portReport port t .port))
+-- the report of a port
+abbrev pub MeetsRecord : ℕ → List ℕ → List ℕ → ℕ → List ℕ → Type 0
+MeetsRecord port t m n r = (n ≡ answerNumber (answer (report port) t)) × (r ≡ fitted (encoded (portReport port t)) m)
 
 -- the report of an aggregator: the sets of those that hold it, are attached and distribute, how many distribute and the lowest that does
 abbrev pub MeetsAggregator : ℕ → List ℕ → ℕ → ℕ → ℕ → ℕ → ℕ → ℕ → Type 0

@@ -1,11 +1,11 @@
 -- What the three reports answer beside their number: the truth, and beside a refusal constants (R2.20).
 use Prim.Native.Nat.{ℕ, _-_}
 use mathlib.Core.List.{List}
+use Rattle.port.specs.declared.record.Port.{Port}
 use Rattle.port.specs.Absent.{noPort}
 use Rattle.report.specs.declared.Sets.{Sets}
 use Rattle.report.specs.Sets.{setsOf, dueOf}
 use Rattle.table.specs.Table.{portAt, ports}
-use Rattle.control.specs.declared.answer.PortReport.{PortReport}
 use Rattle.control.specs.declared.answer.AggregatorReport.{AggregatorReport}
 use Rattle.control.specs.declared.answer.DueReport.{DueReport}
 use Rattle.control.specs.Call.{report, aggregator, due}
@@ -15,8 +15,8 @@ abbrev pub noSets : Sets
 noSets = record { holding = 0; attached = 0; distributing = 0; count = 0; lowest = 0 }
 
 -- the port's record
-unfoldable pub portReport : ℕ → List ℕ → PortReport
-portReport n t = record { answer = answer (report n) t; port = unless (answer (report n) t) noPort (portAt t (n - 1)) }
+unfoldable pub portReport : ℕ → List ℕ → Port
+portReport n t = unless (answer (report n) t) noPort (portAt t (n - 1))
 
 -- the ports that hold aggregator k, are attached to it and distribute
 unfoldable pub aggregatorReport : ℕ → List ℕ → AggregatorReport

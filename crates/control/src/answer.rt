@@ -3,7 +3,6 @@ ghost use mathlib.Core.Path.{_≡_};
 ghost use Rattle.control.specs.Answer.{reasonNumber, answerNumber, lengthSent};
 use frame::class::FRAME;
 use frame::class::Refusal;
-use port::record::Port;
 use report::Sets;
 
 // Why a call was refused; `reasonNumber` gives the answer number of each.
@@ -86,13 +85,7 @@ impl Answer {
     }
 }
 
-// A port's record; beside a refusal, constants (R2.20).
-pub struct PortReport {
-    pub answer: Answer,
-    pub port: Port,
-}
-
-// The ports of an aggregator; beside a refusal, zeros.
+// The ports of an aggregator; beside a refusal, zeros (R2.20).
 pub struct AggregatorReport {
     pub answer: Answer,
     pub sets: Sets,

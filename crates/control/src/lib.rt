@@ -3,12 +3,11 @@
 ghost use mathlib.Core.Path.{_≡_};
 ghost use Rattle.table.specs.Table.{InTable};
 ghost use Rattle.control.specs.Call.{start as Call·start, receive as Call·receive, tick as Call·tick, line as Call·line, configure as Call·configure, fetch as Call·fetch};
-ghost use Rattle.control.specs.Meets.{Meets, MeetsOut, MeetsReceive, MeetsFetch};
-ghost use Rattle.control.specs.Report.{portReport, aggregatorReport, dueReport};
+ghost use Rattle.control.specs.Meets.{Meets, MeetsOut, MeetsReceive, MeetsFetch, MeetsPort};
+ghost use Rattle.control.specs.Report.{aggregatorReport, dueReport};
 use crate::answer::AggregatorReport;
 use crate::answer::Answer;
 use crate::answer::DueReport;
-use crate::answer::PortReport;
 use crate::answer::Reason;
 use crate::checks::Found;
 use crate::constants::no_sets;
@@ -19,6 +18,7 @@ use machine::states::Line;
 use port::transmit::Due;
 use settings::Settings;
 use table::layout::Header;
+use table::layout::RECORD;
 
 pub mod answer;
 mod checks;
@@ -156,19 +156,19 @@ fn fetch_at(table: &mut [u8], i: usize, out: &mut [u8]) -> Answer
     }
 }
 
-// The record of port n.
-pub fn report_port(table: &[u8], n: u32) -> PortReport
-    ensures { λ r. ⌜ r ≡ portReport n (now (table .entry)) ⌝ }
+// The record of port n, as many of its octets as fit into `record`, from the front; zeros beside a refusal.
+pub fn report_port(table: &[u8], n: u32, record: &mut [u8]) -> Answer
+    ensures { λ r. ⌜ MeetsPort n (now (table .entry)) (now («record» .entry)) r (now («record» .exit)) ⌝ }
 {
     match checks::find(table, n) {
-        Found::Refused(why) => PortReport {
-            answer: Answer::Refused(why),
-            port: table::record::absent(),
-        },
-        Found::Port(i) => PortReport {
-            answer: Answer::Done,
-            port: table::load(table, i),
-        },
+        Found::Refused(why) => {
+            octets::put_fitting(record, &[0; RECORD]);
+            Answer::Refused(why)
+        }
+        Found::Port(i) => {
+            octets::put_fitting(record, table::look(table, i));
+            Answer::Done
+        }
     }
 }
 

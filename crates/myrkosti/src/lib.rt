@@ -2,13 +2,22 @@
 ghost use mathlib.Core.Path.{_≡_};
 ghost use Rattle.table.specs.Layout.{publishedSize};
 ghost use Rattle.control.specs.Call.{start as Call·start, receive as Call·receive, tick as Call·tick, line as Call·line, configure as Call·configure, fetch as Call·fetch};
-ghost use Rattle.control.specs.Meets.{MeetsNumber, MeetsNumberOut, MeetsFrame, MeetsPort, MeetsAggregator, MeetsDue};
+ghost use Rattle.control.specs.Meets.{MeetsNumber, MeetsNumberOut, MeetsFrame, MeetsRecord, MeetsAggregator, MeetsDue};
 ghost use Rattle.myrkosti.specs.Arguments.{settingsOf, systemOf, delayOf};
+ghost use Rattle.myrkosti.specs.Version.{interfaceVersion};
 use frame::block::Address;
 use frame::block::Block;
 use frame::block::SystemId;
 use frame::wire::TensOfMicroseconds;
 use settings::Settings;
+
+// The version of this interface (include/myrkosti.h).
+#[no_mangle]
+pub extern "C" fn myrkosti_version() -> u32
+    ensures { λ r. ⌜ r ≡ interfaceVersion ⌝ }
+{
+    0x0100
+}
 
 // The octets that a table of `ports` ports has; 0 for a count outside 1 to 32.
 #[no_mangle]
@@ -117,19 +126,12 @@ pub extern "C" fn myrkosti_settings(
     a.number() as u32
 }
 
-// The record of a port, as it lies in the table; zeros beside a refusal.
+// The record of a port, as it lies in the table, as many octets as fit into `record`, from the front; zeros beside a refusal.
 #[no_mangle]
-pub extern "C" fn myrkosti_port(
-    table: &[u8],
-    port: u32,
-    record: &mut [u8; table::layout::RECORD],
-) -> u32
-    ensures { λ r. ⌜ MeetsPort port (now (table .entry)) r (now («record» .exit)) ⌝ }
+pub extern "C" fn myrkosti_port(table: &[u8], port: u32, record: &mut [u8]) -> u32
+    ensures { λ r. ⌜ MeetsRecord port (now (table .entry)) (now («record» .entry)) r (now («record» .exit)) ⌝ }
 {
-    let r = control::report_port(table, port);
-    let p = r.port;
-    table::record::write_record(p, record);
-    let a = r.answer;
+    let a = control::report_port(table, port, record);
     a.number() as u32
 }
 

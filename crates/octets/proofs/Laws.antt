@@ -12,7 +12,7 @@ use lib.Seq.{take-all, take-length, length-take-le, take-append-le, drop-append-
 use lib.Dec.{eqb}
 use borrow.Author.Tests.{eqb-true, eq-eqb}
 use borrow.Rule.Slice.PartMut.{putMid, midOf, post-is}
-use Rattle.octets.specs.Octets.{putAt, sameOctets, high, low, joined}
+use Rattle.octets.specs.Octets.{putAt, fitted, sameOctets, high, low, joined}
 
 -- ---- writing over lent parts
 
@@ -31,6 +31,18 @@ unfolding putAt
 put-part n e s d h =
     let le : n ≤ e = omega arith in
     simp (post-is n e d le, h)
+
+-- a copy of all of s over the front of d, or of the front of s over all of d, writes as much of s as fits
+pub fitted-whole : (s d : List ℕ) → length s ≤ length d → take (length s) s ++ drop (length s) d ≡ fitted s d
+unfolding fitted
+fitted-whole s d h = rw (take-all (length d) s h, take-length)
+
+pub fitted-front : (s d : List ℕ) → length d ≤ length s
+    → take (length (take (length d) s)) (take (length d) s) ++ drop (length (take (length d) s)) d ≡ fitted s d
+unfolding fitted
+fitted-front s d h =
+    let none = drop-of-length-le d {i = length (take (length d) s)} (rw (length-take-le (length d) s h) (omega arith)) in
+    rw (take-length, none, drop-of-length-le d {i = length s} h)
 
 -- d with p over its front
 abbrev pub over : List ℕ → List ℕ → List ℕ

@@ -14,6 +14,10 @@ Octets l = (i : ℕ) → getD l i 0 < 256
 unfoldable pub putAt : ℕ → List ℕ → List ℕ → List ℕ
 putAt at s d = take at d ++ (s ++ drop (at + length s) d)
 
+-- d with as many octets of s as fit written over it, from the front; what is behind them stays
+unfoldable pub fitted : List ℕ → List ℕ → List ℕ
+fitted s d = take (length d) s ++ drop (length s) d
+
 -- whether two lists hold the same octets
 unfoldable pub sameOctets : List ℕ → List ℕ → Bool
 sameOctets [] [] = true

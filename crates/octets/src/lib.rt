@@ -3,7 +3,7 @@
 ghost use mathlib.Core.Path.{_≡_};
 ghost use Prim.Native.Nat.{_+_, _≤_, _<_};
 ghost use lib.ListN.{length};
-ghost use Rattle.octets.specs.Octets.{putAt, sameOctets, numberAt, numberOctets, high, low, wordAt};
+ghost use Rattle.octets.specs.Octets.{putAt, fitted, sameOctets, numberAt, numberOctets, high, low, wordAt};
 
 pub mod sets;
 
@@ -13,6 +13,18 @@ pub fn put(dst: &mut [u8], at: usize, src: &[u8])
     ensures { λ _. ⌜ now (dst .exit) ≡ putAt at (now (src .entry)) (now (dst .entry)) ⌝ }
 {
     bytes::copy(src, &mut dst[at..]);
+}
+
+// Writes as many octets of src as fit over dst's, from the front; what is behind them stays.
+pub fn put_fitting(dst: &mut [u8], src: &[u8])
+    ensures { λ _. ⌜ now (dst .exit) ≡ fitted (now (src .entry)) (now (dst .entry)) ⌝ }
+{
+    let n = dst.len();
+    if n < src.len() {
+        bytes::copy(&src[..n], dst);
+        return;
+    }
+    bytes::copy(src, dst);
 }
 
 // Whether a and b hold the same octets.

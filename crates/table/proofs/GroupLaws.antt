@@ -43,7 +43,7 @@ part-put t i n s room fits =
     ∙ put-part (place i) (place i + recordSize) (putAt n s l) t (ap (λ (k : ℕ). place i + k) kept)
 
 -- the octets of a record of a table in range
-record-is : (t : List ℕ) (i : ℕ) → InTable t i → Octets t → recordAt t i ≡ encoded (portAt t i)
+pub record-is : (t : List ℕ) (i : ℕ) → InTable t i → Octets t → recordAt t i ≡ encoded (portAt t i)
 unfolding recordAt decodedAt
 record-is t i at o =
     let r = in-range t (at .0) in

@@ -65,7 +65,7 @@ fn record_at(table: &[u8], i: usize) -> &[u8]
 // The octets of port `i`, from 0, for a look at some of them.
 pub fn look(table: &[u8], i: usize) -> &[u8]
     requires { ⌜ InTable (now table) i ⌝ }
-    ensures { λ r. ⌜ (decoded (now r) ≡ portAt (now (table .entry)) i) × (length (now r) ≡ recordSize) ⌝ }
+    ensures { λ r. ⌜ (decoded (now r) ≡ portAt (now (table .entry)) i) × (length (now r) ≡ recordSize) × (now r ≡ encoded (portAt (now (table .entry)) i)) ⌝ }
 {
     record_at(table, i)
 }

@@ -5,7 +5,6 @@ ghost use Rattle.octets.specs.Octets.{putAt};
 ghost use Rattle.frame.specs.Block.{blockOf};
 ghost use Rattle.frame.specs.State.{portStateOf};
 ghost use Rattle.frame.specs.Wire.{part};
-ghost use Rattle.port.specs.Absent.{noPort};
 ghost use Rattle.port.specs.Compared.{compared};
 ghost use Rattle.table.specs.Codes.{flagOf};
 ghost use Rattle.table.specs.Keys.{comparedBy};
@@ -272,7 +271,7 @@ pub fn neighbour_in(s: &[u8]) -> u16
 }
 
 // Writes a record into its octets.
-pub fn write_record(p: Port, out: &mut [u8])
+pub(crate) fn write_record(p: Port, out: &mut [u8])
     requires { ⌜ length (now out) ≡ recordSize ⌝ }
     ensures { λ _. ⌜ now (out .exit) ≡ encoded p ⌝ }
 {
@@ -292,7 +291,7 @@ pub fn write_record(p: Port, out: &mut [u8])
 }
 
 // The record that octets tell of.
-pub(crate) fn read_record(s: &[u8]) -> Port
+pub fn read_record(s: &[u8]) -> Port
     requires { ⌜ length (now s) ≡ recordSize ⌝ }
     ensures { λ r. ⌜ r ≡ decoded (now (s .entry)) ⌝ }
 {
@@ -307,11 +306,4 @@ pub(crate) fn read_record(s: &[u8]) -> Port
         own: own_in(s),
         partner: Block::read(&s[42..RECORD]),
     }
-}
-
-// The record of no port: what zero octets tell of.
-pub fn absent() -> Port
-    ensures { λ r. ⌜ r ≡ noPort ⌝ }
-{
-    read_record(&[0u8; RECORD])
 }

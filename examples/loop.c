@@ -1,0 +1,122 @@
+/* The loop of a driver, to copy from: docs/GUIDE-FIRMWARE.md says why each part is as it is. `tools/c-test.sh` runs it over stand_in.c. */
+#include "chip.h"
+#include "myrkosti.h"
+
+enum { FRAMES_A_TURN = 64 };
+
+static uint8_t table[MYRKOSTI_TABLE(CHIP_PORTS)];
+static uint8_t unsent[CHIP_PORTS + 1][MYRKOSTI_FRAME]; /* of each port, what was fetched and could not be sent */
+static uint32_t waiting;                               /* the ports that have such a frame */
+static uint32_t collecting, distributing[CHIP_PORTS + 1]; /* as the chip is programmed: ports; ports of each trunk */
+
+static uint32_t bit(uint32_t port)
+{
+    return 1u << (port - 1);
+}
+
+static void set(uint32_t port, uint16_t key)
+{
+    uint8_t address[6];
+    chip_address(port, address);
+    const struct myrkosti_port_settings settings = myrkosti_usual_settings(address, key);
+    myrkosti_settings_with(table, sizeof table, port, &settings);
+}
+
+/* Step 1. */
+static bool begin(void)
+{
+    uint8_t address[6];
+    chip_address(0, address);
+    const struct myrkosti_system system = myrkosti_usual_system(address);
+    const struct myrkosti_port_settings settings = myrkosti_usual_settings(address, 1);
+    if (!myrkosti_fits() || myrkosti_start_with(table, sizeof table, CHIP_PORTS, &system, &settings) != MYRKOSTI_DONE)
+        return false;
+    for (uint32_t port = 1; port <= CHIP_PORTS; port++)
+        set(port, chip_rate(port));
+    return true;
+}
+
+/* Step 2, as often as you like: values as they are change nothing. Unknown duplex is taken for full. */
+static void tell_links(void)
+{
+    for (uint32_t port = 1; port <= CHIP_PORTS; port++) {
+        const bool up = chip_link(port);
+        myrkosti_line(table, sizeof table, port, up, chip_duplex(port) != CHIP_HALF);
+        if (!up)
+            waiting &= ~bit(port); /* what was to be said has nobody to hear it */
+    }
+}
+
+/* Step 4, a bounded number of frames in a turn, so that a flood on one port delays neither ticks nor the others. */
+static void hear(void)
+{
+    uint8_t frame[CHIP_FRAME], response[MYRKOSTI_FRAME];
+    for (uint32_t port = 1; port <= CHIP_PORTS; port++) {
+        for (int frames = 0; frames < FRAMES_A_TURN; frames++) {
+            const size_t length = chip_receive(port, frame);
+            uint32_t sent;
+            if (length == 0)
+                break;
+            myrkosti_receive(table, sizeof table, port, frame, length, response, sizeof response, &sent);
+            if (sent != 0)
+                chip_send(port, response); /* one that cannot go is lost: who sent the Marker asks again */
+        }
+    }
+}
+
+/* A frame that cannot go is kept and tried again, unless a newer one is fetched into its place. */
+static void send_what_is_due(void)
+{
+    uint32_t due;
+    myrkosti_due(table, sizeof table, &due);
+    for (uint32_t port = 1; port <= CHIP_PORTS; port++) {
+        if ((due & bit(port)) != 0 && myrkosti_fetch(table, sizeof table, port, unsent[port], MYRKOSTI_FRAME) == MYRKOSTI_DONE)
+            waiting |= bit(port);
+        if ((waiting & bit(port)) != 0 && chip_send(port, unsent[port]))
+            waiting &= ~bit(port);
+    }
+}
+
+/* Step 5, once a turn. First what the LACPDUs will say, then the LACPDUs, then what the neighbours allow. */
+static void program_and_send(void)
+{
+    uint32_t collect = 0, distribute[CHIP_PORTS + 1];
+    for (uint32_t i = 1; i <= CHIP_PORTS; i++) {
+        uint8_t record[MYRKOSTI_RECORD];
+        uint32_t holding, attached, count, lowest;
+        myrkosti_port(table, sizeof table, i, record, sizeof record);
+        if ((record[MYRKOSTI_AT_ACTOR_STATE] & MYRKOSTI_COLLECTING) != 0)
+            collect |= bit(i);
+        myrkosti_aggregator(table, sizeof table, i, &holding, &attached, &distribute[i], &count, &lowest);
+    }
+    chip_collect(collecting | collect);
+    for (uint32_t trunk = 1; trunk <= CHIP_PORTS; trunk++)
+        chip_distribute(trunk, distributing[trunk] & distribute[trunk]);
+    send_what_is_due();
+    for (uint32_t trunk = 1; trunk <= CHIP_PORTS; trunk++)
+        chip_distribute(trunk, distributing[trunk] = distribute[trunk]);
+    chip_collect(collecting = collect);
+}
+
+/* So that every neighbour stops at once: another key, one for each port. */
+static void leave(void)
+{
+    for (uint32_t port = 1; port <= CHIP_PORTS; port++)
+        set(port, (uint16_t)(0xff00 + port));
+    program_and_send();
+}
+
+int main(void)
+{
+    if (!begin())
+        return 1;
+    while (chip_wait()) {
+        if (chip_tick_due())
+            myrkosti_tick(table, sizeof table); /* step 3: one tick, however late it is */
+        tell_links();
+        hear();
+        program_and_send();
+    }
+    leave();
+    return 0;
+}

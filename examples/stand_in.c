@@ -1,0 +1,166 @@
+/*
+ * A chip made of memory, for loop.c: four ports, of which the first three are joined to a neighbour that is a second table of the library. Time is
+ * turns of 20 ms. What happens is in `happen`; what the chip is told goes to the standard output. It ends the program with 1 if an LACPDU says
+ * what is not so: that a port collects or has stopped distributing before the chip was told.
+ */
+#include "chip.h"
+#include "myrkosti.h"
+
+#include <stdio.h>
+#include <stdlib.h>
+#include <string.h>
+
+enum { TURNS_A_TICK = 5, TICKS = 160, QUEUE = 8, ACTOR_STATE_AT = 32 };
+
+struct queue {
+    uint8_t frames[QUEUE][MYRKOSTI_FRAME];
+    unsigned first, count;
+};
+
+static unsigned turns, ticked;
+static bool links[CHIP_PORTS + 1], blocked;
+static struct queue in[CHIP_PORTS + 1];
+static uint32_t collecting, distributing[CHIP_PORTS + 1];
+static uint8_t neighbour[MYRKOSTI_TABLE(CHIP_PORTS)];
+
+static void show(const char *what, uint32_t ports)
+{
+    printf("%5.1f s  %s", turns / (10.0 * TURNS_A_TICK), what);
+    for (uint32_t port = 1; port <= CHIP_PORTS; port++)
+        if ((ports >> (port - 1) & 1) != 0)
+            printf(" %u", (unsigned)port);
+    printf("%s\n", ports == 0 ? " none" : "");
+}
+
+static void push(struct queue *queue, const uint8_t *frame)
+{
+    if (queue->count < QUEUE)
+        memcpy(queue->frames[(queue->first + queue->count++) % QUEUE], frame, MYRKOSTI_FRAME);
+}
+
+/* ---- the neighbour, which is told everything at once ---- */
+
+static void neighbour_begins(void)
+{
+    static const uint8_t address[6] = {2, 0, 0, 0, 0, 0xb};
+    const struct myrkosti_system system = myrkosti_usual_system(address);
+    const struct myrkosti_port_settings settings = myrkosti_usual_settings(address, 1);
+    if (myrkosti_start_with(neighbour, sizeof neighbour, CHIP_PORTS, &system, &settings) != MYRKOSTI_DONE)
+        exit(1);
+}
+
+static void neighbour_speaks(void)
+{
+    uint8_t frame[MYRKOSTI_FRAME];
+    for (uint32_t port = 1; port <= CHIP_PORTS; port++)
+        if (myrkosti_fetch(neighbour, sizeof neighbour, port, frame, sizeof frame) == MYRKOSTI_DONE)
+            push(&in[port], frame);
+}
+
+static void link(uint32_t port, bool up)
+{
+    links[port] = up;
+    in[port].count = 0;
+    myrkosti_line(neighbour, sizeof neighbour, port, up, true);
+    printf("%5.1f s  link %u %s\n", turns / (10.0 * TURNS_A_TICK), (unsigned)port, up ? "up" : "down");
+}
+
+static void happen(unsigned tick)
+{
+    if (tick == 1 || tick == 2)
+        link(tick, true);
+    if (tick == 20 || tick == 24)
+        blocked = tick == 20; /* nothing can be sent for 400 ms, just when both ends have something to say */
+    if (tick == 50 || tick == 90)
+        link(2, tick == 90);
+    if (tick == 100)
+        link(3, true);
+}
+
+/* ---- what loop.c asks for ---- */
+
+bool chip_wait(void)
+{
+    if (turns == 0)
+        neighbour_begins();
+    turns++;
+    if (turns % TURNS_A_TICK == 0) {
+        happen(turns / TURNS_A_TICK);
+        myrkosti_tick(neighbour, sizeof neighbour);
+    }
+    neighbour_speaks();
+    return turns / TURNS_A_TICK < TICKS;
+}
+
+bool chip_tick_due(void)
+{
+    const bool due = turns / TURNS_A_TICK != ticked;
+    ticked = turns / TURNS_A_TICK;
+    return due;
+}
+
+void chip_address(uint32_t port, uint8_t address[6])
+{
+    static const uint8_t first[6] = {2, 0, 0, 0, 0xa, 0};
+    memcpy(address, first, 6);
+    address[5] = (uint8_t)port;
+}
+
+uint16_t chip_rate(uint32_t port)
+{
+    return port == CHIP_PORTS ? 2 : 1;
+}
+
+bool chip_link(uint32_t port)
+{
+    return links[port];
+}
+
+enum chip_duplex chip_duplex(uint32_t port)
+{
+    return links[port] ? CHIP_FULL : CHIP_UNKNOWN;
+}
+
+size_t chip_receive(uint32_t port, uint8_t frame[CHIP_FRAME])
+{
+    struct queue *queue = &in[port];
+    if (queue->count == 0)
+        return 0;
+    memcpy(frame, queue->frames[queue->first], MYRKOSTI_FRAME);
+    queue->first = (queue->first + 1) % QUEUE;
+    queue->count--;
+    return MYRKOSTI_FRAME;
+}
+
+bool chip_send(uint32_t port, const uint8_t *frame)
+{
+    uint8_t out[MYRKOSTI_FRAME];
+    uint32_t sent, sending = 0;
+    for (uint32_t trunk = 1; trunk <= CHIP_PORTS; trunk++)
+        sending |= distributing[trunk];
+    if ((frame[ACTOR_STATE_AT] & MYRKOSTI_COLLECTING) != 0 && (collecting >> (port - 1) & 1) == 0)
+        exit(1);
+    if ((frame[ACTOR_STATE_AT] & MYRKOSTI_DISTRIBUTING) == 0 && (sending >> (port - 1) & 1) != 0)
+        exit(1);
+    if (blocked || !links[port])
+        return false;
+    myrkosti_receive(neighbour, sizeof neighbour, port, frame, MYRKOSTI_FRAME, out, sizeof out, &sent);
+    neighbour_speaks();
+    return true;
+}
+
+void chip_collect(uint32_t ports)
+{
+    if (ports != collecting)
+        show("traffic comes in on", ports);
+    collecting = ports;
+}
+
+void chip_distribute(uint32_t trunk, uint32_t ports)
+{
+    char what[32];
+    snprintf(what, sizeof what, "trunk %u goes out on", (unsigned)trunk);
+    if (ports != distributing[trunk])
+        show(what, ports);
+    distributing[trunk] = ports;
+}

@@ -1,0 +1,573 @@
+/*
+ * What docs/GUIDE-FIRMWARE.md says of the choices of a driver, each shown by a run: two switches A and B, whose ports are joined, port i to port i.
+ * Prints one line for each check that fails, and how many passed.
+ */
+#define _DEFAULT_SOURCE
+
+#include "myrkosti.h"
+
+#include "check.h"
+#include "neighbour.h"
+
+#include <signal.h>
+#include <stdatomic.h>
+#include <stdlib.h>
+#include <string.h>
+#include <sys/mman.h>
+#include <sys/wait.h>
+#include <unistd.h>
+
+enum { PORTS = 4, SIZE = MYRKOSTI_TABLE(PORTS) };
+
+static uint8_t A[SIZE], B[SIZE];
+
+/* ---- two switches ---- */
+
+static const uint8_t NAMES[2][6] = {{2, 0, 0, 0, 0, 0xa}, {2, 0, 0, 0, 0, 0xb}};
+
+static struct myrkosti_system named(const uint8_t *table)
+{
+    return myrkosti_usual_system(NAMES[table == B]);
+}
+
+static struct myrkosti_port_settings settings_of(const uint8_t *table, uint32_t port)
+{
+    uint8_t address[6];
+    memcpy(address, NAMES[table == B], 6);
+    address[4] = (uint8_t)port;
+    return myrkosti_usual_settings(address, 1);
+}
+
+/* every port with the usual settings, but for the timeout */
+static void begin(uint8_t *table, bool timeout)
+{
+    const struct myrkosti_system system = named(table);
+    struct myrkosti_port_settings settings = settings_of(table, 0);
+    IS(myrkosti_start_with(table, SIZE, PORTS, &system, &settings), MYRKOSTI_DONE);
+    for (uint32_t port = 1; port <= PORTS; port++) {
+        settings = settings_of(table, port);
+        settings.timeout = timeout;
+        IS(myrkosti_settings_with(table, SIZE, port, &settings), MYRKOSTI_DONE);
+    }
+}
+
+static void set_key(uint8_t *table, uint32_t port, uint16_t key)
+{
+    struct myrkosti_port_settings settings = settings_of(table, port);
+    settings.key = key;
+    IS(myrkosti_settings_with(table, SIZE, port, &settings), MYRKOSTI_DONE);
+}
+
+static uint8_t field(const uint8_t *table, uint32_t port, unsigned at)
+{
+    uint8_t record[MYRKOSTI_RECORD];
+    IS(myrkosti_port(table, SIZE, port, record, sizeof record), MYRKOSTI_DONE);
+    return record[at];
+}
+
+static uint32_t aggregator_of(const uint8_t *table, uint32_t port)
+{
+    return field(table, port, MYRKOSTI_AT_AGGREGATOR);
+}
+
+/* the ports that distribute, in whichever trunk */
+static uint32_t carrying(const uint8_t *table)
+{
+    uint32_t all = 0;
+    for (uint32_t k = 1; k <= PORTS; k++) {
+        uint32_t holding, attached, distributing, count, lowest;
+        IS(myrkosti_aggregator(table, SIZE, k, &holding, &attached, &distributing, &count, &lowest), MYRKOSTI_DONE);
+        all |= distributing;
+    }
+    return all;
+}
+
+static uint32_t line(uint8_t *table, uint32_t port, bool up)
+{
+    return myrkosti_line(table, SIZE, port, up, true);
+}
+
+static void plug(uint32_t port)
+{
+    IS(line(A, port, true), MYRKOSTI_DONE);
+    IS(line(B, port, true), MYRKOSTI_DONE);
+}
+
+static void deliver(uint8_t *to, uint32_t port, const uint8_t frame[MYRKOSTI_FRAME])
+{
+    uint8_t out[MYRKOSTI_FRAME];
+    uint32_t sent;
+    IS(myrkosti_receive(to, SIZE, port, frame, MYRKOSTI_FRAME, out, sizeof out, &sent), MYRKOSTI_DONE);
+}
+
+static uint32_t due(const uint8_t *table)
+{
+    uint32_t ports;
+    IS(myrkosti_due(table, SIZE, &ports), MYRKOSTI_DONE);
+    return ports;
+}
+
+/* what is due at one end reaches the other */
+static void say(uint8_t *from, uint8_t *to)
+{
+    uint8_t frame[MYRKOSTI_FRAME];
+    const uint32_t ports = due(from);
+    for (uint32_t port = 1; port <= PORTS; port++) {
+        if ((ports >> (port - 1) & 1) != 0) {
+            IS(myrkosti_fetch(from, SIZE, port, frame, sizeof frame), MYRKOSTI_DONE);
+            deliver(to, port, frame);
+        }
+    }
+}
+
+/* until neither has anything to say */
+static void talk(void)
+{
+    while ((due(A) | due(B)) != 0) {
+        say(A, B);
+        say(B, A);
+    }
+}
+
+static void tick(uint8_t *table)
+{
+    IS(myrkosti_tick(table, SIZE), MYRKOSTI_DONE);
+}
+
+static void pass(int ticks)
+{
+    while (ticks-- > 0) {
+        tick(A);
+        tick(B);
+        talk();
+    }
+}
+
+/* both ends carry on ports 1 and 2, at a short timeout */
+static void trunk_of_two(void)
+{
+    begin(A, true);
+    begin(B, true);
+    plug(1);
+    plug(2);
+    talk();
+    pass(40);
+    IS(carrying(A), 3);
+    IS(carrying(B), 3);
+}
+
+/* ---- a frame that could not be sent ---- */
+
+/* The ticks until both ends of port 1 carry, at long timeouts, where A's LACPDU of tick 20 does not go out before tick 26: it is kept, or lost. */
+static int ticks_with_a_failed_send(bool keep)
+{
+    uint8_t frame[MYRKOSTI_FRAME];
+    bool kept = false;
+    begin(A, false);
+    begin(B, false);
+    plug(1);
+    talk();
+    for (int ticks = 1; ticks < 1000; ticks++) {
+        tick(A);
+        tick(B);
+        say(B, A);
+        if (due(A) != 0) {
+            IS(myrkosti_fetch(A, SIZE, 1, frame, sizeof frame), MYRKOSTI_DONE); /* a newer one takes the place of the one kept */
+            kept = ticks >= 20 && ticks < 26;
+            if (!kept)
+                deliver(B, 1, frame);
+        }
+        if (kept && keep && ticks >= 26) {
+            deliver(B, 1, frame);
+            kept = false;
+        }
+        say(B, A);
+        if (carrying(A) == 1 && carrying(B) == 1)
+            return ticks;
+    }
+    return -1;
+}
+
+static void keep_what_could_not_be_sent(void)
+{
+    IS(ticks_with_a_failed_send(true), 26);
+    IS(ticks_with_a_failed_send(false), 300);
+}
+
+/* ---- many frames, then the chip and the sends once ---- */
+
+/* the ticks until both ends carry on all four ports, where sends are fetched after each call, or once when all has been told */
+static int ticks_to_a_trunk(bool each)
+{
+    begin(A, true);
+    begin(B, true);
+    for (uint32_t port = 1; port <= PORTS; port++) {
+        plug(port);
+        if (each)
+            talk();
+    }
+    talk();
+    for (int ticks = 1; ticks < 100; ticks++) {
+        tick(A);
+        if (each)
+            talk();
+        tick(B);
+        talk();
+        if (carrying(A) == 15 && carrying(B) == 15)
+            return ticks;
+    }
+    return -1;
+}
+
+static uint32_t state = 43;
+
+static uint32_t any(uint32_t below)
+{
+    state ^= state << 13;
+    state ^= state >> 17;
+    state ^= state << 5;
+    return state % below;
+}
+
+/* a call on A that is no tick and no start: mostly a frame, of one of two neighbours with one of two keys, which says this or that */
+static void any_call(void)
+{
+    static const uint8_t STATES[6] = {0x3f, 0x3f, 0x1f, 0x0f, 0x07, 0x3b};
+    const uint32_t port = 1 + any(PORTS), kind = any(400);
+    if (kind == 0) {
+        IS(line(A, port, any(4) != 0), MYRKOSTI_DONE);
+    } else if (kind == 1) {
+        set_key(A, port, (uint16_t)(1 + any(8) / 7));
+    } else {
+        uint8_t frame[MYRKOSTI_FRAME], theirs[MYRKOSTI_BLOCK] = {0}, ours[MYRKOSTI_BLOCK], record[MYRKOSTI_RECORD], out[MYRKOSTI_FRAME];
+        const struct myrkosti_system system = named(A);
+        uint32_t sent;
+        theirs[MYRKOSTI_BLOCK_SYSTEM + 5] = any(500) == 0 ? 1 : 2;
+        theirs[MYRKOSTI_BLOCK_KEY + 1] = any(500) == 0 ? 1 : 2;
+        theirs[MYRKOSTI_BLOCK_PORT + 1] = (uint8_t)port;
+        theirs[MYRKOSTI_BLOCK_STATE] = STATES[any(sizeof STATES)];
+        IS(myrkosti_port(A, SIZE, port, record, sizeof record), MYRKOSTI_DONE);
+        put_ours(ours, &system, (uint16_t)port, record);
+        put_lacpdu(frame, theirs, ours);
+        const uint32_t answer = myrkosti_receive(A, SIZE, port, frame, sizeof frame, out, sizeof out, &sent);
+        IS(answer == MYRKOSTI_DONE || answer == MYRKOSTI_LACP_OFF, true);
+    }
+}
+
+/* Between two ticks a port may leave its trunk, stop and go on, or begin to carry; but one that carries before and after it was in one trunk all along. */
+static void hand_over_in_batches(void)
+{
+    unsigned stayed = 0, left = 0, came = 0, paused = 0, moved = 0;
+    IS(ticks_to_a_trunk(true), 20);
+    IS(ticks_to_a_trunk(false), 20);
+    begin(A, true);
+    for (uint32_t port = 1; port <= PORTS; port++)
+        IS(line(A, port, true), MYRKOSTI_DONE);
+    for (int batch = 0; batch < 20000; batch++) {
+        const uint32_t before = carrying(A);
+        uint32_t always = before, was[PORTS + 1];
+        for (uint32_t port = 1; port <= PORTS; port++)
+            was[port] = aggregator_of(A, port);
+        for (uint32_t calls = 1 + any(8); calls > 0; calls--) {
+            any_call();
+            always &= carrying(A);
+        }
+        const uint32_t after = carrying(A);
+        for (uint32_t port = 1; port <= PORTS; port++) {
+            const uint32_t bit = 1u << (port - 1);
+            if ((before & after & bit) != 0) {
+                IS(aggregator_of(A, port), was[port]);
+                stayed += (always & bit) != 0;
+                paused += (always & bit) == 0;
+            }
+            left += (before & ~after & bit) != 0;
+            came += (after & ~before & bit) != 0;
+            moved += aggregator_of(A, port) != was[port];
+        }
+        for (uint32_t ticks = 1 + any(4); ticks > 0; ticks--)
+            tick(A);
+    }
+    check(stayed > 1000 && left > 100 && came > 100 && paused > 100 && moved > 100, "ports stayed, left, came, paused and moved");
+}
+
+/* ---- a VLAN tag ---- */
+
+/* an LACPDU with a tag is none: with its tag it is told apart, without it nobody could */
+static void leave_the_tag_on(void)
+{
+    uint8_t frame[MYRKOSTI_FRAME], tagged[MYRKOSTI_FRAME + 4], out[MYRKOSTI_FRAME];
+    static const uint8_t TAG[4] = {0x81, 0x00, 0x00, 0x05};
+    uint32_t sent;
+    begin(A, true);
+    begin(B, true);
+    plug(1);
+    IS(myrkosti_fetch(B, SIZE, 1, frame, sizeof frame), MYRKOSTI_DONE);
+    memcpy(tagged, frame, TYPE_AT);
+    memcpy(tagged + TYPE_AT, TAG, sizeof TAG);
+    memcpy(tagged + TYPE_AT + sizeof TAG, frame + TYPE_AT, sizeof frame - TYPE_AT);
+    IS(myrkosti_receive(A, SIZE, 1, tagged, sizeof tagged, out, sizeof out, &sent), MYRKOSTI_UNKNOWN);
+    IS(field(A, 1, MYRKOSTI_AT_RECEIVE), MYRKOSTI_RECEIVE_EXPIRED);
+    IS(myrkosti_receive(A, SIZE, 1, frame, sizeof frame, out, sizeof out, &sent), MYRKOSTI_DONE);
+    IS(field(A, 1, MYRKOSTI_AT_RECEIVE), MYRKOSTI_RECEIVE_CURRENT);
+}
+
+/* ---- what to start with ---- */
+
+/* port 1 of A alone with this state in its default block, for a minute without a word from anyone */
+static void nobody_there(uint8_t assumed)
+{
+    struct myrkosti_port_settings settings = settings_of(A, 1);
+    begin(A, true);
+    settings.partner[MYRKOSTI_BLOCK_STATE] = assumed;
+    IS(myrkosti_settings_with(A, SIZE, 1, &settings), MYRKOSTI_DONE);
+    IS(line(A, 1, true), MYRKOSTI_DONE);
+    for (int ticks = 0; ticks < 600; ticks++)
+        tick(A);
+    IS(field(A, 1, MYRKOSTI_AT_RECEIVE), MYRKOSTI_RECEIVE_DEFAULTED);
+}
+
+static void start_values(void)
+{
+    /* the usual default block: without LACP at the other end the port carries nothing, and speaks every second */
+    nobody_there(0x02);
+    IS(carrying(A), 0);
+    IS(field(A, 1, MYRKOSTI_AT_MUX), MYRKOSTI_MUX_ATTACHED);
+    IS(field(A, 1, MYRKOSTI_AT_PERIODIC), MYRKOSTI_PERIODIC_FAST);
+    /* a block of zeros: it speaks every 30 seconds, which is how long a recovery then takes */
+    nobody_there(0x00);
+    IS(field(A, 1, MYRKOSTI_AT_PERIODIC), MYRKOSTI_PERIODIC_SLOW);
+    /* in sync and collecting: it carries on the administrator's word alone */
+    nobody_there(0x1a);
+    IS(carrying(A), 1);
+    /* another key for another data rate: never in one trunk, though the neighbour is one */
+    begin(A, true);
+    begin(B, true);
+    set_key(A, 2, 2);
+    plug(1);
+    plug(2);
+    talk();
+    pass(60);
+    IS(carrying(A), 3);
+    IS(aggregator_of(A, 1), 1);
+    IS(aggregator_of(A, 2), 2);
+}
+
+/* ---- duplex ---- */
+
+/* told half duplex for want of knowledge, a port never speaks; told full, it does within a second */
+static void unknown_duplex(void)
+{
+    begin(A, true);
+    IS(myrkosti_line(A, SIZE, 1, true, false), MYRKOSTI_DONE);
+    for (int ticks = 0; ticks < 100; ticks++) {
+        IS(due(A), 0);
+        tick(A);
+    }
+    IS(myrkosti_line(A, SIZE, 1, true, true), MYRKOSTI_DONE);
+    for (int ticks = 0; ticks < 10; ticks++)
+        tick(A);
+    IS(due(A), 1);
+}
+
+/* ---- ports that come and go ---- */
+
+/* a table for four, of which two are there: they are a trunk, the others stand by themselves; one that comes joins, one that goes leaves */
+static void come_and_go(void)
+{
+    trunk_of_two();
+    IS(aggregator_of(A, 3), 3);
+    IS(aggregator_of(A, 4), 4);
+    plug(3);
+    talk();
+    pass(20);
+    IS(carrying(A), 7);
+    IS(aggregator_of(A, 3), 1);
+    IS(line(A, 3, false), MYRKOSTI_DONE);
+    IS(line(B, 3, false), MYRKOSTI_DONE);
+    talk();
+    IS(carrying(A), 3);
+}
+
+/* ---- late ticks, and a machine that slept ---- */
+
+/* A sleeps for five seconds, as B sees it: B has stopped sending to A, and A does not know */
+static void fall_asleep(void)
+{
+    uint8_t frame[MYRKOSTI_FRAME];
+    trunk_of_two();
+    for (int ticks = 0; ticks < 50; ticks++) {
+        tick(B);
+        for (uint32_t port = 1; port <= PORTS; port++)
+            myrkosti_fetch(B, SIZE, port, frame, sizeof frame); /* nobody hears it */
+    }
+    IS(carrying(B), 0);
+    IS(carrying(A), 3);
+}
+
+static void wake_up(void)
+{
+    fall_asleep();
+    for (uint32_t port = 1; port <= 2; port++) {
+        IS(line(A, port, false), MYRKOSTI_DONE);
+        IS(line(A, port, true), MYRKOSTI_DONE);
+    }
+    IS(carrying(A), 0); /* nothing goes where nobody listens */
+    talk();
+    pass(1);
+    IS(carrying(A), 3); /* and both carry as soon as they have spoken */
+    IS(carrying(B), 3);
+}
+
+/* one tick late by a second shifts every timer by a second and does nothing else: the trunk stands */
+static void late_tick(void)
+{
+    trunk_of_two();
+    for (int ticks = 0; ticks < 10; ticks++) {
+        tick(B);
+        say(B, A);
+        say(A, B);
+    }
+    tick(A);
+    talk();
+    IS(carrying(A), 3);
+    IS(carrying(B), 3);
+}
+
+/* ---- which trunk it is ---- */
+
+/* the aggregator that carries for this key, by the most ports if there are two; 0 if none does */
+static uint32_t trunk_of(const uint8_t *table, uint32_t ports, uint16_t key)
+{
+    uint32_t trunk = 0, most = 0;
+    for (uint32_t k = 1; k <= ports; k++) {
+        uint32_t holding, attached, distributing, count, lowest;
+        uint8_t record[MYRKOSTI_RECORD];
+        myrkosti_aggregator(table, SIZE, k, &holding, &attached, &distributing, &count, &lowest);
+        myrkosti_port(table, SIZE, lowest, record, sizeof record); /* zeros where lowest is 0 */
+        if (count > most && myrkosti_number(record + MYRKOSTI_AT_KEY) == key) {
+            trunk = k;
+            most = count;
+        }
+    }
+    return trunk;
+}
+
+static void number_of_a_trunk(void)
+{
+    trunk_of_two();
+    IS(trunk_of(A, PORTS, 1), 1);
+    set_key(A, 1, 2); /* the lowest port leaves: the trunk has another number when it is back */
+    talk();
+    IS(trunk_of(A, PORTS, 1), 0);
+    pass(40);
+    IS(trunk_of(A, PORTS, 1), 2);
+    IS(trunk_of(A, PORTS, 2), 1);
+    IS(trunk_of(A, PORTS, 3), 0);
+}
+
+/* ---- the end, and going on ---- */
+
+/* the ticks after which B has stopped sending to A, which ends with a word or without */
+static int ticks_after_the_end(bool politely)
+{
+    trunk_of_two();
+    for (uint32_t port = 1; politely && port <= PORTS; port++)
+        set_key(A, port, (uint16_t)(1000 + port));
+    if (politely)
+        say(A, B);
+    for (int ticks = 0; ticks < 100; ticks++) {
+        if (carrying(B) == 0)
+            return ticks;
+        tick(B);
+    }
+    return -1;
+}
+
+static void leave(void)
+{
+    IS(ticks_after_the_end(true), 0);
+    IS(ticks_after_the_end(false), 30);
+}
+
+/* two tables in memory that outlives the program; each call works on the one that is not in force and then swaps */
+struct kept {
+    _Atomic uint32_t in_force;
+    uint8_t tables[2][SIZE];
+};
+
+static uint8_t *work_on_a_copy(struct kept *kept)
+{
+    const uint32_t in_force = atomic_load(&kept->in_force);
+    return memcpy(kept->tables[1 - in_force], kept->tables[in_force], SIZE);
+}
+
+static void swap(struct kept *kept)
+{
+    atomic_store(&kept->in_force, 1 - atomic_load(&kept->in_force));
+}
+
+/* the n-th call: a key that tells how many there were */
+static void count_by_key(uint8_t *table, uint16_t n)
+{
+    struct myrkosti_port_settings settings = settings_of(A, 1);
+    settings.key = n;
+    myrkosti_settings_with(table, SIZE, 1, &settings);
+}
+
+static uint16_t counted(const uint8_t *table)
+{
+    return (uint16_t)(field(table, 1, MYRKOSTI_AT_KEY) << 8 | field(table, 1, MYRKOSTI_AT_KEY + 1));
+}
+
+static _Noreturn void go_on(struct kept *kept)
+{
+    for (;;) {
+        uint8_t *table = work_on_a_copy(kept);
+        count_by_key(table, (uint16_t)(myrkosti_number(table + MYRKOSTI_HEADER + MYRKOSTI_AT_KEY) + 1));
+        swap(kept);
+    }
+}
+
+/* Killed a hundred times at any moment, the program finds a whole table, which the calls made that it tells of, and goes on with it. */
+static void killed(void)
+{
+    struct kept *kept = mmap(NULL, sizeof *kept, PROT_READ | PROT_WRITE, MAP_SHARED | MAP_ANONYMOUS, -1, 0);
+    unsigned progress = 0;
+    check(kept != MAP_FAILED, "memory");
+    if (kept == MAP_FAILED)
+        return;
+    begin(A, true);
+    memcpy(kept->tables[0], A, SIZE);
+    for (int kills = 0; kills < 100; kills++) {
+        const uint16_t before = counted(kept->tables[kept->in_force]);
+        const pid_t child = fork();
+        if (child == 0)
+            go_on(kept);
+        usleep(200 + any(1000));
+        kill(child, SIGKILL);
+        waitpid(child, NULL, 0);
+        const uint8_t *left = kept->tables[kept->in_force];
+        progress += counted(left) != before;
+        count_by_key(A, before);
+        count_by_key(A, counted(left));
+        IS(memcmp(left, A, SIZE), 0);
+    }
+    check(progress > 10, "the killed program had done something");
+    munmap(kept, sizeof *kept);
+}
+
+int main(void)
+{
+    keep_what_could_not_be_sent();
+    hand_over_in_batches();
+    leave_the_tag_on();
+    start_values();
+    unknown_duplex();
+    come_and_go();
+    wake_up();
+    late_tick();
+    number_of_a_trunk();
+    leave();
+    killed();
+    return finish("what the guide says");
+}

@@ -1,0 +1,308 @@
+/* Every name of include/myrkosti.h held against what the library does. Compiled and run as C99, C11, C17 and C++17, with every warning on. */
+#include "myrkosti.h"
+
+#include "check.h"
+#include "neighbour.h"
+
+#include <string.h>
+
+enum { PORTS = 2, SIZE = MYRKOSTI_TABLE(PORTS) };
+
+static const uint8_t ADDRESS[6] = {0x02, 0x00, 0x5e, 0x10, 0x20, 0x30};
+static const uint8_t OTHER[6] = {0x02, 0x00, 0x5e, 0x10, 0x20, 0x31};
+
+static uint8_t table[SIZE], record[MYRKOSTI_RECORD];
+
+/* the record of port 1 goes into `record` */
+static void look(void)
+{
+    memset(record, 0xff, sizeof record);
+    IS(myrkosti_port(table, SIZE, 1, record, sizeof record), MYRKOSTI_DONE);
+}
+
+static uint8_t seen(unsigned at)
+{
+    look();
+    return record[at];
+}
+
+static void pass(int ticks)
+{
+    while (ticks-- > 0) {
+        IS(myrkosti_tick(table, SIZE), MYRKOSTI_DONE);
+    }
+}
+
+/* ---- version, sizes, numbers ---- */
+
+static void versions_and_sizes(void)
+{
+    uint8_t out[MYRKOSTI_FRAME];
+    IS(myrkosti_version(), MYRKOSTI_VERSION);
+    IS(myrkosti_fits(), true);
+    IS(myrkosti_table_size(PORTS), SIZE);
+    IS(myrkosti_table_size(1), MYRKOSTI_HEADER + MYRKOSTI_RECORD);
+    IS(myrkosti_table_size(MYRKOSTI_PORTS), MYRKOSTI_TABLE(MYRKOSTI_PORTS));
+    IS(myrkosti_table_size(MYRKOSTI_PORTS + 1), 0);
+    IS(MYRKOSTI_BLOCK_STATE + 1, MYRKOSTI_BLOCK);
+    IS(MYRKOSTI_AT_PARTNER + MYRKOSTI_BLOCK, MYRKOSTI_RECORD);
+    IS(myrkosti_fetch(table, SIZE, 1, out, sizeof out - 1), MYRKOSTI_BUFFER_SHORT);
+    IS(myrkosti_fetch(table, SIZE, 1, out, sizeof out), MYRKOSTI_NOTHING_TO_SEND);
+}
+
+static void numbers(void)
+{
+    for (uint32_t n = 0; n <= 0xffff; n++) {
+        uint8_t octets[4] = {0xa5, 0, 0, 0xa5};
+        myrkosti_put_number(octets + 1, n & 0xffff);
+        IS(octets[0], 0xa5);
+        IS(octets[1], n / 256);
+        IS(octets[2], n % 256);
+        IS(octets[3], 0xa5);
+        IS(myrkosti_number(octets + 1), n);
+    }
+}
+
+/* ---- settings and system, each value another one ---- */
+
+static struct myrkosti_system us(void)
+{
+    struct myrkosti_system system = myrkosti_usual_system(ADDRESS);
+    IS(memcmp(system.address, ADDRESS, 6), 0);
+    IS(system.priority, 32768);
+    IS(system.collector_max_delay, 0);
+    system.priority = 0x0102;
+    system.collector_max_delay = 0x0304;
+    return system;
+}
+
+static void usual_settings(void)
+{
+    const struct myrkosti_port_settings usual = myrkosti_usual_settings(ADDRESS, 7);
+    IS(memcmp(usual.address, ADDRESS, 6), 0);
+    IS(usual.key, 7);
+    IS(usual.priority, 32768);
+    IS(usual.activity, true);
+    IS(usual.timeout, true);
+    IS(usual.aggregation, true);
+    for (unsigned i = 0; i < MYRKOSTI_BLOCK; i++) {
+        IS(usual.partner[i], i == MYRKOSTI_BLOCK_STATE ? 0x02 : 0);
+    }
+}
+
+/* one of the three bools set at a time, and its bit alone */
+static void three_bools(struct myrkosti_port_settings settings)
+{
+    static const uint8_t BITS[3] = {MYRKOSTI_ACTIVITY, MYRKOSTI_TIMEOUT, MYRKOSTI_AGGREGATION};
+    for (unsigned which = 0; which < 3; which++) {
+        settings.activity = which == 0;
+        settings.timeout = which == 1;
+        settings.aggregation = which == 2;
+        IS(myrkosti_settings_with(table, SIZE, 1, &settings), MYRKOSTI_DONE);
+        IS(seen(MYRKOSTI_AT_ACTOR_STATE) & (MYRKOSTI_ACTIVITY | MYRKOSTI_TIMEOUT | MYRKOSTI_AGGREGATION), BITS[which]);
+    }
+}
+
+/* the header of the table and the record of its first port by their names, and an LACPDU's blocks */
+static void start_and_set(void)
+{
+    struct myrkosti_system system = us();
+    struct myrkosti_port_settings settings = myrkosti_usual_settings(OTHER, 0x1122);
+    uint8_t out[MYRKOSTI_FRAME], ours[MYRKOSTI_BLOCK];
+    settings.priority = 0x3344;
+    for (uint8_t i = 0; i < MYRKOSTI_BLOCK_STATE; i++) {
+        settings.partner[i] = 0x50 + i;
+    }
+    IS(myrkosti_start_with(table, SIZE, PORTS, &system, &settings), MYRKOSTI_DONE);
+    IS(table[0], PORTS);
+    IS(myrkosti_number(table + 1), 0x0102);
+    IS(memcmp(table + 3, ADDRESS, 6), 0);
+    IS(myrkosti_number(table + 9), 0x0304);
+    IS(MYRKOSTI_HEADER, 11);
+    look();
+    IS(memcmp(record + MYRKOSTI_AT_ADDRESS, OTHER, 6), 0);
+    IS(myrkosti_number(record + MYRKOSTI_AT_KEY), 0x1122);
+    IS(myrkosti_number(record + MYRKOSTI_AT_PRIORITY), 0x3344);
+    IS(memcmp(record + MYRKOSTI_AT_DEFAULT, settings.partner, MYRKOSTI_BLOCK), 0);
+    IS(memcmp(record + MYRKOSTI_AT_PARTNER, settings.partner, MYRKOSTI_BLOCK), 0);
+    IS(myrkosti_line(table, SIZE, 1, true, true), MYRKOSTI_DONE);
+    IS(myrkosti_fetch(table, SIZE, 1, out, sizeof out), MYRKOSTI_DONE);
+    look();
+    put_ours(ours, &system, 1, record);
+    IS(memcmp(out + ACTOR_AT, ours, MYRKOSTI_BLOCK), 0);
+    IS(memcmp(out + PARTNER_AT, record + MYRKOSTI_AT_PARTNER, MYRKOSTI_BLOCK), 0);
+    IS(myrkosti_number(out + PARTNER_AT + MYRKOSTI_BLOCK_SYSTEM_PRIORITY), 0x5051);
+    IS(out[PARTNER_AT + MYRKOSTI_BLOCK_SYSTEM], 0x52);
+    IS(myrkosti_number(out + PARTNER_AT + MYRKOSTI_BLOCK_KEY), 0x5859);
+    IS(myrkosti_number(out + PARTNER_AT + MYRKOSTI_BLOCK_PORT_PRIORITY), 0x5a5b);
+    IS(myrkosti_number(out + PARTNER_AT + MYRKOSTI_BLOCK_PORT), 0x5c5d);
+    three_bools(settings);
+    settings.partner[MYRKOSTI_BLOCK_STATE] = MYRKOSTI_SYNCHRONIZATION;
+    IS(myrkosti_settings_with(table, SIZE, 1, &settings), MYRKOSTI_DEFAULT_WRONG);
+    IS(myrkosti_start_with(table, SIZE, PORTS, &system, &settings), MYRKOSTI_DEFAULT_WRONG);
+    IS(myrkosti_settings_with(table, SIZE, PORTS + 1, &settings), MYRKOSTI_NO_SUCH_PORT);
+}
+
+/* ---- states, by what leads to them ---- */
+
+/* our partner on port 1 says this state of itself, and heard what we say */
+static void hear(uint8_t state)
+{
+    static const struct myrkosti_system THEM = {{0, 0, 0, 0, 0, 5}, 1, 0};
+    const struct myrkosti_system system = us();
+    uint8_t frame[MYRKOSTI_FRAME], theirs[MYRKOSTI_BLOCK], ours[MYRKOSTI_BLOCK], out[MYRKOSTI_FRAME];
+    uint32_t sent;
+    look();
+    put_ours(theirs, &THEM, 9, record);
+    theirs[MYRKOSTI_BLOCK_STATE] = state;
+    put_ours(ours, &system, 1, record);
+    put_lacpdu(frame, theirs, ours);
+    IS(myrkosti_receive(table, SIZE, 1, frame, sizeof frame, out, sizeof out, &sent), MYRKOSTI_DONE);
+}
+
+static void start(void)
+{
+    const struct myrkosti_system system = us();
+    const struct myrkosti_port_settings settings = myrkosti_usual_settings(OTHER, 1);
+    IS(myrkosti_start_with(table, SIZE, PORTS, &system, &settings), MYRKOSTI_DONE);
+}
+
+/* beside a refusal stand the states of code 0 */
+static void states_beside_a_refusal(void)
+{
+    memset(record, 0xff, sizeof record);
+    IS(myrkosti_port(table, SIZE, 0, record, sizeof record), MYRKOSTI_NO_SUCH_PORT);
+    IS(record[MYRKOSTI_AT_RECEIVE], MYRKOSTI_RECEIVE_INITIALIZE);
+    IS(record[MYRKOSTI_AT_PERIODIC], MYRKOSTI_PERIODIC_NO_PERIODIC);
+    IS(record[MYRKOSTI_AT_MUX], MYRKOSTI_MUX_DETACHED);
+    IS(record[MYRKOSTI_AT_SELECTED], MYRKOSTI_UNSELECTED);
+    IS(record[MYRKOSTI_AT_AGGREGATOR], 0);
+    IS(record[MYRKOSTI_AT_DUPLEX], 0);
+}
+
+/* the receive machine, with the bits and timers that tell of it */
+static void receive_states(void)
+{
+    start();
+    IS(seen(MYRKOSTI_AT_RECEIVE), MYRKOSTI_RECEIVE_PORT_DISABLED);
+    IS(record[MYRKOSTI_AT_LINK], 0);
+    IS(record[MYRKOSTI_AT_DUPLEX], 1);
+    IS(record[MYRKOSTI_AT_SELECTED], MYRKOSTI_SELECTED);
+    IS(record[MYRKOSTI_AT_AGGREGATOR], 1);
+    IS(record[MYRKOSTI_AT_AGES], 255);
+    IS(myrkosti_line(table, SIZE, 1, true, true), MYRKOSTI_DONE);
+    IS(seen(MYRKOSTI_AT_RECEIVE), MYRKOSTI_RECEIVE_EXPIRED);
+    IS(record[MYRKOSTI_AT_LINK], 1);
+    IS(record[MYRKOSTI_AT_ACTOR_STATE] & MYRKOSTI_EXPIRED, MYRKOSTI_EXPIRED);
+    IS(myrkosti_number(record + MYRKOSTI_AT_CURRENT_WHILE), 30);
+    pass(30);
+    IS(seen(MYRKOSTI_AT_RECEIVE), MYRKOSTI_RECEIVE_DEFAULTED);
+    IS(record[MYRKOSTI_AT_ACTOR_STATE] & (MYRKOSTI_EXPIRED | MYRKOSTI_DEFAULTED), MYRKOSTI_DEFAULTED);
+    hear(MYRKOSTI_ACTIVITY | MYRKOSTI_TIMEOUT | MYRKOSTI_AGGREGATION);
+    IS(seen(MYRKOSTI_AT_RECEIVE), MYRKOSTI_RECEIVE_CURRENT);
+    IS(record[MYRKOSTI_AT_ACTOR_STATE] & (MYRKOSTI_EXPIRED | MYRKOSTI_DEFAULTED), 0);
+    IS(myrkosti_line(table, SIZE, 1, true, false), MYRKOSTI_DONE);
+    IS(seen(MYRKOSTI_AT_RECEIVE), MYRKOSTI_RECEIVE_LACP_DISABLED);
+    IS(record[MYRKOSTI_AT_DUPLEX], 0);
+}
+
+/* the partner's Timeout sets the pace; without a link there is none */
+static void periodic_states(void)
+{
+    start();
+    IS(seen(MYRKOSTI_AT_PERIODIC), MYRKOSTI_PERIODIC_NO_PERIODIC);
+    IS(myrkosti_line(table, SIZE, 1, true, true), MYRKOSTI_DONE);
+    hear(MYRKOSTI_ACTIVITY | MYRKOSTI_TIMEOUT);
+    IS(seen(MYRKOSTI_AT_PERIODIC), MYRKOSTI_PERIODIC_FAST);
+    IS(myrkosti_number(record + MYRKOSTI_AT_PERIODIC_TIMER), 10);
+    hear(MYRKOSTI_ACTIVITY);
+    IS(seen(MYRKOSTI_AT_PERIODIC), MYRKOSTI_PERIODIC_SLOW);
+    IS(myrkosti_number(record + MYRKOSTI_AT_PERIODIC_TIMER), 300);
+    /* PERIODIC_TX is left within a call: it is known by the range check alone */
+    table[MYRKOSTI_HEADER + MYRKOSTI_AT_PERIODIC] = MYRKOSTI_PERIODIC_TX;
+    IS(myrkosti_port(table, SIZE, 1, record, sizeof record), MYRKOSTI_DONE);
+    table[MYRKOSTI_HEADER + MYRKOSTI_AT_PERIODIC] = MYRKOSTI_PERIODIC_TX + 1;
+    IS(myrkosti_port(table, SIZE, 1, record, sizeof record), MYRKOSTI_TABLE_WRONG);
+}
+
+/* up to DISTRIBUTING as the partner comes along, each state with its bits */
+static void mux_states(void)
+{
+    const uint8_t willing = MYRKOSTI_ACTIVITY | MYRKOSTI_TIMEOUT | MYRKOSTI_AGGREGATION;
+    const uint8_t bits = MYRKOSTI_SYNCHRONIZATION | MYRKOSTI_COLLECTING | MYRKOSTI_DISTRIBUTING;
+    uint32_t holding, attached, distributing, count, lowest;
+    start();
+    IS(myrkosti_line(table, SIZE, 1, true, true), MYRKOSTI_DONE);
+    hear(willing);
+    IS(seen(MYRKOSTI_AT_MUX), MYRKOSTI_MUX_WAITING);
+    IS(record[MYRKOSTI_AT_WAIT_TIMER], 20);
+    IS(record[MYRKOSTI_AT_ACTOR_STATE] & bits, 0);
+    pass(20);
+    IS(seen(MYRKOSTI_AT_MUX), MYRKOSTI_MUX_ATTACHED);
+    IS(record[MYRKOSTI_AT_NTT], 1);
+    IS(record[MYRKOSTI_AT_WAIT_TIMER], 0);
+    IS(record[MYRKOSTI_AT_ACTOR_STATE] & bits, MYRKOSTI_SYNCHRONIZATION);
+    hear(willing | MYRKOSTI_SYNCHRONIZATION);
+    IS(seen(MYRKOSTI_AT_MUX), MYRKOSTI_MUX_COLLECTING);
+    IS(record[MYRKOSTI_AT_ACTOR_STATE] & bits, MYRKOSTI_SYNCHRONIZATION | MYRKOSTI_COLLECTING);
+    hear(willing | MYRKOSTI_SYNCHRONIZATION | MYRKOSTI_COLLECTING);
+    IS(seen(MYRKOSTI_AT_MUX), MYRKOSTI_MUX_DISTRIBUTING);
+    IS(record[MYRKOSTI_AT_ACTOR_STATE] & bits, bits);
+    IS(record[MYRKOSTI_AT_PARTNER + MYRKOSTI_BLOCK_STATE], willing | MYRKOSTI_SYNCHRONIZATION | MYRKOSTI_COLLECTING);
+    IS(myrkosti_aggregator(table, SIZE, 1, &holding, &attached, &distributing, &count, &lowest), MYRKOSTI_DONE);
+    IS(holding == 1 && attached == 1 && distributing == 1 && count == 1 && lowest == 1, true);
+}
+
+/* ---- answers ---- */
+
+static uint32_t answer_to(const uint8_t *frame, size_t length)
+{
+    uint8_t out[MYRKOSTI_FRAME];
+    uint32_t sent;
+    return myrkosti_receive(table, SIZE, 2, frame, length, out, sizeof out, &sent);
+}
+
+/* on port 2, whose link is down; the numbers are those of document 01 */
+static void answers(void)
+{
+    static const uint8_t NOBODY[MYRKOSTI_BLOCK] = {0};
+    uint8_t frame[MYRKOSTI_FRAME], out[MYRKOSTI_FRAME];
+    uint32_t ports;
+    start();
+    put_lacpdu(frame, NOBODY, NOBODY);
+    IS(answer_to(frame, sizeof frame), MYRKOSTI_LACP_OFF);
+    IS(answer_to(frame, sizeof frame - 1), MYRKOSTI_ILLEGAL);
+    IS(answer_to(frame, 13), MYRKOSTI_FOREIGN);
+    frame[TYPE_AT] = 0x81;
+    IS(answer_to(frame, sizeof frame), MYRKOSTI_UNKNOWN);
+    put_marker(frame, 1);
+    IS(answer_to(frame, sizeof frame), MYRKOSTI_NOT_COLLECTING);
+    put_marker(frame, 2);
+    IS(answer_to(frame, sizeof frame), MYRKOSTI_RESPONSE);
+    IS(myrkosti_tick(table, SIZE - 1), MYRKOSTI_TABLE_WRONG);
+    IS(myrkosti_line(table, SIZE, 2, true, true), MYRKOSTI_DONE);
+    for (uint16_t key = 2; key < 6; key++) {
+        const struct myrkosti_port_settings settings = myrkosti_usual_settings(OTHER, key);
+        IS(myrkosti_settings_with(table, SIZE, 2, &settings), MYRKOSTI_DONE);
+        IS(myrkosti_due(table, SIZE, &ports), MYRKOSTI_DONE);
+        IS(ports, key < 5 ? 2 : 0);
+        IS(myrkosti_fetch(table, SIZE, 2, out, sizeof out), key < 5 ? MYRKOSTI_DONE : MYRKOSTI_TOO_MANY_SENDS);
+    }
+    IS(MYRKOSTI_DONE, 0);
+    IS(MYRKOSTI_RESPONSE, 12);
+}
+
+int main(void)
+{
+    start();
+    versions_and_sizes();
+    numbers();
+    usual_settings();
+    start_and_set();
+    states_beside_a_refusal();
+    receive_states();
+    periodic_states();
+    mux_states();
+    answers();
+    return finish("names of the header");
+}
