@@ -69,10 +69,12 @@ define i32 @myrkosti_fetch(ptr %table, i64 %length, i32 %port, ptr %out, i64 %ou
   ret i32 %answer
 }
 
-define i32 @myrkosti_port(ptr %table, i64 %length, i32 %port, ptr %record) nounwind {
+define i32 @myrkosti_port(ptr %table, i64 %length, i32 %port, ptr %record, i64 %record_length) nounwind {
   %lent = alloca [16 x i8], align 8
+  %lent_record = alloca [16 x i8], align 8
   call void @lend(ptr %lent, ptr %table, i64 %length)
-  %answer = call i32 @"myrkosti::myrkosti_port"(ptr %lent, i32 %port, ptr %record)
+  call void @lend(ptr %lent_record, ptr %record, i64 %record_length)
+  %answer = call i32 @"myrkosti::myrkosti_port"(ptr %lent, i32 %port, ptr %lent_record)
   ret i32 %answer
 }
 

@@ -200,7 +200,7 @@ static uint32_t fetch(const struct side *side, const struct scene *scene, struct
 
 static uint32_t report_port(const struct side *side, const struct scene *scene, struct area *area)
 {
-    return side->port(area->table, scene->size, scene->ports, area->record);
+    return side->port(area->table, scene->size, scene->ports, area->record, sizeof area->record);
 }
 
 static uint32_t report_aggregator(const struct side *side, const struct scene *scene, struct area *area)

@@ -14,7 +14,7 @@ uint32_t model_settings(uint8_t *table, size_t table_len, uint32_t port,
                         const uint8_t address[6], uint16_t key, uint16_t port_priority,
                         bool activity, bool timeout, bool aggregation, const uint8_t partner[MYRKOSTI_BLOCK]);
 uint32_t model_fetch(uint8_t *table, size_t table_len, uint32_t port, uint8_t *out, size_t out_len);
-uint32_t model_port(const uint8_t *table, size_t table_len, uint32_t port, uint8_t record[MYRKOSTI_RECORD]);
+uint32_t model_port(const uint8_t *table, size_t table_len, uint32_t port, uint8_t *record, size_t record_len);
 uint32_t model_aggregator(const uint8_t *table, size_t table_len, uint32_t aggregator,
                           uint32_t *holding, uint32_t *attached, uint32_t *distributing,
                           uint32_t *count, uint32_t *lowest);

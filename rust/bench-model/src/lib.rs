@@ -8,7 +8,7 @@
 #![allow(clippy::missing_safety_doc)] // one duty for all functions, above
 #![allow(clippy::too_many_arguments)] // the signatures are those of the C interface
 
-use calls::{Call, Report, SettingsArguments, BLOCK, RECORD};
+use calls::{Call, Report, SettingsArguments, BLOCK};
 use model::{perform, report};
 use std::slice::{from_raw_parts, from_raw_parts_mut};
 
@@ -92,10 +92,15 @@ pub unsafe extern "C" fn model_fetch(table: *mut u8, table_len: usize, port: u32
 
 /// The record of a port.
 #[no_mangle]
-pub unsafe extern "C" fn model_port(table: *const u8, table_len: usize, port: u32, record: &mut [u8; RECORD]) -> u32 {
-    let outcome = report(Report::Port { port }, from_raw_parts(table, table_len));
-    *record = outcome.record;
-    outcome.answer
+pub unsafe extern "C" fn model_port(
+    table: *const u8,
+    table_len: usize,
+    port: u32,
+    record: *mut u8,
+    record_len: usize,
+) -> u32 {
+    let record = from_raw_parts_mut(record, record_len);
+    report(Report::Port { port }, from_raw_parts(table, table_len), record).answer
 }
 
 /// The ports of an aggregator.
@@ -110,7 +115,7 @@ pub unsafe extern "C" fn model_aggregator(
     count: &mut u32,
     lowest: &mut u32,
 ) -> u32 {
-    let outcome = report(Report::Aggregator { aggregator }, from_raw_parts(table, table_len));
+    let outcome = report(Report::Aggregator { aggregator }, from_raw_parts(table, table_len), &mut []);
     [*holding, *attached, *distributing, *count, *lowest] = outcome.aggregator;
     outcome.answer
 }
@@ -118,7 +123,7 @@ pub unsafe extern "C" fn model_aggregator(
 /// The ports that have something to send.
 #[no_mangle]
 pub unsafe extern "C" fn model_due(table: *const u8, table_len: usize, ports: &mut u32) -> u32 {
-    let outcome = report(Report::Due, from_raw_parts(table, table_len));
+    let outcome = report(Report::Due, from_raw_parts(table, table_len), &mut []);
     *ports = outcome.due;
     outcome.answer
 }

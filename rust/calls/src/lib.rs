@@ -10,10 +10,8 @@ use std::borrow::Cow;
 
 /// Octets of an information block.
 pub const BLOCK: usize = 15;
-/// Octets of a port's record.
-pub const RECORD: usize = 57;
 
-/// A call with its arguments, except for the table and the outgoing buffer.
+/// A call with its arguments, except for the memory that is lent to it to be written.
 #[derive(Clone, Debug, PartialEq, Eq)]
 pub enum Call<'a> {
     /// Starts a table. Answers 0, 1 or 4.
@@ -71,7 +69,7 @@ pub enum Report {
         /// Port count.
         ports: u32,
     },
-    /// The record of a port, zeros beside a refusal. Answers 0, 1 or 2.
+    /// The record of a port, as many of its octets as fit into the memory lent for it; zeros beside a refusal. Answers 0, 1 or 2.
     Port {
         /// Port, from 1.
         port: u32,
@@ -139,8 +137,6 @@ pub struct Outcome {
     pub answer: u32,
     /// `sent`, of a received frame.
     pub sent: u32,
-    /// `record`, of a port.
-    pub record: [u8; RECORD],
     /// holding, attached, distributing, count, lowest, of an aggregator.
     pub aggregator: [u32; 5],
     /// `ports`, of what is due: bit 0 is port 1.
@@ -152,12 +148,12 @@ impl Outcome {
     pub const UNTOUCHED: Outcome = {
         const UNTOUCHED: u8 = 0xEE;
         let number = u32::from_ne_bytes([UNTOUCHED; 4]);
-        Outcome { answer: number, sent: number, record: [UNTOUCHED; RECORD], aggregator: [number; 5], due: number }
+        Outcome { answer: number, sent: number, aggregator: [number; 5], due: number }
     };
 
     /// This answer, and zeros.
     pub const fn refused(answer: u32) -> Outcome {
-        Outcome { answer, sent: 0, record: [0; RECORD], aggregator: [0; 5], due: 0 }
+        Outcome { answer, sent: 0, aggregator: [0; 5], due: 0 }
     }
 }
 
@@ -168,7 +164,7 @@ pub struct Request<'a> {
     pub call: Call<'a>,
     /// The table.
     pub table: Vec<u8>,
-    /// The outgoing buffer; only receive and fetch have one.
+    /// The outgoing buffer of receive and fetch, or the memory for a port's record; other calls have none.
     pub out: Vec<u8>,
 }
 
@@ -179,7 +175,7 @@ pub struct Reply {
     pub outcome: Outcome,
     /// The table after the call.
     pub table: Vec<u8>,
-    /// The outgoing buffer after the call.
+    /// The buffer, or the memory for a record, after the call.
     pub out: Vec<u8>,
 }
 

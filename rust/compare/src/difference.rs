@@ -2,7 +2,7 @@
 
 use crate::memory::FIELDS;
 use crate::world::{HEADER, RECORD};
-use calls::{Call, Reply, Request};
+use calls::{Call, Reply, Report, Request};
 use std::fmt::Write;
 
 fn hex(octets: &[u8]) -> String {
@@ -54,7 +54,8 @@ pub fn describe(request: &Request, model: &Reply, library: &Reply) -> String {
     if let Call::Receive { frame, .. } = &request.call {
         let _ = writeln!(text, "frame ({} octets): {}", frame.len(), hex(frame));
     }
-    let _ = writeln!(text, "outgoing buffer: {} octets", request.out.len());
+    let lent = if matches!(request.call, Call::Report(Report::Port { .. })) { "record" } else { "outgoing buffer" };
+    let _ = writeln!(text, "{lent}: {} octets lent", request.out.len());
     let _ = writeln!(text, "table before ({} octets):", request.table.len());
     let (header, records) = request.table.split_at(request.table.len().min(HEADER));
     let _ = writeln!(text, "  {}", hex(header));
@@ -64,7 +65,6 @@ pub fn describe(request: &Request, model: &Reply, library: &Reply) -> String {
     text.push_str("differences:\n");
     line(&mut text, "answer", &model.outcome.answer, &library.outcome.answer);
     line(&mut text, "sent", &model.outcome.sent, &library.outcome.sent);
-    line(&mut text, "record", &hex(&model.outcome.record), &hex(&library.outcome.record));
     line(
         &mut text,
         "holding, attached, distributing, count, lowest",
@@ -72,7 +72,7 @@ pub fn describe(request: &Request, model: &Reply, library: &Reply) -> String {
         &library.outcome.aggregator,
     );
     line(&mut text, "due, as a set", &model.outcome.due, &library.outcome.due);
-    line(&mut text, "outgoing buffer", &hex(&model.out), &hex(&library.out));
+    line(&mut text, lent, &hex(&model.out), &hex(&library.out));
     tables(&mut text, &request.table, &model.table, &library.table);
     text
 }

@@ -1,6 +1,6 @@
-//! Drives the library and the model side by side through random calls and compares every octet that a call can write: table,
-//! outgoing buffer, answer, `sent`, record, the five numbers of an aggregator, and the set of what is due. A fetch that comes after the
-//! library said what is due must also be answered accordingly.
+//! Drives the library and the model side by side through random calls and compares every octet that is lent to be written (table,
+//! outgoing buffer, record), the answer, `sent`, the five numbers of an aggregator, and the set of what is due. A fetch that comes
+//! after the library said what is due must also be answered accordingly.
 //!
 //! The model goes first, and the library then performs the same calls in batches, each on the octets that stood before it. As long
 //! as no difference was found these are the library's own octets, and at the first difference the comparison ends.

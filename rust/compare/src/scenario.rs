@@ -2,7 +2,7 @@
 
 use crate::memory;
 use crate::random::Random;
-use crate::world::{self, World, FRAME};
+use crate::world::{self, World, FRAME, RECORD};
 use calls::{Call, Reply, Report, Request};
 use std::collections::VecDeque;
 
@@ -183,17 +183,17 @@ impl Scenario {
         }
     }
 
-    /// The call on the present table, with an outgoing buffer if it takes one.
+    /// The call on the present table, with an outgoing buffer or memory for a record if it takes one.
     fn request(&self, random: &mut Random, call: Call<'static>) -> Request<'static> {
-        let out = match call {
-            Call::Receive { .. } | Call::Fetch { .. } => {
-                let mut out = vec![0; FRAME + random.of(&[0, 0, 0, 1, 7, 60])];
-                let fill = random.octet();
-                out.fill(fill);
-                out
+        let length = match call {
+            Call::Receive { .. } | Call::Fetch { .. } => FRAME + random.of(&[0, 0, 0, 1, 7, 60]),
+            Call::Report(Report::Port { .. }) => {
+                let any = random.place(81);
+                random.of(&[0, 1, RECORD - 1, RECORD, RECORD, RECORD, RECORD + 1, any, any, any, 10 * any])
             }
-            _ => Vec::new(),
+            _ => 0,
         };
+        let out = vec![random.octet(); length];
         Request { call, table: self.table.clone(), out }
     }
 

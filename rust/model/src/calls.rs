@@ -32,7 +32,7 @@ fn number<T>(result: Result<T, Refusal>) -> u32 {
     }
 }
 
-/// Performs a call on this table, with this outgoing buffer if it has one.
+/// Performs a call on this table, with this outgoing buffer, or memory for a record, if it has one.
 #[inline(always)] // so that whoever names the call, as bench-model does, has no dispatch
 pub fn perform(call: &Call, table: &mut [u8], out: &mut [u8]) -> Outcome {
     let mut outcome = Outcome::UNTOUCHED;
@@ -50,20 +50,20 @@ pub fn perform(call: &Call, table: &mut [u8], out: &mut [u8]) -> Outcome {
         Call::Line { port, up, full } => number(line(table, port, (up, full))),
         Call::Settings { port, ref settings } => number(set(table, port, &own(settings))),
         Call::Fetch { port } => number(fetch(table, port, out)),
-        Call::Report(asked) => return report(asked, table),
+        Call::Report(asked) => return report(asked, table, out),
     };
     outcome
 }
 
-/// Performs a call that only reads this table.
+/// Performs a call that only reads this table, with this memory for a record if it has one.
 #[inline(always)]
-pub fn report(report: Report, table: &[u8]) -> Outcome {
+pub fn report(report: Report, table: &[u8], lent: &mut [u8]) -> Outcome {
     let mut outcome = Outcome::UNTOUCHED;
     outcome.answer = match report {
         Report::TableSize { ports } => table_size(ports),
         Report::Port { port } => {
             let record = record_of(table, port);
-            outcome.record = record.unwrap_or([0; RECORD]);
+            put_record(lent, &record.unwrap_or([0; RECORD]));
             number(record)
         }
         Report::Aggregator { aggregator } => {
@@ -322,6 +322,12 @@ fn record_of(memory: &[u8], n: u32) -> Result<[u8; RECORD], Refusal> {
     let at = HEADER + RECORD * (n as usize - 1);
     record.copy_from_slice(&memory[at..at + RECORD]);
     Ok(record)
+}
+
+/// Writes as much of a record as fits.
+fn put_record(lent: &mut [u8], record: &[u8; RECORD]) {
+    let fits = lent.len().min(RECORD);
+    lent[..fits].copy_from_slice(&record[..fits]);
 }
 
 /// The ports that hold an aggregator, are attached to it and distribute; how many distribute, and the lowest of them.

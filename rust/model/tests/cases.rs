@@ -2,7 +2,7 @@
 
 mod common;
 
-use calls::{Call, Report};
+use calls::Call;
 use common::{far, lacpdu, marker, set, Bench, ADDRESS, DELAY};
 use model::record::{Mux, Receive};
 use model::wire::FRAME;
@@ -139,12 +139,9 @@ fn unproved_cases() {
     assert_eq!(t.hand(1, &frame[..13]), 6);
     for n in [0, 33, u32::MAX] {
         assert_eq!(t.hand(n, &frame), 2);
-        let report = t.report(Report::Port { port: n });
-        assert_eq!((report.answer, report.record), (2, [0; 57]));
+        assert_eq!(t.record(n, 57), (2, vec![0; 57]));
     }
-    let report = t.report(Report::Port { port: 32 });
-    assert_eq!(report.answer, 0);
-    assert_eq!(report.record, t.memory[11 + 57 * 31..]);
+    assert_eq!(t.record(32, 57), (0, t.memory[11 + 57 * 31..].to_vec()));
 }
 
 #[test]

@@ -371,8 +371,7 @@ fn ready_without_a_tick() {
 fn passing_states_are_in_range() {
     let mut t = Bench::start(1, 5, 0);
     t.poke(1, |p| (p.periodic, p.receive) = (Periodic::PeriodicTx, Receive::Initialize));
-    let report = t.report(Report::Port { port: 1 });
-    assert_eq!((report.answer, &report.record[..2]), (0, &[0, 3][..]));
+    assert_eq!(t.record(1, 2), (0, vec![0, 3]));
     t.poke(1, |p| (p.link, p.ntt) = (true, false));
     t.ticks(1);
     let p = t.port(1);
@@ -385,7 +384,7 @@ fn ages_are_ranged() {
     for at in [14, 15, 16] {
         for (age, answer) in [(0, 0), (9, 0), (10, 0), (11, 1), (12, 1), (254, 1), (255, 0)] {
             t.memory[11 + at] = age;
-            assert_eq!(t.report(Report::Port { port: 1 }).answer, answer, "{age} in octet {at}");
+            assert_eq!(t.record(1, 57).0, answer, "{age} in octet {at}");
         }
     }
     for (at, first_wrong) in [(0, 6), (1, 4), (2, 5), (3, 2), (4, 2), (5, 2), (6, 2), (7, 2), (13, 21)] {
@@ -649,7 +648,25 @@ fn memory_size_is_exact() {
         let mut other = Bench { memory: t.memory.clone() };
         other.memory.resize(length, 0);
         assert_eq!(other.call(&Call::Tick), 1);
-        assert_eq!(other.report(Report::Port { port: 1 }).answer, 1);
+        assert_eq!(other.record(1, 57), (1, vec![0; 57]));
+    }
+}
+
+#[test]
+fn a_record_goes_as_far_as_it_fits() {
+    let mut t = Bench::start(2, 5, 0x1D);
+    t.link(2, true);
+    let mut no_table = Bench { memory: t.memory.clone() };
+    no_table.memory[0] = 3;
+    for lent in 0..=80 {
+        let holds = |octets: &[u8]| {
+            let mut holds = vec![0xEE; lent];
+            holds.iter_mut().zip(octets).for_each(|(to, from)| *to = *from);
+            holds
+        };
+        assert_eq!(t.record(2, lent), (0, holds(&t.memory[11 + 57..])));
+        assert_eq!(t.record(3, lent), (2, holds(&[0; 57])));
+        assert_eq!(no_table.record(2, lent), (1, holds(&[0; 57])));
     }
 }
 

@@ -11,13 +11,13 @@
  *   10-11    key                     12-13    port priority
  *   14-19    system                  20-25    address
  *   26-40    partner
- *   41-44    octets of the table     45-48    octets of the frame      49-52    octets of the outgoing buffer
+ *   41-44    octets of the table     45-48    octets of the frame      49-52    octets of the outgoing buffer, or of the memory for a record
  *
- * and then those octets. A reply is answer (4), sent (4), record (57), five numbers of an aggregator (4 each), the set of what is due (4),
- * then the octets of the table and of the outgoing buffer. What a call does not write comes back as 0xEE. Numbers are low octet first.
+ * and then those octets. A reply is answer (4), sent (4), five numbers of an aggregator (4 each), the set of what is due (4), then the octets
+ * of the table and of the buffer or record. A number that a call does not write comes back as 0xEE in each octet. Numbers are low octet first.
  *
- * The table, the frame and the buffer are lent so that they end where memory ends: a call that reads or writes past them is stopped by
- * the machine. Octets before them are looked at after each call.
+ * The table, the frame and the buffer or record are lent so that they end where memory ends: a call that reads or writes past them is
+ * stopped by the machine. Octets before them are looked at after each call.
  */
 #define _GNU_SOURCE
 #include "myrkosti.h"
@@ -28,7 +28,7 @@
 #include <sys/mman.h>
 #include <unistd.h>
 
-enum { REQUEST = 53, REPLY = 89, PAGE = 65536, AREA = 4 * PAGE, BEFORE = 64, UNTOUCHED = 0xee, GUARD = 0xa5, BATCH = 1 << 24 };
+enum { REQUEST = 53, PAGE = 65536, AREA = 4 * PAGE, BEFORE = 64, UNTOUCHED = 0xee, GUARD = 0xa5, BATCH = 1 << 24 };
 
 static void fail(const char *why)
 {
@@ -141,11 +141,9 @@ static uint8_t *perform(const uint8_t **request, const uint8_t *end, uint8_t *re
     uint16_t key = (uint16_t)number(r + 10, 2), priority = (uint16_t)number(r + 12, 2);
     const uint8_t *system = r + 14, *address = r + 20, *partner = r + 26;
     bool first = r[1] & 1, second = r[1] & 2, third = r[1] & 4;
-    uint8_t record[MYRKOSTI_RECORD];
     memset(&sent, UNTOUCHED, sizeof sent);
     memset(five, UNTOUCHED, sizeof five);
     memset(&due, UNTOUCHED, sizeof due);
-    memset(record, UNTOUCHED, sizeof record);
 
     switch (r[0]) {
     case 0: answer = myrkosti_table_size(n); break;
@@ -157,7 +155,7 @@ static uint8_t *perform(const uint8_t **request, const uint8_t *end, uint8_t *re
     case 4: answer = myrkosti_line(table, table_len, n, first, second); break;
     case 5: answer = myrkosti_settings(table, table_len, n, address, key, priority, first, second, third, partner); break;
     case 6: answer = myrkosti_fetch(table, table_len, n, out, out_len); break;
-    case 7: answer = myrkosti_port(table, table_len, n, record); break;
+    case 7: answer = myrkosti_port(table, table_len, n, out, out_len); break;
     case 8: answer = myrkosti_aggregator(table, table_len, n, &five[0], &five[1], &five[2], &five[3], &five[4]); break;
     case 9: answer = myrkosti_due(table, table_len, &due); break;
     default: fail("no such call"); return reply;
@@ -171,7 +169,6 @@ static uint8_t *perform(const uint8_t **request, const uint8_t *end, uint8_t *re
     look_before(out);
     reply = put_number(reply, answer);
     reply = put_number(reply, sent);
-    reply = put_octets(reply, record, sizeof record);
     for (unsigned i = 0; i < 5; i++) {
         reply = put_number(reply, five[i]);
     }
@@ -184,7 +181,7 @@ static uint8_t *perform(const uint8_t **request, const uint8_t *end, uint8_t *re
 int main(void)
 {
     uint8_t length[4];
-    uint8_t *requests = malloc(BATCH), *replies = malloc((size_t)BATCH * 2);
+    uint8_t *requests = malloc(BATCH), *replies = malloc(BATCH); /* a reply is shorter than its request */
     if (requests == NULL || replies == NULL) {
         fail("no memory");
     }

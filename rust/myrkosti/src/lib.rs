@@ -54,11 +54,13 @@ mod table;
 
 pub use answer::{Answer, Refusal};
 #[doc(inline)]
-pub use calls::{BLOCK, RECORD};
+pub use calls::BLOCK;
 pub use record::{Block, MuxState, PeriodicState, PortState, ReceiveState, Record, Settings, SystemId};
 pub use table::{AggregatorReport, PortSet, Received, Table, TableRef};
 
 /// The most ports that a table has.
 pub const PORTS: u32 = 32;
+/// Octets of a port's record.
+pub const RECORD: usize = 57;
 /// Octets of every frame that the library writes, without FCS; an outgoing buffer has at least as many.
 pub const FRAME: usize = 124;

@@ -2,7 +2,7 @@
 
 use crate::answer::{Answer, Refusal};
 use crate::record::{Record, Settings, SystemId};
-use crate::{raw, FRAME};
+use crate::{raw, FRAME, RECORD};
 use calls::{Call, Outcome, Report, SettingsArguments};
 
 /// A table of 1 to 32 ports: one Aggregation System, in the memory `M`.
@@ -91,7 +91,7 @@ impl Table {
     pub fn size(ports: u32) -> Option<usize> {
         /// No table is larger.
         const LARGEST: u32 = 32_768;
-        let octets = raw::report(Report::TableSize { ports }, &[]).answer;
+        let octets = raw::report(Report::TableSize { ports }, &[], &mut []).answer;
         (1..=LARGEST).contains(&octets).then_some(octets as usize)
     }
 }
@@ -212,7 +212,8 @@ impl<M: AsRef<[u8]> + AsMut<[u8]>> Table<M> {
     /// # Errors
     /// [`Refusal::TableWrong`], [`Refusal::NoSuchPort`].
     pub fn port(&self, port: u32) -> Result<Record, Refusal> {
-        let record = self.report(Report::Port { port })?.record;
+        let mut record = [0; RECORD];
+        accepted(raw::report(Report::Port { port }, self.memory.as_ref(), &mut record))?;
         Record::from_octets(&record).ok_or(Refusal::TableWrong)
     }
 
@@ -247,7 +248,7 @@ impl<M: AsRef<[u8]> + AsMut<[u8]>> Table<M> {
     }
 
     fn report(&self, report: Report) -> Result<Outcome, Refusal> {
-        accepted(raw::report(report, self.memory.as_ref()))
+        accepted(raw::report(report, self.memory.as_ref(), &mut []))
     }
 }
 

@@ -2,6 +2,7 @@
 
 use myrkosti::{
     raw, Block, MuxState, PortState, ReceiveState, Received, Refusal, Settings, SystemId, Table, TableRef, FRAME,
+    RECORD,
 };
 
 const OURS: SystemId = SystemId { priority: 1, address: [0, 0, 0, 0, 0, 9] };
@@ -229,6 +230,24 @@ fn lent_memory() {
 }
 
 #[test]
+fn a_record_goes_as_far_as_it_fits() {
+    let mut table = Table::start(2, OURS, 0, &settings()).unwrap();
+    table.line(2, true, true).unwrap();
+    let table = table.as_octets();
+    let whole = &table[table.len() - RECORD..];
+    let zeros = &[0; RECORD][..];
+    for lent in 0..=80 {
+        for (table, port, answer, record) in [(table, 2, 0, whole), (table, 3, 2, zeros), (&table[1..], 2, 1, zeros)] {
+            let mut memory = [0xEE; 160];
+            assert_eq!(raw::report(raw::Report::Port { port }, table, &mut memory[..lent]).answer, answer);
+            let (written, kept) = memory.split_at(lent.min(RECORD));
+            assert_eq!(written, &record[..written.len()]);
+            assert!(kept.iter().all(|octet| *octet == 0xEE), "{lent} octets lent");
+        }
+    }
+}
+
+#[test]
 fn long_areas() {
     let mut table = Table::start(1, OURS, 0, &settings()).unwrap();
     table.line(1, true, true).unwrap();
@@ -238,6 +257,10 @@ fn long_areas() {
     let mut frame = lacpdu(1, &actor(&table, 1)).to_vec();
     frame.resize(1_000_000, 0xAA);
     assert_eq!(table.receive(1, &frame, &mut out), Ok(Received::Lacpdu));
+    let report = raw::Report::Port { port: 1 };
+    assert_eq!(raw::report(report, table.as_octets(), &mut out).answer, 0);
+    assert_eq!(out[..RECORD], table.as_octets()[table.as_octets().len() - RECORD..]);
+    assert!(out[FRAME..].iter().all(|octet| *octet == 0xFF));
 }
 
 #[test]

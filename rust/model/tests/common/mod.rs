@@ -80,7 +80,14 @@ impl Bench {
     }
 
     pub fn report(&self, report: Report) -> Outcome {
-        model::report(report, &self.memory)
+        model::report(report, &self.memory, &mut [])
+    }
+
+    /// The answer to the report of a port, and what so many octets, 0xEE before it, hold after it.
+    pub fn record(&self, n: u32, lent: usize) -> (u32, Vec<u8>) {
+        let mut record = vec![0xEE; lent];
+        let outcome = model::report(Report::Port { port: n }, &self.memory, &mut record);
+        (outcome.answer, record)
     }
 
     pub fn table(&self) -> Table {

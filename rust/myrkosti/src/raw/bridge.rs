@@ -50,7 +50,6 @@ impl Bridge {
 
     fn reply(&mut self, request: &Request) -> io::Result<Reply> {
         let mut outcome = Outcome { answer: self.number()?, sent: self.number()?, ..Outcome::UNTOUCHED };
-        self.replies.read_exact(&mut outcome.record)?;
         for figure in &mut outcome.aggregator {
             *figure = self.number()?;
         }
@@ -151,7 +150,7 @@ fn bridge() -> MutexGuard<'static, Option<Bridge>> {
     BRIDGE.lock().unwrap_or_else(PoisonError::into_inner)
 }
 
-/// Performs one call on this table, with this outgoing buffer if it has one.
+/// Performs one call on this table, with this outgoing buffer, or memory for a record, if it has one.
 pub fn perform(call: &Call, table: &mut [u8], out: &mut [u8]) -> Outcome {
     let Some(reply) = alone(call.clone(), table, out) else {
         return Outcome::refused(UNREACHABLE);
@@ -161,13 +160,17 @@ pub fn perform(call: &Call, table: &mut [u8], out: &mut [u8]) -> Outcome {
     reply.outcome
 }
 
-/// Performs a call that only reads this table.
-pub fn report(report: Report, table: &[u8]) -> Outcome {
-    alone(report.into(), table, &[]).map_or(Outcome::refused(UNREACHABLE), |reply| reply.outcome)
+/// Performs a call that only reads this table, with this memory for a record if it has one.
+pub fn report(report: Report, table: &[u8], record: &mut [u8]) -> Outcome {
+    let Some(reply) = alone(report.into(), table, record) else {
+        return Outcome::refused(UNREACHABLE);
+    };
+    copy_back(record, &reply.out);
+    reply.outcome
 }
 
-/// One call on copies of what is lent. The bridge copies all of it, so long areas are cut: no table, and no part of a frame or buffer
-/// that the library looks at, is longer.
+/// One call on copies of what is lent. The bridge copies all of it, so long areas are cut: no table, and no part of a frame, a buffer
+/// or memory for a record that the library looks at, is longer.
 fn alone(call: Call, table: &[u8], out: &[u8]) -> Option<Reply> {
     exchange(&[Request { call, table: cut(table).into(), out: cut(out).into() }]).ok()?.pop()
 }

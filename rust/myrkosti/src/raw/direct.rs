@@ -45,7 +45,7 @@ mod library {
             partner: *const u8,
         ) -> u32;
         pub fn myrkosti_fetch(table: *mut u8, table_len: usize, port: u32, out: *mut u8, out_len: usize) -> u32;
-        pub fn myrkosti_port(table: *const u8, table_len: usize, port: u32, record: *mut u8) -> u32;
+        pub fn myrkosti_port(table: *const u8, table_len: usize, port: u32, record: *mut u8, record_len: usize) -> u32;
         pub fn myrkosti_aggregator(
             table: *const u8,
             table_len: usize,
@@ -60,7 +60,7 @@ mod library {
     }
 }
 
-/// Performs a call on this table, with this outgoing buffer if it has one.
+/// Performs a call on this table, with this outgoing buffer, or memory for a record, if it has one.
 #[inline]
 pub fn perform(call: &Call, table: &mut [u8], out: &mut [u8]) -> Outcome {
     let mut outcome = Outcome::UNTOUCHED;
@@ -112,25 +112,26 @@ pub fn perform(call: &Call, table: &mut [u8], out: &mut [u8]) -> Outcome {
             Call::Fetch { port } => {
                 library::myrkosti_fetch(table.as_mut_ptr(), table.len(), *port, out.as_mut_ptr(), out.len())
             }
-            Call::Report(asked) => return report(*asked, table),
+            Call::Report(asked) => return report(*asked, table, out),
         }
     };
     outcome
 }
 
-/// Performs a call that only reads this table.
+/// Performs a call that only reads this table, with this memory for a record if it has one.
 #[inline]
-pub fn report(report: Report, table: &[u8]) -> Outcome {
+pub fn report(report: Report, table: &[u8], record: &mut [u8]) -> Outcome {
     let mut outcome = Outcome::UNTOUCHED;
     let [holding, attached, distributing, count, lowest] = &mut outcome.aggregator;
-    // SAFETY: `table` is readable for its whole length and not written; `record` is writable for the octets that the header names, and
-    // the five numbers of an aggregator and the set are different writable ones. Exclusive borrows overlap nothing. The library keeps
-    // no pointer after the call, and is defined for every content and number.
+    // SAFETY: `table` is readable for its whole length and not written; `record` is writable for its whole length, and the five numbers
+    // of an aggregator and the set are different writable ones. Exclusive borrows overlap nothing. A slice without octets has a pointer
+    // that is not null, and none of it is read or written. The library keeps no pointer after the call, and is defined for every
+    // content and number.
     outcome.answer = unsafe {
         match report {
             Report::TableSize { ports } => library::myrkosti_table_size(ports),
             Report::Port { port } => {
-                library::myrkosti_port(table.as_ptr(), table.len(), port, outcome.record.as_mut_ptr())
+                library::myrkosti_port(table.as_ptr(), table.len(), port, record.as_mut_ptr(), record.len())
             }
             Report::Aggregator { aggregator } => library::myrkosti_aggregator(
                 table.as_ptr(),

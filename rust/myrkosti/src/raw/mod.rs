@@ -1,8 +1,8 @@
 //! The calls of `include/myrkosti.h`: numbers and lent octets, slices for pointers and lengths.
 //!
 //! They answer the number that the library answers. What the header says of each holds here too: an answer other than 0 leaves the
-//! table and the outgoing buffer as they came, and `sent`, `record`, the five numbers of an aggregator and the set of what is due
-//! are written by every call that has them.
+//! table and the outgoing buffer as they came, and `sent`, as much of a record as fits, the five numbers of an aggregator and the set
+//! of what is due are written by every call that has them.
 //!
 //! [`perform`] takes one call, [`report`] one that only reads the table. [`perform_all`] takes many calls at once, each with its own
 //! memory, which is much faster where the library runs under an emulator.
@@ -23,8 +23,8 @@ mod machine;
 pub use calls::{Call, Outcome, Reply, Report, Request, SettingsArguments};
 pub use machine::{perform, report};
 
-/// Answered where the library could not be reached, which happens only under an emulator. Nothing was changed then, but what
-/// is written at every call is zero.
+/// Answered where the library could not be reached, which happens only under an emulator. Nothing that was lent is changed then, and
+/// the numbers beside the answer are zero.
 pub const UNREACHABLE: u32 = u32::MAX;
 
 /// The library could not be reached.
