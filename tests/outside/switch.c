@@ -166,7 +166,7 @@ static void do_fetch(void)
 static void do_port(void)
 {
     uint8_t record[MYRKOSTI_RECORD];
-    uint32_t answer = myrkosti_port(table, size, number(UINT32_MAX), record);
+    uint32_t answer = myrkosti_port(table, size, number(UINT32_MAX), record, sizeof record);
     say_octets(answer, record, sizeof record);
 }
 
