@@ -228,6 +228,7 @@ mod tests {
         let difference = comparison.run(1, Limit { calls: 20_000, time: Duration::MAX });
         assert!(difference.unwrap().is_none());
         assert!(comparison.tally.least_line() > 0, "{}", comparison.tally);
+        assert!(comparison.tally.least_lent() > 0, "{}", comparison.tally);
         assert!(comparison.said.sent.min(comparison.said.refused) > 100, "{}", comparison.said);
     }
 

@@ -1,6 +1,6 @@
 //! How many calls of each kind and each answer were compared.
 
-use crate::world;
+use crate::world::{self, RECORD};
 use calls::{Call, Reply, Report, Request, NAMES};
 use std::collections::BTreeMap;
 use std::fmt;
@@ -14,6 +14,8 @@ pub struct Tally {
     mux: [u64; 5],
     /// Accepted line calls, by the old and by the new values.
     lines: [[u64; 4]; 4],
+    /// Reports of a port, done and refused, by the octets lent for the record.
+    lent: [[u64; 4]; 2],
 }
 
 const LINES: [(&str, (bool, bool)); 4] = [
@@ -22,6 +24,9 @@ const LINES: [(&str, (bool, bool)); 4] = [
     ("down full", (false, true)),
     ("down half", (false, false)),
 ];
+
+/// Octets lent for a record.
+const LENT: [&str; 4] = ["0", "1 to 56", "57", "more"];
 
 impl Tally {
     /// Counts a call that was compared.
@@ -32,6 +37,10 @@ impl Tally {
         if let (Call::Line { port, up, full }, 0) = (&request.call, reply.outcome.answer) {
             let place = |line| LINES.iter().position(|(_, other)| *other == line).unwrap_or(0);
             self.lines[place(world::line_of(&request.table, *port))][place((*up, *full))] += 1;
+        }
+        if let Call::Report(Report::Port { .. }) = request.call {
+            let column = [0, RECORD - 1, RECORD].iter().filter(|most| request.out.len() > **most).count();
+            self.lent[usize::from(answer != 0)][column] += 1;
         }
         if reply.outcome.answer == 0 {
             for record in reply.table.get(11..).unwrap_or_default().chunks_exact(57) {
@@ -53,10 +62,25 @@ impl Tally {
         self.lines.iter().flatten().copied().min().unwrap_or(0)
     }
 
+    /// The least of the reports of a port, done and refused, by the octets lent.
+    #[cfg(test)]
+    pub fn least_lent(&self) -> u64 {
+        self.lent.iter().flatten().copied().min().unwrap_or(0)
+    }
+
     /// All calls compared.
     pub fn total(&self) -> u64 {
         self.counts.values().sum()
     }
+}
+
+/// A name, and four columns.
+fn row<T: fmt::Display>(f: &mut fmt::Formatter<'_>, name: &str, columns: [T; 4]) -> fmt::Result {
+    write!(f, "{name:<11}")?;
+    for column in columns {
+        write!(f, "{column:>14}")?;
+    }
+    writeln!(f)
 }
 
 impl fmt::Display for Tally {
@@ -76,17 +100,13 @@ impl fmt::Display for Tally {
             }
             writeln!(f)?;
         }
-        write!(f, "{:<11}", "line, from")?;
-        for (name, _) in LINES {
-            write!(f, "{:>14}", format!("to {name}"))?;
-        }
-        writeln!(f)?;
+        row(f, "line, from", LINES.map(|(name, _)| format!("to {name}")))?;
         for ((name, _), counts) in LINES.iter().zip(self.lines) {
-            write!(f, "  {name:<9}")?;
-            for count in counts {
-                write!(f, "{count:>14}")?;
-            }
-            writeln!(f)?;
+            row(f, &format!("  {name}"), counts)?;
+        }
+        row(f, "port, lent", LENT)?;
+        for (name, counts) in ["  done", "  refused"].iter().zip(self.lent) {
+            row(f, name, counts)?;
         }
         writeln!(f, "records after an answer 0, by receive state 0 to 5: {:?}", self.receive)?;
         writeln!(f, "  by periodic state 0 to 3: {:?}, by mux state 0 to 4: {:?}", self.periodic, self.mux)?;

@@ -60,11 +60,15 @@ pub enum Breakage {
     DueAtHalfDuplex,
     /// So is a port that three sends bar.
     DueBeyondThreeSends,
+    /// The octets lent behind a record are filled with zeros.
+    ZerosBehindRecord,
+    /// Memory that is too short for a whole record is left as it is.
+    ShortRecordUnwritten,
 }
 
 impl Breakage {
     /// Every breakage, with the name by which it is asked for.
-    pub const ALL: [(&'static str, Breakage); 27] = [
+    pub const ALL: [(&'static str, Breakage); 29] = [
         ("partners-timeout", Breakage::PartnersTimeout),
         ("compares-after-recording", Breakage::ComparesAfterRecording),
         ("expired-records-default", Breakage::ExpiredRecordsDefault),
@@ -92,6 +96,8 @@ impl Breakage {
         ("due-without-link", Breakage::DueWithoutLink),
         ("due-at-half-duplex", Breakage::DueAtHalfDuplex),
         ("due-beyond-three-sends", Breakage::DueBeyondThreeSends),
+        ("zeros-behind-record", Breakage::ZerosBehindRecord),
+        ("short-record-unwritten", Breakage::ShortRecordUnwritten),
     ];
 
     /// The breakage of that name.

@@ -324,10 +324,17 @@ fn record_of(memory: &[u8], n: u32) -> Result<[u8; RECORD], Refusal> {
     Ok(record)
 }
 
-/// Writes as much of a record as fits.
+/// Writes as much of a record as fits, and keeps what is behind it.
 fn put_record(lent: &mut [u8], record: &[u8; RECORD]) {
     let fits = lent.len().min(RECORD);
-    lent[..fits].copy_from_slice(&record[..fits]);
+    if fits < RECORD && breakage::is(Breakage::ShortRecordUnwritten) {
+        return;
+    }
+    let (written, kept) = lent.split_at_mut(fits);
+    written.copy_from_slice(&record[..fits]);
+    if breakage::is(Breakage::ZerosBehindRecord) {
+        kept.fill(0);
+    }
 }
 
 /// The ports that hold an aggregator, are attached to it and distribute; how many distribute, and the lowest of them.
