@@ -8,6 +8,11 @@ define internal void @lend(ptr %slice, ptr %octets, i64 %length) alwaysinline {
   ret void
 }
 
+define i32 @myrkosti_version() nounwind {
+  %version = call i32 @"myrkosti::myrkosti_version"()
+  ret i32 %version
+}
+
 define i32 @myrkosti_table_size(i32 %ports) nounwind {
   %answer = call i32 @"myrkosti::myrkosti_table_size"(i32 %ports)
   ret i32 %answer

@@ -81,6 +81,8 @@ pub enum Report {
     },
     /// The ports on which a fetch would be answered 0, none beside a refusal. Answers 0 or 1.
     Due,
+    /// The version of the interface, in place of an answer. Looks at no table.
+    Version,
 }
 
 /// Settings as the calls take them.
@@ -103,8 +105,8 @@ pub struct SettingsArguments {
 }
 
 /// The names of the calls, each at its number.
-pub const NAMES: [&str; 10] =
-    ["table_size", "start", "receive", "tick", "line", "settings", "fetch", "port", "aggregator", "due"];
+pub const NAMES: [&str; 11] =
+    ["table_size", "start", "receive", "tick", "line", "settings", "fetch", "port", "aggregator", "due", "version"];
 
 impl Call<'_> {
     /// The call's number: its place in [`NAMES`], and what the bridge knows it by.
@@ -120,6 +122,7 @@ impl Call<'_> {
             Call::Report(Report::Port { .. }) => 7,
             Call::Report(Report::Aggregator { .. }) => 8,
             Call::Report(Report::Due) => 9,
+            Call::Report(Report::Version) => 10,
         }
     }
 }
@@ -133,7 +136,7 @@ impl From<Report> for Call<'_> {
 /// What a call gives beside what it leaves in the lent memory.
 #[derive(Clone, Copy, Debug, PartialEq, Eq)]
 pub struct Outcome {
-    /// The answer, or the size.
+    /// The answer, or the size or version.
     pub answer: u32,
     /// `sent`, of a received frame.
     pub sent: u32,

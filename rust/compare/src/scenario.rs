@@ -363,6 +363,7 @@ impl Scenario {
             settings.partner[14] ^= random.of(&[0x08, 0x10, 0x18]);
         }
         let call = match random.below(10) {
+            0 if random.percent(10) => Report::Version.into(),
             0 if random.percent(80) => Report::TableSize { ports: random.below(40) }.into(),
             0 => Report::TableSize { ports: random.bits() as u32 }.into(),
             1 => match self.world.start(random) {

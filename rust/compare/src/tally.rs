@@ -31,8 +31,8 @@ const LENT: [&str; 4] = ["0", "1 to 56", "57", "more"];
 impl Tally {
     /// Counts a call that was compared.
     pub fn count(&mut self, request: &Request, reply: &Reply) {
-        let size = matches!(request.call, Call::Report(Report::TableSize { .. }));
-        let answer = if size { 0 } else { reply.outcome.answer };
+        let no_answer = matches!(request.call, Call::Report(Report::TableSize { .. } | Report::Version));
+        let answer = if no_answer { 0 } else { reply.outcome.answer };
         *self.counts.entry((request.call.number(), answer)).or_default() += 1;
         if let (Call::Line { port, up, full }, 0) = (&request.call, reply.outcome.answer) {
             let place = |line| LINES.iter().position(|(_, other)| *other == line).unwrap_or(0);

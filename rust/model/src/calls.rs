@@ -7,6 +7,9 @@ use crate::record::{self, Mux, Periodic, Port, Receive, Settings, Table, HEADER,
 use crate::wire::{self, Block, Frame, State, FRAME};
 use ::calls::{Call, Outcome, Report, SettingsArguments};
 
+/// The version of the interface that the model performs.
+const VERSION: u32 = 0x0100;
+
 /// Why a call was refused; the discriminants are the answer numbers.
 #[derive(Clone, Copy, Debug, PartialEq, Eq)]
 #[allow(missing_docs)]
@@ -76,6 +79,7 @@ pub fn report(report: Report, table: &[u8], lent: &mut [u8]) -> Outcome {
             outcome.due = ports.unwrap_or(0);
             number(ports)
         }
+        Report::Version => VERSION,
     };
     outcome
 }

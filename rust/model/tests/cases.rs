@@ -2,7 +2,7 @@
 
 mod common;
 
-use calls::Call;
+use calls::{Call, Outcome, Report};
 use common::{far, lacpdu, marker, set, Bench, ADDRESS, DELAY};
 use model::record::{Mux, Receive};
 use model::wire::FRAME;
@@ -178,6 +178,11 @@ fn a_response_as_laid_out() {
     expected.extend([0; 94]);
     expected.extend([0xEE; 2]);
     assert_eq!((out[..].to_vec(), outcome.sent, &t.memory), (expected, 124, &before));
+}
+
+#[test]
+fn version() {
+    assert_eq!(Bench { memory: Vec::new() }.report(Report::Version), Outcome { answer: 0x0100, ..Outcome::UNTOUCHED });
 }
 
 #[test]

@@ -4,7 +4,8 @@
  *
  * A batch is its length in octets (4), then its requests, one after the other. A request is
  *
- *    0       call: 0 table_size, 1 start, 2 receive, 3 tick, 4 line, 5 settings, 6 fetch, 7 port, 8 aggregator, 9 due
+ *    0       call: 0 table_size, 1 start, 2 receive, 3 tick, 4 line, 5 settings, 6 fetch, 7 port, 8 aggregator, 9 due,
+ *            10 version
  *    1       flags: bit 0 activity or up; bit 1 timeout or full; bit 2 aggregation
  *    2-5     ports, port or aggregator
  *    6-7     system priority          8-9     CollectorMaxDelay
@@ -158,6 +159,7 @@ static uint8_t *perform(const uint8_t **request, const uint8_t *end, uint8_t *re
     case 7: answer = myrkosti_port(table, table_len, n, out, out_len); break;
     case 8: answer = myrkosti_aggregator(table, table_len, n, &five[0], &five[1], &five[2], &five[3], &five[4]); break;
     case 9: answer = myrkosti_due(table, table_len, &due); break;
+    case 10: answer = myrkosti_version(); break;
     default: fail("no such call"); return reply;
     }
 

@@ -58,9 +58,32 @@ pub use calls::BLOCK;
 pub use record::{Block, MuxState, PeriodicState, PortState, ReceiveState, Record, Settings, SystemId};
 pub use table::{AggregatorReport, PortSet, Received, Table, TableRef};
 
+/// The version of the library's interface that this crate was written for.
+pub const VERSION: u32 = 0x0100;
 /// The most ports that a table has.
 pub const PORTS: u32 = 32;
 /// Octets of a port's record.
 pub const RECORD: usize = 57;
 /// Octets of every frame that the library writes, without FCS; an outgoing buffer has at least as many.
 pub const FRAME: usize = 124;
+
+/// The version of the library's interface. Its high octet changes when a program that was compiled for an earlier one no longer fits,
+/// its low octet when something is added: this crate fits a library whose high octet is that of [`VERSION`] and whose low octet is not
+/// lower.
+///
+/// ```
+/// # fn main() -> Result<(), myrkosti::Refusal> {
+/// let version = myrkosti::version()?;
+/// assert!(version >> 8 == myrkosti::VERSION >> 8 && version >= myrkosti::VERSION);
+/// # Ok(())
+/// # }
+/// ```
+///
+/// # Errors
+/// [`Refusal::Unreachable`].
+pub fn version() -> Result<u32, Refusal> {
+    match raw::report(raw::Report::Version, &[], &mut []).answer {
+        raw::UNREACHABLE => Err(Refusal::Unreachable),
+        version => Ok(version),
+    }
+}

@@ -1,8 +1,8 @@
-//! Every method of a table, with its refusals.
+//! Every method of a table, with its refusals, and the version.
 
 use myrkosti::{
-    raw, Block, MuxState, PortState, ReceiveState, Received, Refusal, Settings, SystemId, Table, TableRef, FRAME,
-    RECORD,
+    raw, version, Block, MuxState, PortState, ReceiveState, Received, Refusal, Settings, SystemId, Table, TableRef,
+    FRAME, RECORD, VERSION,
 };
 
 const OURS: SystemId = SystemId { priority: 1, address: [0, 0, 0, 0, 0, 9] };
@@ -46,6 +46,11 @@ fn marker(kind: u8) -> [u8; FRAME] {
 fn actor(table: &Table, port: u32) -> Block {
     let record = table.port(port).unwrap();
     Block { system: OURS, key: 1, port_priority: 1, port: port as u16, state: record.actor_state }
+}
+
+#[test]
+fn the_version_is_the_one_written_for() {
+    assert_eq!((version(), VERSION), (Ok(0x0100), 0x0100));
 }
 
 #[test]

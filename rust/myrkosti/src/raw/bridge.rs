@@ -113,7 +113,7 @@ fn arguments<'a>(call: &'a Call) -> Arguments<'a> {
             | Report::Port { port: number }
             | Report::Aggregator { aggregator: number },
         ) => Arguments { number, ..none },
-        Call::Report(Report::Due) => none,
+        Call::Report(Report::Due | Report::Version) => none,
     }
 }
 

@@ -4,6 +4,7 @@ use super::{Call, Outcome, Reply, Report, Request, Unreachable};
 
 mod library {
     extern "C" {
+        pub fn myrkosti_version() -> u32;
         pub fn myrkosti_table_size(ports: u32) -> u32;
         pub fn myrkosti_start(
             table: *mut u8,
@@ -144,6 +145,7 @@ pub fn report(report: Report, table: &[u8], record: &mut [u8]) -> Outcome {
                 lowest,
             ),
             Report::Due => library::myrkosti_due(table.as_ptr(), table.len(), &mut outcome.due),
+            Report::Version => library::myrkosti_version(),
         }
     };
     outcome
