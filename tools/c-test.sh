@@ -1,8 +1,39 @@
 #!/usr/bin/env bash
-# Builds tests/c/ against include/myrkosti.h and target/staticlib/libmyrkosti.a and runs it.
+# The C interface: builds tests/c/ and examples/ against include/myrkosti.h and target/staticlib/libmyrkosti.a, and runs them.
 set -eu
 cd "$(dirname "$0")/.."
 [ -f target/staticlib/libmyrkosti.a ] || rt staticlib myrkosti
 . tools/x86.sh
+
 compile tests/c/calls.c target/c/calls
 "${run[@]}" target/c/calls
+
+# The header in each language, with every warning that the compiler has for one of them and that says something of it.
+warnings=(-Wshadow -Wconversion -Wsign-conversion -Wcast-qual -Wcast-align=strict -Wundef -Wredundant-decls -Wlogical-op -Wduplicated-cond
+    -Wduplicated-branches -Wnull-dereference -Wdouble-promotion -Wformat=2 -Wswitch-enum -Wwrite-strings -Wunused-macros -Wfloat-equal -Winline)
+of_c=(-Wstrict-prototypes -Wmissing-prototypes -Wold-style-definition -Wbad-function-cast -Wnested-externs -Wc++-compat)
+of_cpp=(-Wold-style-cast -Wuseless-cast -Wzero-as-null-pointer-constant -Wextra-semi -Weffc++)
+for language in c99 c11 c17; do
+    compile tests/c/names.c target/c/names-$language -std=$language "${warnings[@]}" "${of_c[@]}"
+    echo -n "$language: "
+    "${run[@]}" target/c/names-$language
+done
+compile_cpp tests/c/names.c target/c/names-c++17 -std=c++17 "${warnings[@]}" "${of_cpp[@]}"
+echo -n 'c++17: '
+"${run[@]}" target/c/names-c++17
+
+# Every name of the header stands in a test.
+for name in $(sed 's|/\*.*\*/||' include/myrkosti.h | grep -o '\<MYRKOSTI_[A-Z_]*\>\|\<myrkosti_[a-z_]*\>(' | tr -d '(' | sort -u); do
+    [ "$name" = MYRKOSTI_H ] || grep -qw "$name" tests/c/*.c || { echo "failed: no test names $name" && exit 1; }
+done
+
+compile tests/c/guide.c target/c/guide
+"${run[@]}" target/c/guide
+
+# The example, and what its chip is told.
+compile examples/loop.c target/c/loop examples/stand_in.c "${warnings[@]}" "${of_c[@]}"
+"${run[@]}" target/c/loop > target/c/loop.txt
+diff examples/loop.txt target/c/loop.txt
+echo 'examples/loop.c: as in examples/loop.txt'
+
+tools/longer-record.sh

@@ -1,13 +1,14 @@
 #!/usr/bin/env bash
-# For a machine that is no x86-64: compiles the library for this machine into target/bench/native/libmyrkosti.a, to be measured there, and
-# for nothing else. The kit builds for x86-64 alone, so the module is caught on its way: `rt try` compiles a program without its proofs and
+# native.sh [CRATES WORK]: compiles the library of the folder CRATES, without its proofs, for the machine at hand into WORK/libmyrkosti.a: to measure
+# it where that is no x86-64 (target/bench/native), or to try one that is changed, and for nothing else. The kit builds for x86-64 alone, so the module is caught on its way: `rt try` compiles a program without its proofs and
 # calls the kit's clang, and a stand-in for that clang keeps the module. The program is crates/myrkosti with an empty main.
 # The module is also compiled for x86-64, into x86-64.o, to be held against the archive.
 set -eu
 cd "$(dirname "$0")/../.."
 home=${RATTLE_HOME:-$(dirname "$(dirname "$(readlink -f "$(command -v rt)")")")}
 machine=$(uname -m)
-work=$PWD/target/bench/native
+crates=${1:-$PWD/crates}
+work=${2:-$PWD/target/bench/native}
 clang=$home/on/$machine/toolchain/bin/clang
 
 # Links in DIR to everything in FROM but NAME.
@@ -32,9 +33,9 @@ END
 chmod +x "$kit/on/$machine/toolchain/bin/clang"
 
 repository=$work/repository
-links_but myrkosti "$PWD/crates" "$repository/crates"
+links_but myrkosti "$crates" "$repository/crates"
 mkdir -p "$repository/crates/myrkosti/src"
-{ cat crates/myrkosti/src/lib.rt; printf '\nfn main()\n{\n}\n'; } > "$repository/crates/myrkosti/src/main.rt"
+{ cat "$crates/myrkosti/src/lib.rt"; printf '\nfn main()\n{\n}\n'; } > "$repository/crates/myrkosti/src/main.rt"
 cp crates.txt "$repository/"
 (cd "$repository" && RATTLE_HOME=$kit rt try myrkosti > "$work/try.log" 2>&1) || { cat "$work/try.log" >&2; exit 1; }
 

@@ -1,0 +1,120 @@
+/*
+ * A program of this header with a library whose record is longer than the header knows (tools/longer-record.sh). All memory that it lends is from the
+ * heap and just as long as it says, so that a checker of memory sees an octet that is touched beyond it. With the word `short` it lends less than it
+ * says for a record, which the checker must see.
+ */
+#include "myrkosti.h"
+
+#include "check.h"
+#include "neighbour.h"
+
+#include <stdlib.h>
+#include <string.h>
+
+enum { PORTS = 3, HEARD = 2 };
+
+static const uint8_t ADDRESS[6] = {2, 0, 0, 0, 0, 0xa};
+static const struct myrkosti_system THEM = {{0, 0, 0, 0, 0, 5}, 1, 0};
+
+static size_t size, longer; /* the octets of the library's table and record */
+static uint8_t *table;
+
+static void *lend(size_t length)
+{
+    void *memory = malloc(length);
+    if (memory == NULL)
+        exit(2);
+    return memory;
+}
+
+/* the record as this header knows it, held against the table; to be freed */
+static uint8_t *look(uint32_t port)
+{
+    uint8_t *record = lend(MYRKOSTI_RECORD);
+    IS(myrkosti_port(table, size, port, record, MYRKOSTI_RECORD), MYRKOSTI_DONE);
+    IS(memcmp(record, table + MYRKOSTI_HEADER + longer * (port - 1), MYRKOSTI_RECORD), 0);
+    return record;
+}
+
+static uint8_t field(uint32_t port, unsigned at)
+{
+    uint8_t *record = look(port);
+    const uint8_t octet = record[at];
+    free(record);
+    return octet;
+}
+
+/* what the library appended is there for a program that lends more, and nothing is written behind it */
+static void look_at_the_whole(void)
+{
+    static const uint8_t BEHIND[4] = {0xe1, 0xe2, 0xe3, 0xe4};
+    for (size_t length = 0; length < longer + 9; length++) {
+        uint8_t *record = lend(length + 1);
+        memset(record, 0xa5, length + 1);
+        IS(myrkosti_port(table, size, 1, record, length), MYRKOSTI_DONE);
+        for (size_t i = 0; i < length + 1; i++) {
+            IS(record[i], i >= length || i >= longer ? 0xa5 : i < MYRKOSTI_RECORD ? table[MYRKOSTI_HEADER + i] : BEHIND[i - MYRKOSTI_RECORD]);
+        }
+        free(record);
+    }
+}
+
+static void hear(void)
+{
+    const struct myrkosti_system us = myrkosti_usual_system(ADDRESS);
+    uint8_t *record = look(HEARD), *frame = lend(MYRKOSTI_FRAME), *out = lend(MYRKOSTI_FRAME);
+    uint8_t theirs[MYRKOSTI_BLOCK], ours[MYRKOSTI_BLOCK];
+    uint32_t sent;
+    put_ours(ours, &us, HEARD, record);
+    put_ours(theirs, &THEM, 1, record);
+    theirs[MYRKOSTI_BLOCK_STATE] = 0x3f;
+    put_lacpdu(frame, theirs, ours);
+    IS(myrkosti_receive(table, size, HEARD, frame, MYRKOSTI_FRAME, out, MYRKOSTI_FRAME, &sent), MYRKOSTI_DONE);
+    free(record);
+    free(frame);
+    free(out);
+}
+
+/* port 2 up to DISTRIBUTING, and what it says on the way */
+static void carry(void)
+{
+    uint8_t *out = lend(MYRKOSTI_FRAME);
+    uint32_t ports, holding, attached, distributing, count, lowest;
+    IS(myrkosti_line(table, size, HEARD, true, true), MYRKOSTI_DONE);
+    hear();
+    for (int ticks = 0; ticks < 20; ticks++) {
+        IS(field(HEARD, MYRKOSTI_AT_MUX), MYRKOSTI_MUX_WAITING);
+        IS(myrkosti_tick(table, size), MYRKOSTI_DONE);
+    }
+    IS(field(HEARD, MYRKOSTI_AT_MUX), MYRKOSTI_MUX_DISTRIBUTING);
+    IS(field(HEARD, MYRKOSTI_AT_PARTNER + MYRKOSTI_BLOCK_SYSTEM + 5), 5);
+    IS(myrkosti_due(table, size, &ports), MYRKOSTI_DONE);
+    IS(ports, 2);
+    IS(myrkosti_fetch(table, size, HEARD, out, MYRKOSTI_FRAME), MYRKOSTI_DONE);
+    IS(myrkosti_aggregator(table, size, 2, &holding, &attached, &distributing, &count, &lowest), MYRKOSTI_DONE);
+    IS(distributing, 2);
+    free(out);
+}
+
+int main(int words, char **word)
+{
+    const struct myrkosti_system us = myrkosti_usual_system(ADDRESS);
+    const struct myrkosti_port_settings settings = myrkosti_usual_settings(ADDRESS, 0x1122);
+    size = myrkosti_table_size(PORTS);
+    longer = (size - MYRKOSTI_HEADER) / PORTS;
+    IS(longer, MYRKOSTI_RECORD + 4);
+    IS(myrkosti_version(), MYRKOSTI_VERSION + 1);
+    IS(myrkosti_fits(), true);
+    table = lend(size);
+    IS(myrkosti_start_with(table, MYRKOSTI_TABLE(PORTS), PORTS, &us, &settings), MYRKOSTI_TABLE_WRONG);
+    IS(myrkosti_start_with(table, size, PORTS, &us, &settings), MYRKOSTI_DONE);
+    look_at_the_whole();
+    carry();
+    if (words > 1 && strcmp(word[1], "short") == 0) {
+        uint8_t *record = lend(MYRKOSTI_RECORD - 1);
+        myrkosti_port(table, size, 1, record, MYRKOSTI_RECORD);
+        free(record);
+    }
+    free(table);
+    return finish("a longer record");
+}

@@ -1,0 +1,52 @@
+#!/usr/bin/env bash
+# longer-record.sh: what a program of today does with a library of tomorrow. Builds the library with four octets more behind each record and the next
+# version, without its proofs, and runs tests/c/longer.c with it under valgrind: it reads its 57 octets and nothing is touched beyond what was lent. Then
+# two trials that must be seen: memory that is shorter than the program says, and headers of which the library has not all.
+set -eu
+cd "$(dirname "$0")/.."
+tools/install.sh valgrind valgrind
+work=$PWD/target/c/longer
+rm -rf "$work"
+mkdir -p "$work"
+cp -r crates "$work/crates"
+
+# change FILE OLD NEW: in a file of the copy, where OLD stands once
+change() {
+    local file=$work/crates/$1
+    [ "$(grep -cF -- "$2" "$file")" = 1 ] || { echo "$1: not one place for: $2" >&2; exit 1; }
+    python3 - "$file" "$2" "$3" << 'END'
+import pathlib, sys
+file, old, new = sys.argv[1:]
+path = pathlib.Path(file)
+path.write_text(path.read_text().replace(old, new))
+END
+}
+change table/src/layout.rt 'RECORD: usize = 57;' 'RECORD: usize = 61;'
+change table/src/record.rt 'partner.write(&mut out[42..RECORD]);' \
+    'partner.write(&mut out[42..57]); out[57] = 0xe1; out[58] = 0xe2; out[59] = 0xe3; out[60] = 0xe4;'
+change table/src/record.rt 'Block::read(&s[42..RECORD])' 'Block::read(&s[42..57])'
+change myrkosti/src/lib.rt '    0x0100' '    0x0101'
+tools/bench/native.sh "$work/crates" "$work/native"
+
+# build HEADERS SOURCE PROGRAM
+build() { cc -std=c11 -Wall -Wextra -Wpedantic -Werror -g "-I$1" -Itests/c "$2" "$work/native/libmyrkosti.a" -o "$3"; }
+checked() { valgrind --quiet --error-exitcode=9 "$@"; }
+build include tests/c/longer.c "$work/longer"
+checked "$work/longer"
+if checked "$work/longer" short > "$work/short.log" 2>&1; then
+    echo 'failed: an octet behind the memory lent was not seen' && exit 1
+fi
+grep -q 'Invalid write of size 1' "$work/short.log"
+
+# fits VERSION: what myrkosti_fits says to a program whose header has this version
+fits() {
+    mkdir -p "$work/$1"
+    sed "s/\(#define MYRKOSTI_VERSION\) .*/\1 $1/" include/myrkosti.h > "$work/$1/myrkosti.h"
+    printf '#include "myrkosti.h"\nint main(void) { return myrkosti_fits() ? 0 : 1; }\n' > "$work/fits.c"
+    build "$work/$1" "$work/fits.c" "$work/fits"
+    "$work/fits"
+}
+if ! fits 0x0100 || ! fits 0x0101 || fits 0x0102 || fits 0x0001 || fits 0x0200; then
+    echo 'failed: what fits' && exit 1
+fi
+echo 'a longer record: memory that is too short is seen, and so are headers that do not fit'
