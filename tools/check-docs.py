@@ -73,7 +73,7 @@ TESTS = {
     "witness": lambda name: has("crates/claims/specs/Witness.antt", rf"^  pub {name} :"),
     "breakage": lambda name: has("rust/model/src/breakage.rs", rf'"{name}"'),
     "model": lambda name: has("rust/model/tests/*.rs", rf"^fn {name}\("),
-    "C": lambda name: has("tests/c/calls.c", rf"\b{name}\("),
+    "C": lambda name: has("tests/c/*.c", rf"\b{name}\("),
 }
 
 

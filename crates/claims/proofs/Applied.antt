@@ -15,19 +15,22 @@ use Rattle.port.specs.Compared.{compared}
 use Rattle.table.specs.Range.{headerFits}
 use Rattle.table.specs.Table.{countIn, ports, portAt, ours}
 use Rattle.trunk.specs.Selection.{sharesGroup}
-use Rattle.control.specs.Call.{Call, receive, line, configure}
+use Rattle.control.specs.Call.{Call, receive, tick, line, configure}
 use Rattle.control.specs.After.{answer, after}
 use Rattle.claims.specs.Run.{Takes, AllTake, run, Made}
 use Rattle.claims.specs.Locality.{touches, Apart}
 use Rattle.claims.specs.LivePartner.{ends, NoneEnds}
+use Rattle.claims.specs.ThreeSends.{ticksIn, NoneStarts}
 use Rattle.claims.specs.Applied.{Applied}
 use Rattle.claims.specs.Speakers.{system, noDelay, settings, keyedSettings, downFull}
-use Rattle.claims.specs.Witness.{hears, said, memory, begun, trunk, other, parts, parted, narrowed, fallen, rekeyed, threeGroups, elsewhere, plugsOver, pluggedOver, twoLags, linked, question, further, since, lent, every, apartFrom, isApart, noneEnds}
-use Rattle.claims.proofs.Calls.{made-start, made-call}
+use Rattle.claims.specs.Witness.{hears, said, ticks, memory, begun, trunk, other, parts, parted, narrowed, fallen, rekeyed, threeGroups, elsewhere, plugsOver, pluggedOver, twoLags, linked, question, further, since, lent, every, apartFrom, isApart, noneEnds}
+use Rattle.claims.proofs.Calls.{made-start, made-call, never-stuck}
+use Rattle.claims.proofs.Counts.{call-count}
 use Rattle.claims.proofs.Locality.{locality}
 use Rattle.claims.proofs.LivePartner.{live-partner}
 use Rattle.claims.proofs.Carries.{waiting-for-someone, register-adds-up}
 use Rattle.claims.proofs.Moves.{one-aggregator, moved-forgets}
+use Rattle.claims.proofs.Unseen.{no-move-unseen}
 use Rattle.claims.proofs.Thinner.{thinner-for-a-reason}
 use Rattle.claims.proofs.Spoke.{lacpdu-is, partner-spoke}
 use Rattle.claims.proofs.Witness.{isOctet, octets, received-takes, ticks-take, witness}
@@ -125,12 +128,31 @@ trunk-count i h = rw (count-is (hears 1 1 0x3F) trunk 2 (witness .apart-received
 three-count : (i : ℕ) → i < 3 → i < countIn threeGroups
 three-count i h = rw (count-is plugsOver threeGroups 1 (witness .apart-displaced)) h
 
+parted-made : Made parted
+unfolding parted
+parted-made = made-call trunk (witness .made) parts parts-takes
+
+-- ticks are no starts
+ticks-only : (n : ℕ) (t : List ℕ) → NoneStarts t (ticks n [])
+unfolding ticks
+ticks-only zero t = tt
+ticks-only (suc n) t = (refl, ticks-only n (after tick t))
+
+nineteen : ticksIn (ticks 19 []) < 20
+unfolding ticks ticksIn
+nineteen = omega arith
+
 -- ---- the theorems
 
 pub applied : Applied
 unfolding parted narrowed fallen rekeyed pluggedOver every ownFits blockFits
 applied =
     let made = witness .made in
+    let moved =
+    one-aggregator trunk made parts parts-takes 1 (trunk-count 1 (omega arith))
+    (λ e. let was : portAt trunk 1 .aggregator ≡ 1 = ap (λ (l : List ℕ). getD l 1 0) (witness .held) in
+    let is : portAt parted 1 .aggregator ≡ 2 = ap (λ (l : List ℕ). getD l 1 0) (witness .moved-over) in
+    let z : _≡_ {A = ℕ} 2 1 = sym is ∙ e ∙ was in absurd (omega arith)) in
     let over = moved-forgets threeGroups three-made 3 elsewhere (zeros frameSize) over-takes (lacpdu-is (answer plugsOver threeGroups) (witness .heard-elsewhere)) in
     record {
       received-local = locality trunk made (hears 1 1 0x3F) (received-takes 1 1 0x3F refl) 2 (trunk-count 2 (omega arith)) (all-apart (hears 1 1 0x3F) trunk 2 (witness .apart-received));
@@ -144,11 +166,10 @@ applied =
           (lacpdu-is (answer (hears 1 1 0x3F) linked) (witness .heard)) since since-takes (none-ends (after (hears 1 1 0x3F) linked) 0 since (witness .none-ends));
       held = waiting-for-someone trunk made 2 (trunk-count 2 (omega arith)) (ap (λ (l : List Bool). getD l 2 true) (witness .waiting));
       register = register-adds-up twoLags lags-made;
-      moved =
-          one-aggregator trunk made parts parts-takes 1 (trunk-count 1 (omega arith))
-          (λ e. let was : portAt trunk 1 .aggregator ≡ 1 = ap (λ (l : List ℕ). getD l 1 0) (witness .held) in
-          let is : portAt parted 1 .aggregator ≡ 2 = ap (λ (l : List ℕ). getD l 1 0) (witness .moved-over) in
-          let z : _≡_ {A = ℕ} 2 1 = sym is ∙ e ∙ was in absurd (omega arith));
+      moved = moved;
+      waits-on =
+          no-move-unseen parted parted-made (ticks 19 []) (ticks-take 19 [] tt) (ticks-only 19 parted) nineteen 1
+          (rw (call-count trunk (never-stuck trunk made) parts) (trunk-count 1 (omega arith))) .waits-on (moved .begins);
       forgotten = over 0 (three-count 0 (omega arith)) (λ e. omega (arith, e)) .displaced (ap (λ (l : List Bool). getD l 0 false) (witness .displaced));
       resettled = over 1 (three-count 1 (omega arith)) (λ e. omega (arith, e)) .others (ap (λ (l : List Bool). getD l 1 true) (witness .displaced));
       thinner =

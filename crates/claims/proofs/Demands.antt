@@ -18,6 +18,7 @@ use Rattle.claims.proofs.LineCall.{line-taken, line-repeated, half-sile
 use Rattle.claims.proofs.Reports.{port-true, aggregator-true, due-true}
 use Rattle.claims.proofs.Carries.{distributing-given, waiting-for-someone, register-adds-up}
 use Rattle.claims.proofs.Moves.{one-aggregator, moved-forgets}
+use Rattle.claims.proofs.Unseen.{no-move-unseen}
 use Rattle.claims.proofs.Thinner.{thinner-for-a-reason}
 use Rattle.claims.proofs.Spoke.{partner-spoke}
 use Rattle.claims.proofs.ReadBack.{read-back}
@@ -73,6 +74,7 @@ further = record {
   distributing-given = distributing-given;
   waiting-for-someone = waiting-for-someone;
   one-aggregator = one-aggregator;
+  no-move-unseen = no-move-unseen;
   thinner-for-a-reason = thinner-for-a-reason;
   lag-has-group = lag-has-group;
 }

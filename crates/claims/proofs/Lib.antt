@@ -15,6 +15,7 @@ pub mod Carries
 pub mod ReadBack
 pub mod Course
 pub mod Moves
+pub mod Unseen
 pub mod Thinner
 pub mod Spoke
 pub mod Demands

@@ -1,6 +1,9 @@
 -- Theorems applied to the run of the witness: each of these follows from one of them and from what the witness computes. So a theorem whose
 -- premises are hardly ever met, because `touches`, `ends` or a test of groups is too wide, is noticed.
 use mathlib.Core.Path.{_≡_}
+use mathlib.Core.Bool.{true}
+use mathlib.Core.List.{[]}
+use Rattle.machine.specs.Mux.{waits}
 use Rattle.table.specs.Table.{portAt}
 use Rattle.control.specs.After.{after}
 use Rattle.claims.specs.Run.{run}
@@ -9,7 +12,7 @@ use Rattle.claims.specs.LivePartner.{Live}
 use Rattle.claims.specs.Moves.{MovedOver, Forgotten, Resettled}
 use Rattle.claims.specs.Spoke.{Spoke}
 use Rattle.claims.specs.Thinner.{Why}
-use Rattle.claims.specs.Witness.{said, hears, trunk, parts, fallen, rekeyed, threeGroups, pluggedOver, twoLags, linked, since}
+use Rattle.claims.specs.Witness.{said, hears, ticks, trunk, parts, parted, fallen, rekeyed, threeGroups, pluggedOver, twoLags, linked, since}
 
 pub record Applied : Type 0 where
   -- `locality`: port 3 in calls that name port 1 or 2, and port 2 where port 3 hears the partner of port 1
@@ -24,6 +27,8 @@ pub record Applied : Type 0 where
   pub register : Register twoLags
   -- `one-aggregator`: port 2, which port 1 leaves
   pub moved : MovedOver parts trunk 1
+  -- `no-move-unseen`: it waits for nineteen ticks at least
+  pub waits-on : waits (portAt (run parted (ticks 19 [])) 1 .phase .mux) ≡ true
   -- `moved-forgets`: port 1, and port 2 beside it
   pub forgotten : Forgotten (portAt threeGroups 0) (portAt pluggedOver 0)
   pub resettled : Resettled (portAt threeGroups 1) (portAt pluggedOver 1)

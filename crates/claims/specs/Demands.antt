@@ -27,7 +27,7 @@ use Rattle.claims.specs.LivePartner.{LivePartner}
 use Rattle.claims.specs.ThreeSends.{ThreeSends, FourSendsApart}
 use Rattle.claims.specs.LineCall.{LineTaken, LineRepeated, HalfSilent, StaysSilent}
 use Rattle.claims.specs.Reports.{PortTrue, AggregatorTrue, DueTrue}
-use Rattle.claims.specs.Moves.{OneAggregator, MovedForgets}
+use Rattle.claims.specs.Moves.{OneAggregator, NoMoveUnseen, MovedForgets}
 use Rattle.claims.specs.Thinner.{ThinnerForAReason}
 use Rattle.claims.specs.Spoke.{PartnerSpoke}
 use Rattle.claims.specs.Carries.{DistributingGiven, WaitingForSomeone, RegisterAddsUp}
@@ -110,8 +110,10 @@ pub record Further : Type 0 where
   pub bits-true : BitsTrue
   pub distributing-given : DistributingGiven
   pub waiting-for-someone : WaitingForSomeone
-  -- who gets another aggregator is detached from the old one first, and waits; who stops carrying does so for one of seven reasons
+  -- who gets another aggregator is detached from the old one first, and waits, so no such move is missed by a look in every two seconds; who stops
+  -- carrying does so for one of seven reasons
   pub one-aggregator : OneAggregator
+  pub no-move-unseen : NoMoveUnseen
   pub thinner-for-a-reason : ThinnerForAReason
   -- one LAG ID is one group, but for links from this system to itself
   pub lag-has-group : LagHasGroup

@@ -20,8 +20,9 @@ use Rattle.trunk.specs.Displaced.{isDisplaced}
 use Rattle.control.specs.declared.answer.Answer.the-variants.{Lacpdu}
 use Rattle.control.specs.Call.{Call, receive}
 use Rattle.control.specs.After.{answer, after}
-use Rattle.claims.specs.Run.{Takes, Made}
+use Rattle.claims.specs.Run.{Takes, AllTake, run, Made}
 use Rattle.claims.specs.Claims.{isStart}
+use Rattle.claims.specs.ThreeSends.{ticksIn, NoneStarts}
 
 -- a port begins to wait: it is not attached, and its timer has just been started
 pub record Begins (p : Port) : Type 0 where
@@ -43,6 +44,15 @@ pub record MovedOver (c : Call) (t : List ℕ) (i : ℕ) : Type 0 where
 abbrev pub OneAggregator : Type 0
 OneAggregator = (t : List ℕ) → Made t → (c : Call) → Takes c → (i : ℕ) → i < countIn t
     → portAt (after c t) i .aggregator ≢ portAt t i .aggregator → MovedOver c t i
+
+-- 17: along calls with fewer ticks among them than aggregate_wait_time has, who begins to wait goes on waiting; so who does not wait after them holds
+-- what it held before them, and all along
+pub record Unmoved (t : List ℕ) (cs : List Call) (i : ℕ) : Type 0 where
+  pub waits-on : Begins (portAt t i) → waits (portAt (run t cs) i .phase .mux) ≡ true
+  pub held : waits (portAt (run t cs) i .phase .mux) ≡ false → portAt (run t cs) i .aggregator ≡ portAt t i .aggregator
+
+abbrev pub NoMoveUnseen : Type 0
+NoMoveUnseen = (t : List ℕ) → Made t → (cs : List Call) → AllTake cs → NoneStarts t cs → ticksIn cs < aggregateWaitTime → (i : ℕ) → i < countIn t → Unmoved t cs i
 
 -- ---- an accepted LACPDU, and the ports that it does not name
 

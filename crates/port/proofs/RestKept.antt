@@ -18,7 +18,7 @@ use Rattle.machine.specs.declared.receive.ReceiveStep.the-variants.{Stay, Enter
 use Rattle.machine.specs.Ages.{agesTicked}
 use Rattle.machine.specs.Compare.{sameParty, sameView}
 use Rattle.machine.specs.Receive.{isDisabled, receiveNext}
-use Rattle.machine.specs.Time.{slowPeriodicTime, ranOut, timeoutTime}
+use Rattle.machine.specs.Time.{slowPeriodicTime, ranOut, timeoutTime, fallen}
 use Rattle.port.specs.declared.record.Port.{Port}
 use Rattle.port.specs.Record.{withLine, withNtt, actorBlock}
 use Rattle.port.specs.Receive.{recordDefault, recordPdu, updateSelected, updateDefaultSelected, updateNtt, unselected, initialized, portDisabled, expired, lacpDisabled, defaulted, pduRecorded, current, receiveEntered, receiveTaken, receiveChoice, receiveStep, receiveRun, moved, received, down, lined}
@@ -418,6 +418,18 @@ seatOf v = record { mux = v .mux .state; aggregator = v .aggregator }
 
 pub aside-seat : (p q : Port) → aside q ≡ aside p → seat q ≡ seat p
 aside-seat p q e = ap (λ (v : AsidePart). seatOf v) e
+
+-- nor do they touch the wait timer, but for a tick
+pub aside-wait : (p q : Port) → aside q ≡ aside p → q .timers .wait ≡ p .timers .wait
+aside-wait p q e = ap (λ (v : AsidePart). v .mux .timer) e
+
+ticked-wait : (p : Port) → ticked p .timers .wait ≡ fallen (p .timers .wait)
+unfolding ticked
+ticked-wait p = refl
+
+pub advanced-wait : (p : Port) → advanced p .timers .wait ≡ fallen (p .timers .wait)
+unfolding advanced
+advanced-wait p = aside-wait (ticked p) (receiveRun (ticked p)) (run-aside (ticked p)) ∙ ticked-wait p
 
 ticked-seat : (p : Port) → seat (ticked p) ≡ seat p
 unfolding ticked

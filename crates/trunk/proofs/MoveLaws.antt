@@ -11,7 +11,7 @@ use Rattle.frame.specs.declared.block.Block.{Block}
 use Rattle.machine.specs.declared.states.Mux.the-variants.{Waiting}
 use Rattle.machine.specs.declared.states.Selection.the-variants.{Selected}
 use Rattle.machine.specs.Mux.{waits}
-use Rattle.machine.specs.Time.{aggregateWaitTime}
+use Rattle.machine.specs.Time.{aggregateWaitTime, ranOut}
 use Rattle.port.specs.declared.record.Port.{Port}
 use Rattle.port.specs.Record.{withAggregator, withSelected}
 use Rattle.port.specs.Compared.{compared}
@@ -24,7 +24,7 @@ use Rattle.trunk.specs.Selection.{ruleOf}
 use Rattle.trunk.specs.Ready.{holdsBack, ready}
 use Rattle.trunk.specs.Displaced.{displacedIf, displaced}
 use Rattle.trunk.specs.Settled.{mustMove, reselected, selectedAll, muxed, settled}
-use Rattle.trunk.proofs.ReadyLaws.{attached-other, attached-stays}
+use Rattle.trunk.proofs.ReadyLaws.{attached-other, attached-stays, waits-own}
 use Rattle.trunk.proofs.SettledLaws.{muxed-holds, attached-holds, selected-at, selected-chosen, selected-length, settled-at}
 use Rattle.trunk.proofs.RestLaws.{waiting-muxed, entered-holds, some-holds, held-unready}
 
@@ -46,6 +46,11 @@ placed-waiting k p = ap (λ (x : Port). waits (x .phase .mux)) (placed-waits k p
 placed-holds : (k : ℕ) (p : Port) → holdsBack k (placed k (detached p)) ≡ true
 placed-holds k p =
     ap (λ (x : Port). holdsBack k x) (placed-waits k p) ∙ entered-holds (withSelected (withAggregator (detached p) k) Selected)
+
+-- so does any port that waits with its timer running
+waiting-holds : (p : Port) → waits (p .phase .mux) ≡ true → ranOut (p .timers .wait) ≡ false → holdsBack (p .aggregator) p ≡ true
+unfolding holdsBack
+waiting-holds p w out = rw (waits-own p w, out)
 
 placed-aggregator : (k : ℕ) (p : Port) → placed k (detached p) .aggregator ≡ k
 placed-aggregator k p = ap (λ (x : Port). x .aggregator) (placed-waits k p)
@@ -80,6 +85,21 @@ module _ (ours : Header) (ps : List Port) (i : ℕ) (d : Port) (h : i < length p
       let is : then ≡ getD ps i d = selected-at ours ps i d h ∙ reselected-keeps rule (getD ps i d) e in
       settled-at ours ps i d h
       ∙ ap muxed (attached-other (ready (then .aggregator) (selectedAll ours ps)) then (rw is w)) ∙ ap muxed is
+
+  -- one that need not move and waits with its timer running goes on waiting
+  pub settled-waits : mustMove (ruleOf ours (map compared ps) i) (getD ps i d) ≡ false → waits (getD ps i d .phase .mux) ≡ true
+      → ranOut (getD ps i d .timers .wait) ≡ false → getD (settled ours ps) i d ≡ nttCleared (getD ps i d)
+  unfolding rule then
+  settled-waits e w out =
+      let ss = selectedAll ours ps in
+      let is : then ≡ getD ps i d = selected-at ours ps i d h ∙ reselected-keeps rule (getD ps i d) e in
+      let waiting : waits (then .phase .mux) ≡ true = rw is w in
+      let chosen = selected-chosen ours ps i d h in
+      let holds : holdsBack (then .aggregator) then ≡ true = waiting-holds then waiting (rw is out) in
+      let unready : ready (then .aggregator) ss ≡ false =
+      held-unready (then .aggregator) ss (some-holds (then .aggregator) ss i d (rw (selected-length ours ps) h) holds) in
+      settled-at ours ps i d h ∙ ap (λ (b : Bool). muxed (attachedIf b then)) unready ∙ ap muxed (attached-stays then waiting chosen)
+      ∙ waiting-muxed then waiting chosen ∙ ap nttCleared is
 
   -- one that need not move holds what it held
   pub settled-held : mustMove (ruleOf ours (map compared ps) i) (getD ps i d) ≡ false → getD (settled ours ps) i d .aggregator ≡ getD ps i d .aggregator
