@@ -14,13 +14,16 @@ use borrow.Author.Tests.{eqb-true, eqb-false}
 use Rattle.octets.specs.Octets.{putAt}
 use Rattle.octets.proofs.RangeLaws.{both}
 use Rattle.octets.proofs.Laws.{over, over-put, over-all, put-append, put-part}
+use Rattle.port.specs.declared.record.Port.{Port}
 use Rattle.table.specs.Layout.{place}
-use Rattle.table.specs.Table.{countIn, portAt, tableInRange}
+use Rattle.table.specs.Record.{decoded}
+use Rattle.table.proofs.StoreLaws.{port-decoded}
+use Rattle.table.specs.Table.{countIn, portAt, recordAt, decodedAt}
 use Rattle.churn.specs.declared.Stage.{Stage}
 use Rattle.churn.specs.declared.watch.Monitors.{Monitors}
 use Rattle.churn.specs.Churn.{watching}
 use Rattle.churn.specs.Group.{groupSize, groupOctets, groupOf, groupInRange}
-use Rattle.churn.specs.Whole.{groupPlace, wholeSize, baseOf, groupAt, monitorsAt, groupsTo, withMonitors, groupsInRange, Watchable, prepared, watchedAt, watchedAll}
+use Rattle.churn.specs.Whole.{groupPlace, wholeSize, baseOf, groupAt, monitorsAt, groupsTo, withMonitors, groupsInRange, prepared, watchedAt, watchedAll}
 
 pub group-length : (m : Monitors) → length (groupOctets m) ≡ groupSize
 unfolding groupOctets
@@ -129,26 +132,26 @@ module _ (w : List ℕ) (size : length w ≡ wholeSize (countIn w)) where
   done-watched s f i = λ j. watching (portAt (done-base f i j) i) (prepared s (groupOf (done-group f i i (omega arith) j)))
 
 -- the part of a table that is group i, written over by what its machines make of it
-pub watch-put : (s : Stage) (t : List ℕ) (i : ℕ)
+pub watch-put : (s : Stage) (t : List ℕ) (i : ℕ) → i < countIn t
     → putMid (groupPlace (countIn t) i) (groupPlace (countIn t) i + groupSize - groupPlace (countIn t) i) t
-    (groupOctets (watching (portAt (take (place (countIn t)) t) i) (prepared s (groupOf (take (groupPlace (countIn t) i + groupSize - groupPlace (countIn t) i) (drop (groupPlace (countIn t) i) t))))))
+    (groupOctets (watching (decoded (recordAt (take (place (countIn t)) t) i)) (prepared s (groupOf (take (groupPlace (countIn t) i + groupSize - groupPlace (countIn t) i) (drop (groupPlace (countIn t) i) t))))))
     ≡ putAt (groupPlace (countIn t) i) (groupOctets (watchedAt s t i)) t
-unfolding watchedAt monitorsAt groupAt baseOf
-watch-put s t i =
+unfolding watchedAt monitorsAt groupAt baseOf decodedAt
+watch-put s t i h =
     let n = groupPlace (countIn t) i in
     let p = portAt (take (place (countIn t)) t) i in
+    let same : i < countIn (take (place (countIn t)) t) = rw (base-count t) h in
     let m = watching p (prepared s (groupOf (take groupSize (drop n t)))) in
-    ap (λ (k : ℕ). putMid n (n + groupSize - n) t (groupOctets (watching p (prepared s (groupOf (take k (drop n t))))))) (add-sub-cancel-left n groupSize)
+    ap (λ (x : Port). putMid n (n + groupSize - n) t (groupOctets (watching x (prepared s (groupOf (take (n + groupSize - n) (drop n t)))))))
+    (sym (port-decoded (take (place (countIn t)) t) i same))
+    ∙ ap (λ (k : ℕ). putMid n (n + groupSize - n) t (groupOctets (watching p (prepared s (groupOf (take k (drop n t))))))) (add-sub-cancel-left n groupSize)
     ∙ put-part n (n + groupSize) (groupOctets m) t (ap (λ (k : ℕ). n + k) (group-length m))
 
 -- ---- a loop over the groups
 
-module _ (w : List ℕ) (h : Watchable w) (s : Stage) where
-  pub turn-watchable : (i : ℕ) → i ≤ countIn w → Watchable (done w (watchedAt s w) i)
-  turn-watchable i few = record {
-    size = done-length w (h .size) (watchedAt s w) i few ∙ h .size ∙ ap wholeSize (sym (done-count w (h .size) (watchedAt s w) i));
-    ranged = ap tableInRange (done-base w (h .size) (watchedAt s w) i) ∙ h .ranged;
-  }
+module _ (w : List ℕ) (size : length w ≡ wholeSize (countIn w)) (s : Stage) where
+  pub turn-size : (i : ℕ) → i ≤ countIn w → length (done w (watchedAt s w) i) ≡ wholeSize (countIn (done w (watchedAt s w) i))
+  turn-size i few = done-length w size (watchedAt s w) i few ∙ size ∙ ap wholeSize (sym (done-count w size (watchedAt s w) i))
 
   pub turn : (i : ℕ) (u : List ℕ)
       → u ≡ putAt (groupPlace (countIn (done w (watchedAt s w) i)) i) (groupOctets (watchedAt s (done w (watchedAt s w) i) i)) (done w (watchedAt s w) i)
@@ -156,12 +159,12 @@ module _ (w : List ℕ) (h : Watchable w) (s : Stage) where
   turn i u e =
       let f = watchedAt s w in
       let next : suc i ≡ i + 1 = omega arith in
-      e ∙ (λ j. putAt (groupPlace (done-count w (h .size) f i j) i) (groupOctets (done-watched w (h .size) s f i j)) (done w f i))
-      ∙ done-more w (h .size) f i ∙ ap (λ (n : ℕ). done w f n) next
+      e ∙ (λ j. putAt (groupPlace (done-count w size f i j) i) (groupOctets (done-watched w size s f i j)) (done w f i))
+      ∙ done-more w size f i ∙ ap (λ (n : ℕ). done w f n) next
 
   pub turns-end : (i : ℕ) → countIn w ≡ i → done w (watchedAt s w) i ≡ watchedAll s w
   unfolding watchedAll
-  turns-end i e = ap (λ (n : ℕ). done w (watchedAt s w) n) (sym e) ∙ done-all w (h .size) (watchedAt s w)
+  turns-end i e = ap (λ (n : ℕ). done w (watchedAt s w) n) (sym e) ∙ done-all w size (watchedAt s w)
 
 -- ---- ranges
 

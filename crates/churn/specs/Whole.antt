@@ -1,13 +1,12 @@
 -- A table with its monitors: the records of the ports, which are a table by themselves, and behind the last of them a group for each port, in their
 -- order. So a table without monitors is the same less its last octets.
-use Prim.Native.Nat.{ℕ, zero, suc, _+_, _*_, _<_}
-use mathlib.Core.Path.{_≡_}
+use Prim.Native.Nat.{ℕ, zero, suc, _+_, _*_}
 use mathlib.Core.Bool.{Bool, true, _&&_}
 use mathlib.Core.List.{List, [], _++_}
 use lib.ListN.{length, take, drop}
 use lib.Dec.{eqb}
 use Rattle.table.specs.Layout.{place}
-use Rattle.table.specs.Table.{countIn, portAt, tableInRange}
+use Rattle.table.specs.Table.{countIn, portAt}
 use Rattle.churn.specs.declared.Stage.{Stage}
 use Rattle.churn.specs.declared.Stage.the-variants.{Start, Tick, Other}
 use Rattle.churn.specs.declared.watch.Monitors.{Monitors}
@@ -47,11 +46,6 @@ groupsInRange (suc n) w = groupsInRange n w && groupInRange (groupAt w n)
 
 unfoldable pub hasMonitors : List ℕ → Bool
 hasMonitors w = eqb (length w) (wholeSize (countIn w)) && groupsInRange (countIn w) w
-
--- what is left to be watched: a table in range with groups of whatever content behind it
-pub record Watchable (w : List ℕ) : Type 0 where
-  pub size : length w ≡ wholeSize (countIn w)
-  pub ranged : tableInRange (baseOf w) ≡ true
 
 -- ---- after step 6 of a call
 

@@ -8,7 +8,7 @@ ghost use Rattle.table.specs.Record.{decoded};
 ghost use Rattle.table.specs.Table.{countIn};
 ghost use Rattle.churn.specs.Churn.{watching, bothBegun};
 ghost use Rattle.churn.specs.Group.{groupOf, groupSize, groupOctets};
-ghost use Rattle.churn.specs.Whole.{groupPlace, wholeSize, groupAt, groupsInRange, hasMonitors, Watchable, prepared, watchedAt, watchedAll};
+ghost use Rattle.churn.specs.Whole.{groupPlace, wholeSize, groupAt, groupsInRange, hasMonitors, prepared, watchedAt, watchedAll};
 use crate::group::GROUP;
 use crate::watch::CHURN_DETECTION_TIME;
 use crate::watch::Churn;
@@ -73,19 +73,19 @@ fn run_both(s: &[u8], m: Monitors) -> Monitors
 
 // The machines of port `i`, from 0.
 fn watch_one(table: &mut [u8], i: usize, stage: Stage)
-    requires { ⌜ Watchable (now table) × (i < countIn (now table)) ⌝ }
+    requires { ⌜ (length (now table) ≡ wholeSize (countIn (now table))) × (i < countIn (now table)) ⌝ }
     ensures { λ _. ⌜ now (table .exit) ≡ putAt (groupPlace (countIn (now (table .entry))) i) (groupOctets (watchedAt stage (now (table .entry)) i)) (now (table .entry)) ⌝ }
 {
     let base = place_of(table[0] as usize);
     let at = base + GROUP * i;
     let m = prepare(stage, &table[at..at + GROUP]);
-    let r = run_both(table::look(&table[..base], i), m);
+    let r = run_both(table::record_at(&table[..base], i), m);
     group::write(r, &mut table[at..at + GROUP]);
 }
 
 // The machines of every port, on what stands after step 6.
 pub fn watch_all(table: &mut [u8], stage: Stage)
-    requires { ⌜ Watchable (now table) ⌝ }
+    requires { ⌜ length (now table) ≡ wholeSize (countIn (now table)) ⌝ }
     ensures { λ _. ⌜ now (table .exit) ≡ watchedAll stage (now (table .entry)) ⌝ }
 {
     let n = table[0] as usize;

@@ -1,3 +1,4 @@
+-- `has_groups` meets its contract. Assumes nothing.
 use Prim.Native.Nat.{_≤_, _<_, _-_}
 use mathlib.Core.Path.{_≡_, refl, sym, ap, _∙_}
 use mathlib.Core.Bool.{true}
@@ -13,10 +14,6 @@ use Rattle.churn.proofs.WholeLaws.{groups-not}
 use borrow.Author.Needs.{needs}
 use Rattle.churn.proofs.has_groups.Statement.{statement}
 use Rattle.churn.proofs.has_groups.Tie as tie
-use Rattle.churn.proofs.has_groups.Reads as reads
-use Rattle.churn.proofs.has_groups.Lts as lts
-use Rattle.churn.proofs.group.is_group.Reads as is-group-reads
-use Rattle.churn.proofs.group_at.Reads as group-at-reads
 
 abbrev Inv-loop : tie.InvT-loop
 Inv-loop table n i₀ i = (i ≤ n) × (countIn table ≡ n) × (groupsInRange i table ≡ true)
@@ -24,20 +21,16 @@ Inv-loop table n i₀ i = (i ≤ n) × (countIn table ≡ n) × (groupsInRange i
 abbrev μ-loop : tie.MeasureT-loop
 μ-loop table n i₀ i = n - i
 
--- src/lib.rt:121:13
 shared-slice-read-n : tie.Need-shared-slice-read-n Inv-loop μ-loop
 shared-slice-read-n c = let size = c .before .before .pre in omega (arith, size)
 
--- src/lib.rt:121:13
 cast-n : tie.Need-cast-n Inv-loop μ-loop
 cast-n c = search needs
 
--- src/lib.rt:123:5
 loop-holds : tie.Need-loop-holds Inv-loop μ-loop
 unfolding groupsInRange
 loop-holds c = (omega arith, refl, refl)
 
--- src/lib.rt:124:29
 group-at-requires : tie.Need-group-at-requires Inv-loop μ-loop
 group-at-requires c κs =
     let size = c .before .before .before .before .pre in
@@ -45,11 +38,9 @@ group-at-requires c κs =
     let n : i < countIn (now (c .before .before .before .before .args .table)) = omega arith in
     omega (arith, size, n)
 
--- src/lib.rt:124:13
 is-group-requires : tie.Need-is-group-requires Inv-loop μ-loop
 is-group-requires c κs = c .group-at .ensures .1
 
--- src/lib.rt:125:13
 returns : tie.Need-returns Inv-loop μ-loop
 returns c =
     let t = now (c .before .before .before .before .before .before .before .args .table) in
@@ -57,24 +48,20 @@ returns c =
     let bad = sym (c .before .is-group .ensures ∙ ap groupInRange (c .before .before .group-at .ensures .0)) ∙ not-true _ (c .if1 .taken) in
     sym (groups-not (countIn t) t i (omega arith) bad)
 
--- src/lib.rt:127:9
 add-i : tie.Need-add-i Inv-loop μ-loop
 add-i c =
     let octet = c .before .before .before .before .before .before .shared-slice-known .given 0 .fits in
     omega (arith, octet)
 
--- src/lib.rt:123:5
 loop-less : tie.Need-loop-less Inv-loop μ-loop
 loop-less c = omega arith
 
--- src/lib.rt:123:5
 loop-again : tie.Need-loop-again Inv-loop μ-loop
 unfolding groupsInRange
 loop-again c =
     let good = sym (c .before .is-group .ensures ∙ ap groupInRange (c .before .before .group-at .ensures .0)) ∙ not-false _ (c .if1 .left) in
     (omega arith, c .before .before .before .before .loop .inv .1, rw add-one (both-true (c .before .before .before .before .loop .inv .2) good))
 
--- src/lib.rt:117:1
 returns-2 : tie.Need-returns-2 Inv-loop μ-loop
 returns-2 c =
     let all : c .before .loop .i ≡ countIn (now (c .before .before .before .before .args .table)) = omega arith in

@@ -1,3 +1,4 @@
+-- `has_monitors` meets its contract. Assumes nothing.
 use native.Mathlib.Omega.{arith}
 use lib.ListN.{length}
 use borrow.Author.Tests.{ne-eqb, eq-eqb}
@@ -7,31 +8,22 @@ use Rattle.churn.specs.Whole.{wholeSize, hasMonitors}
 use borrow.Author.Needs.{needs}
 use Rattle.churn.proofs.has_monitors.Statement.{statement}
 use Rattle.churn.proofs.has_monitors.Tie as tie
-use Rattle.churn.proofs.has_monitors.Reads as reads
-use Rattle.churn.proofs.has_monitors.Lts as lts
-use Rattle.churn.proofs.has_groups.Reads as has-groups-reads
-use Rattle.churn.proofs.whole_size.Reads as whole-size-reads
 
--- src/lib.rt:137:9
 returns : tie.Need-returns
 unfolding hasMonitors
 returns c =
     let t = now (c .before .before .args .table) in
     rw (ne-eqb (length t) (wholeSize (countIn t)) (λ e. omega (arith, c .if1 .taken, e)))
 
--- src/lib.rt:139:34
 shared-slice-read-whole-size : tie.Need-shared-slice-read-whole-size
 shared-slice-read-whole-size c = search needs
 
--- src/lib.rt:139:34
 cast-whole-size : tie.Need-cast-whole-size
 cast-whole-size c = omega (arith, c .shared-slice-known2 .given 0)
 
--- src/lib.rt:139:23
 whole-size-requires : tie.Need-whole-size-requires
 whole-size-requires c κs = omega (arith, c .shared-slice-known2 .given 0)
 
--- src/lib.rt:140:9
 returns-2 : tie.Need-returns-2
 unfolding hasMonitors
 returns-2 c =
@@ -39,11 +31,9 @@ returns-2 c =
     let size = c .before .whole-size .ensures in
     rw (ne-eqb (length t) (wholeSize (countIn t)) (λ e. omega (arith, c .if2 .taken, size, e)))
 
--- src/lib.rt:142:5
 has-groups-requires : tie.Need-has-groups-requires
 has-groups-requires c κs = search needs
 
--- src/lib.rt:133:1
 returns-3 : tie.Need-returns-3
 unfolding hasMonitors
 returns-3 c =

@@ -1,4 +1,4 @@
--- `prepare` meets its contract. Assumes nothing.
+-- `prepare` meets its contract: begun by a start, fallen by a tick, or as they are. Assumes nothing.
 use borrow.Author.Needs.{needs}
 use Rattle.churn.proofs.prepare.Statement.{statement}
 use Rattle.churn.proofs.prepare.Tie as tie

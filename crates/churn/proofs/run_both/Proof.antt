@@ -1,4 +1,4 @@
--- `run_both` meets its contract. Assumes nothing.
+-- `run_both` meets its contract: link and Synchronizations are those of the record. Assumes nothing.
 use Rattle.table.specs.Record.{decoded}
 use Rattle.churn.specs.Churn.{watching}
 use borrow.Author.Needs.{needs}

@@ -1,4 +1,4 @@
--- `watch_all` meets its contract. Assumes nothing.
+-- `watch_all` meets its contract: the loop has done the first i groups (`done`), and a turn does the next. Assumes nothing.
 use Prim.Native.Nat.{ℕ, _≤_, _-_}
 use mathlib.Core.Path.{_≡_, refl, sym, ap, _∙_}
 use mathlib.Core.List.{List}
@@ -9,7 +9,7 @@ use Rattle.table.specs.Table.{countIn}
 use Rattle.octets.specs.Octets.{putAt}
 use Rattle.churn.specs.Group.{groupOctets}
 use Rattle.churn.specs.Whole.{groupPlace, watchedAt}
-use Rattle.churn.proofs.WholeLaws.{done, done-none, done-count, done-length, turn-watchable, turn, turns-end}
+use Rattle.churn.proofs.WholeLaws.{done, done-none, done-count, done-length, turn-size, turn, turns-end}
 use Rattle.churn.proofs.watch_all.Statement.{statement}
 use Rattle.churn.proofs.watch_all.Tie as tie
 
@@ -20,7 +20,7 @@ abbrev μ-loop : tie.MeasureT-loop
 μ-loop table₀ stage n i₀ table i = n - i
 
 slice-read-n : tie.Need-slice-read-n Inv-loop μ-loop
-slice-read-n c = let size = c .before .before .pre .size in omega (arith, size)
+slice-read-n c = let size = c .before .before .pre in omega (arith, size)
 
 cast-n : tie.Need-cast-n Inv-loop μ-loop
 cast-n c = search needs
@@ -29,7 +29,7 @@ loop-holds : tie.Need-loop-holds Inv-loop μ-loop
 loop-holds c =
     let a = c .before .before .args in
     let t = now (a .table) in
-    (omega arith, refl, sym (done-none t (c .before .before .pre .size) (watchedAt (a .stage) t)))
+    (omega arith, refl, sym (done-none t (c .before .before .pre) (watchedAt (a .stage) t)))
 
 watch-one-requires : tie.Need-watch-one-requires Inv-loop μ-loop
 watch-one-requires c κs =
@@ -38,7 +38,7 @@ watch-one-requires c κs =
     let h = c .before .before .before .before .before .pre in
     let inv = c .before .before .loop .inv in
     let i = c .before .before .loop .i in
-    rw (inv .2) (turn-watchable t h (a .stage) i (omega arith), rw (done-count t (h .size) (watchedAt (a .stage) t) i) (omega arith))
+    rw (inv .2) (turn-size t h (a .stage) i (omega arith), rw (done-count t h (watchedAt (a .stage) t) i) (omega arith))
 
 add-i : tie.Need-add-i Inv-loop μ-loop
 add-i c =
@@ -60,7 +60,7 @@ same-length c =
     let a = c .before .before .before .before .args in
     let t = now (a .table) in
     let inv = c .before .loop .inv in
-    rw (inv .2) (done-length t (c .before .before .before .before .pre .size) (watchedAt (a .stage) t) (c .before .loop .i) (omega arith))
+    rw (inv .2) (done-length t (c .before .before .before .before .pre) (watchedAt (a .stage) t) (c .before .loop .i) (omega arith))
 
 returns : tie.Need-returns Inv-loop μ-loop
 returns c =

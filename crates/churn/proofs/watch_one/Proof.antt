@@ -1,10 +1,9 @@
--- `watch_one` meets its contract. Assumes nothing.
+-- `watch_one` meets its contract: group i is read, run on record i, and written in its place. Assumes nothing.
 use mathlib.Core.Path.{sym}
 use native.Mathlib.Omega.{arith}
 use lib.Seq.{length-take-le}
 use denote.Ref.{now}
-use Rattle.churn.specs.Whole.{baseOf}
-use Rattle.churn.proofs.WholeLaws.{base-count, watch-put}
+use Rattle.churn.proofs.WholeLaws.{watch-put}
 use borrow.Author.Needs.{needs}
 use Rattle.churn.proofs.watch_one.Statement.{statement}
 use Rattle.churn.proofs.watch_one.Tie as tie
@@ -39,22 +38,24 @@ part-prepare-end c = search needs
 prepare-requires : tie.Need-prepare-requires
 prepare-requires c κs = search needs
 
-slice-reshare-prefix-look : tie.Need-slice-reshare-prefix-look
-slice-reshare-prefix-look c = search needs
+slice-reshare-prefix-record-at : tie.Need-slice-reshare-prefix-record-at
+slice-reshare-prefix-record-at c = search needs
 
-slice-aggregate-look : tie.Need-slice-aggregate-look
-slice-aggregate-look c =
+slice-aggregate-record-at : tie.Need-slice-aggregate-record-at
+slice-aggregate-record-at c =
     let t = now (c .before .before .before .before .before .before .before .args .table) in
-    let size = c .before .before .before .before .before .before .before .pre .0 .size in
+    let size = c .before .before .before .before .before .before .before .pre .0 in
     let is = c .before .before .before .before .place-of .ensures in
     sym (length-take-le _ t (omega (arith, size, is)))
 
-look-requires : tie.Need-look-requires
-unfolding baseOf
-look-requires c κs =
+record-at-requires : tie.Need-record-at-requires
+record-at-requires c κs =
     let t = now (c .before .before .before .before .before .before .before .args .table) in
     let pre = c .before .before .before .before .before .before .before .pre in
-    rw (c .before .before .before .before .place-of .ensures) (pre .0 .ranged, rw (base-count t) (pre .1))
+    let size = pre .0 in
+    let here = pre .1 in
+    let is = c .before .before .before .before .place-of .ensures in
+    rw (length-take-le (c .before .before .before .before .place-of .result) t (omega (arith, size, is))) (omega (arith, here, is))
 
 run-both-requires : tie.Need-run-both-requires
 run-both-requires c κs = search needs
@@ -83,11 +84,11 @@ returns c =
     rw (
       c .before .before .write .ensures,
       c .before .before .before .before .run-both .ensures,
-      c .before .before .before .before .before .look .ensures .0,
+      c .before .before .before .before .before .record-at .ensures .0,
       c .before .before .before .before .before .before .before .prepare .ensures,
       c .before .before .before .before .before .before .before .before .before .before .place-of .ensures,
     )
-    (watch-put (a .stage) (now (a .table)) (a .i))
+    (watch-put (a .stage) (now (a .table)) (a .i) (c .before .before .before .before .before .before .before .before .before .before .before .before .before .pre .1))
 
 pub watch-one-spec : {M : Type 1} → statement M
 watch-one-spec =
@@ -103,9 +104,9 @@ watch-one-spec =
     part-prepare-start
     part-prepare-end
     prepare-requires
-    slice-reshare-prefix-look
-    slice-aggregate-look
-    look-requires
+    slice-reshare-prefix-record-at
+    slice-aggregate-record-at
+    record-at-requires
     run-both-requires
     add-write
     sub-write
