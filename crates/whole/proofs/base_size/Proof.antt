@@ -1,0 +1,25 @@
+use Rattle.whole.proofs.base_size.Statement.{statement}
+use Rattle.whole.proofs.base_size.Tie as tie
+use Rattle.whole.proofs.base_size.Reads as reads
+use Rattle.whole.proofs.base_size.Lts as lts
+use Rattle.table.proofs.layout.place_of.Reads as place-of-reads
+
+-- src/lib.rt:29:14
+shared-slice-read-place-of : tie.Need-shared-slice-read-place-of
+shared-slice-read-place-of c = ?
+
+-- src/lib.rt:29:14
+cast-place-of : tie.Need-cast-place-of
+cast-place-of c = ?
+
+-- src/lib.rt:29:5
+place-of-requires : tie.Need-place-of-requires
+place-of-requires c κs = ?
+
+-- src/lib.rt:25:1
+returns : tie.Need-returns
+returns c = ?
+
+pub base-size-spec : {M : Type 1} → statement M
+base-size-spec =
+    tie.close (tie.spec shared-slice-read-place-of cast-place-of place-of-requires returns)
