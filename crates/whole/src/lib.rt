@@ -92,7 +92,10 @@ fn has_line(table: &[u8], n: u32, line: Line) -> bool
     ensures { λ r. ⌜ (isNumber (now (table .entry)) n ≡ true → r ≡ sameLine line (portAt (now (table .entry)) (n - 1) .line)) ⌝ }
 {
     let count = table[0] as u32;
-    if (n < 1) | (count < n) {
+    if n < 1 {
+        return false;
+    }
+    if count < n {
         return false;
     }
     let i = n - 1;
@@ -105,7 +108,10 @@ fn has_settings(table: &[u8], n: u32, settings: Settings) -> bool
     ensures { λ r. ⌜ (isNumber (now (table .entry)) n ≡ true → r ≡ sameSettings settings (portAt (now (table .entry)) (n - 1))) ⌝ }
 {
     let count = table[0] as u32;
-    if (n < 1) | (count < n) {
+    if n < 1 {
+        return false;
+    }
+    if count < n {
         return false;
     }
     let i = n - 1;

@@ -1,3 +1,5 @@
+use native.Mathlib.Omega.{arith}
+use Rattle.whole.proofs.CallLaws.{whole-size}
 use Rattle.whole.proofs.base_size.Statement.{statement}
 use Rattle.whole.proofs.base_size.Tie as tie
 use Rattle.whole.proofs.base_size.Reads as reads
@@ -6,19 +8,22 @@ use Rattle.table.proofs.layout.place_of.Reads as place-of-reads
 
 -- src/lib.rt:29:14
 shared-slice-read-place-of : tie.Need-shared-slice-read-place-of
-shared-slice-read-place-of c = ?
+shared-slice-read-place-of c = let size = whole-size _ (c .before .before .pre) in omega (arith, size)
 
 -- src/lib.rt:29:14
 cast-place-of : tie.Need-cast-place-of
-cast-place-of c = ?
+cast-place-of c = omega (arith, c .shared-slice-known2 .given 0)
 
 -- src/lib.rt:29:5
 place-of-requires : tie.Need-place-of-requires
-place-of-requires c κs = ?
+place-of-requires c κs = omega (arith, c .shared-slice-known2 .given 0)
 
 -- src/lib.rt:25:1
 returns : tie.Need-returns
-returns c = ?
+returns c =
+    let size = whole-size _ (c .before .before .before .pre) in
+    let is = c .place-of .ensures in
+    (is, omega (arith, size, is))
 
 pub base-size-spec : {M : Type 1} → statement M
 base-size-spec =

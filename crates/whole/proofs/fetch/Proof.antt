@@ -1,3 +1,10 @@
+use mathlib.Core.Path.{refl, sym, _∙_}
+use lib.Seq.{length-take-le}
+use denote.Ref.{now}
+use borrow.Author.Tests.{not-true, not-false}
+use Rattle.control.specs.Call as call
+use mathlib.Core.Bool.{false}
+use Rattle.whole.proofs.CallLaws.{roomless-out, finished-out}
 use borrow.Author.Needs.{needs}
 use Rattle.whole.proofs.fetch.Statement.{statement}
 use Rattle.whole.proofs.fetch.Tie as tie
@@ -17,11 +24,13 @@ same-length c = search needs
 
 -- src/lib.rt:73:9
 returns : tie.Need-returns
-returns c = ?
+returns c =
+    let a = c .before .before .before .before .before .args in
+    roomless-out (call.fetch (a .n) (now (a .out))) (now (a .table)) (sym (c .before .has-monitors .ensures) ∙ not-true _ (c .if1 .taken))
 
 -- src/lib.rt:75:9
 base-size-requires : tie.Need-base-size-requires
-base-size-requires c κs = ?
+base-size-requires c κs = sym (c .before .before .has-monitors .ensures) ∙ not-false _ (c .before .if1 .left)
 
 -- src/lib.rt:76:20
 slice-relend-prefix-fetch : tie.Need-slice-relend-prefix-fetch
@@ -29,7 +38,7 @@ slice-relend-prefix-fetch c = search needs
 
 -- src/lib.rt:76:20
 slice-aggregate-fetch : tie.Need-slice-aggregate-fetch
-slice-aggregate-fetch c = ?
+slice-aggregate-fetch c = sym (length-take-le (c .before .base-size .result) (now (c .before .before .before .before .before .before .before .before .args .table)) (c .before .base-size .ensures .1))
 
 -- src/lib.rt:76:5
 fetch-requires : tie.Need-fetch-requires
@@ -45,7 +54,11 @@ same-length-3 c = search needs
 
 -- src/lib.rt:69:1
 returns-2 : tie.Need-returns-2
-returns-2 c = ?
+returns-2 c =
+    let a = c .before .before .before .before .before .before .before .before .before .before .before .before .before .before .args in
+    let has = sym (c .before .before .before .before .before .before .before .before .before .before .has-monitors .ensures) ∙ not-false _ (c .before .before .before .before .before .before .before .before .before .if1 .left) in
+    let told = c .before .before .before .before .fetch .ensures in
+    finished-out (call.fetch (a .n) (now (a .out))) (now (a .table)) (c .before .before .before .before .before .before .before .base-size .result) (c .before .before .before .before .before .before .before .base-size .ensures .0) _ _ _ _ false has (told .0) (told .1) (told .2) refl refl
 
 pub fetch-spec : {M : Type 1} → statement M
 fetch-spec =

@@ -7,7 +7,7 @@ use Rattle.churn.proofs.watch_all.Reads as watch-all-reads
 
 -- src/lib.rt:21:9
 watch-all-requires : tie.Need-watch-all-requires
-watch-all-requires c κs = search needs
+watch-all-requires c κs = c .before .before .before .pre (c .before .if1 .taken)
 
 -- src/lib.rt:16:1
 same-length : tie.Need-same-length
