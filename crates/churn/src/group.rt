@@ -96,5 +96,7 @@ pub fn is_group(s: &[u8]) -> bool
     ensures { λ r. ⌜ r ≡ groupInRange (now (s .entry)) ⌝ }
 {
     (s[0] <= 2)
-        & ((s[1] <= 2) & ((octets::number(s, 2) <= CHURN_DETECTION_TIME) & (octets::number(s, 4) <= CHURN_DETECTION_TIME)))
+        & ((s[1] <= 2)
+            & ((octets::number(s, 2) <= CHURN_DETECTION_TIME)
+                & (octets::number(s, 4) <= CHURN_DETECTION_TIME)))
 }

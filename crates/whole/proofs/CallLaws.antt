@@ -1,33 +1,44 @@
 -- What the wrappers rest on: memory with monitors is a table without them and the rest, a call on the first leaves the size and the port count, and so what
 -- is put together again is what the definitions say. Assumes nothing.
-use Prim.Native.Nat.{ℕ, _+_, _≤_, _<_}
+use Prim.Native.Nat.{ℕ, _+_, _-_, _≤_, _<_}
 use mathlib.Core.Path.{_≡_, refl, sym, ap, _∙_}
 use mathlib.Core.Bool.{Bool, true, false, cond, not, _&&_, false≢true}
-use mathlib.Core.List.{List, _++_}
+use mathlib.Core.List.{List, _++_, append-assoc, append-nil}
 use native.Mathlib.Omega.{arith}
-use lib.ListN.{length, take, drop, getD, length-append, length-drop, take-append-drop}
-use lib.Seq.{getD-take, length-take-le, take-at}
-use lib.Dec.{eqb}
-use borrow.Author.Tests.{eqb-true}
-use Rattle.octets.specs.Octets.{within}
+use lib.ListN.{length, take, drop, getD, replicate, length-append, length-drop, drop-of-length-le}
+use lib.Seq.{getD-take, length-take-le, take-at, drop-at, take-all, take-append-le, take-append-add, drop-drop}
+use lib.Dec.{eqb, leb}
+use borrow.Author.Tests.{eqb-true, leb-true, leb-false}
+use borrow.Rule.Slice.PartMut.{putMid}
+use Rattle.octets.specs.Octets.{within, putAt, fitted}
+use Rattle.octets.proofs.Laws.{put-part, fitted-whole}
 use Rattle.octets.proofs.RangeLaws.{both, within-true}
 use Rattle.frame.specs.declared.block.SystemId.{SystemId}
 use Rattle.frame.specs.declared.wire.TensOfMicroseconds.{TensOfMicroseconds}
 use Rattle.settings.specs.declared.Settings.{Settings}
 use Rattle.table.specs.Layout.{place, mostPorts}
 use Rattle.table.specs.Table.{countIn, tableInRange}
-use Rattle.churn.specs.Whole.{wholeSize, groupsInRange, hasMonitors}
+use Rattle.port.specs.declared.record.Port.{Port}
+use Rattle.table.specs.Record.{encoded}
+use Rattle.table.proofs.RecordLaws.{encoded-length}
+use Rattle.table.proofs.RuleLaws.{absent-zeros}
+use Rattle.churn.specs.Group.{groupSize}
+use Rattle.churn.specs.Whole.{wholeSize, baseOf, groupAt, groupsInRange, hasMonitors}
+use Rattle.churn.proofs.WholeLaws.{base-count}
 use Rattle.control.specs.declared.answer.Answer.{Answer}
 use Rattle.control.specs.declared.answer.Answer.the-variants.{Done, Lacpdu, Marker, Refused}
 use Rattle.control.specs.declared.answer.Reason.the-variants as reason
 use Rattle.control.specs.Accepted.{accepted}
 use Rattle.control.specs.Answer.{isNumber, onPort}
-use Rattle.control.specs.Call.{Call, start, isStart}
-use Rattle.control.specs.After.{answer, after, bufferOf, outgoing}
+use Rattle.control.specs.Call.{Call, start, report, isStart}
+use Rattle.control.specs.After.{answer, unless, after, bufferOf, outgoing}
+use Rattle.control.specs.Report.{portReport}
+use Rattle.control.proofs.RuleLaws.{refused-port}
 use Rattle.control.proofs.CallLaws.{after-accepted}
 use Rattle.control.proofs.CountLaws.{after-count, started-count}
 use Rattle.whole.specs.Calls.{countFor, baseFor, restFor, isWholeRoom, hasRoom, settles, stageOf, watchedIf, wholeAnswer, wholeAfter, wholeOutgoing}
-use Rattle.whole.specs.Meets.{Meets, MeetsOut}
+use Rattle.whole.specs.Meets.{Meets, MeetsOut, MeetsPort}
+use Rattle.whole.specs.Report.{wholeRecordSize, wholeRecord}
 
 -- ---- sizes
 
@@ -144,3 +155,139 @@ restarted count system delay x w has b is u same left done =
 pub base-whole : (w : List ℕ) (b : ℕ) → b ≡ place (countIn w) → b ≤ length w → length (take b w) ≡ place (countIn (take b w))
 base-whole w b is most =
     length-take-le b w most ∙ is ∙ ap place (sym (getD-take b w 0 0 (omega (arith, is))))
+
+-- ---- the port report
+
+-- what fits of two pieces: of the first alone, or all of it and what fits of the second behind it
+fitted-short : (s u m : List ℕ) → length m ≤ length s → fitted (s ++ u) m ≡ fitted s m
+unfolding fitted
+fitted-short s u m h =
+    let l = length-append s u in
+    (λ i. take-append-le (length m) s u h i ++ drop-of-length-le m {i = length (s ++ u)} (omega (arith, h, l)) i) ∙ sym (ap (λ (x : List ℕ). take (length m) s ++ x) (drop-of-length-le m {i = length s} h))
+
+fitted-append : (s u m : List ℕ) → length s ≤ length m → fitted (s ++ u) m ≡ s ++ fitted u (drop (length s) m)
+unfolding fitted
+fitted-append s u m h =
+    let d = length-drop (length s) m in
+    let k : length m ≡ length s + length (drop (length s) m) = omega (arith, d, h) in
+    (λ i. (ap (λ (n : ℕ). take n (s ++ u)) k ∙ take-append-add s u (length (drop (length s) m))) i
+    ++ (ap (λ (n : ℕ). drop n m) (length-append s u) ∙ sym (drop-drop (length u) (length s) m)) i)
+    ∙ append-assoc s (take (length (drop (length s) m)) u) (drop (length u) (drop (length s) m))
+
+-- a part up to the end that comes back as x
+back-as : (n : ℕ) (r x : List ℕ) → n ≤ length r → length x ≡ length r - n → putMid n (length r - n) r x ≡ take n r ++ x
+unfolding putAt
+back-as n r x h e =
+    put-part n (length r) x r (omega (arith, h, e))
+    ∙ ap (λ (l : List ℕ). take n r ++ l) (ap (λ (l : List ℕ). x ++ l) (drop-of-length-le r {i = n + length x} (omega (arith, h, e))) ∙ append-nil x)
+
+-- behind the first piece, as much of the second as fits
+pub report-behind : (s u m r : List ℕ) → r ≡ fitted s m → length s ≤ length m
+    → putMid (length s) (length r - length s) r (fitted u (take (length r - length s) (drop (length s) r))) ≡ fitted (s ++ u) m
+unfolding fitted
+report-behind s u m r is h =
+    let n : ℕ = length s in
+    let all : r ≡ s ++ drop n m = is ∙ ap (λ (x : List ℕ). x ++ drop n m) (take-all (length m) s h) in
+    let size : length r ≡ length m = ap length all ∙ length-append s (drop n m) ∙ (let d = length-drop n m in omega (arith, d, h)) in
+    let rest : drop n r ≡ drop n m = ap (λ (x : List ℕ). drop n x) all ∙ drop-at s (drop n m) n refl in
+    let part : take (length r - n) (drop n r) ≡ drop n m =
+    (let d = length-drop n r in take-all (length r - n) (drop n r) (omega (arith, d))) ∙ rest in
+    let x : List ℕ = fitted u (drop n m) in
+    let x-size : length x ≡ length r - n = fitted-size u (drop n m) ∙ (let d = length-drop n m in omega (arith, d, size)) in
+    ap (λ (l : List ℕ). putMid n (length r - n) r (fitted u l)) part
+    ∙ back-as n r x (omega (arith, size, h)) x-size
+    ∙ ap (λ (l : List ℕ). l ++ x) (ap (λ (y : List ℕ). take n y) all ∙ take-at s (drop n m) n refl)
+    ∙ sym (fitted-append s u m h)
+  where
+    fitted-size : (a d : List ℕ) → length (fitted a d) ≡ length d
+    fitted-size a d = by (leb (length a) (length d)) refl
+      where
+        by : (b : Bool) → leb (length a) (length d) ≡ b → length (fitted a d) ≡ length d
+        by true e =
+            let le = leb-true (length a) (length d) e in
+            let k = length-drop (length a) d in
+            ap length (sym (fitted-whole a d le)) ∙ length-append (take (length a) a) (drop (length a) d)
+            ∙ (let t : length (take (length a) a) ≡ length a = length-take-le (length a) a (omega arith) in omega (arith, t, k, le))
+        by false e =
+            let lt = leb-false (length a) (length d) e in
+            length-append (take (length d) a) (drop (length a) d)
+            ∙ (let t : length (take (length d) a) ≡ length d = length-take-le (length d) a (omega (arith, lt)) in
+            let k = length-drop (length a) d in omega (arith, t, k, lt))
+
+-- a record with its monitors is the record, and the monitors, or zeros
+pub record-parts : (n : ℕ) (w : List ℕ) → hasMonitors w ≡ true
+    → wholeRecord n w ≡ encoded (portReport n (baseOf w)) ++ unless (answer (report n) (baseOf w)) (replicate groupSize 0) (groupAt w (n - 1))
+unfolding wholeRecord wholeAnswer baseOf
+record-parts n w e = rw e (by (answer (report n) (take (place (countIn w)) w)) refl)
+  where
+    by : (a : Answer) → answer (report n) (take (place (countIn w)) w) ≡ a
+        → unless a (replicate wholeRecordSize 0) (encoded (portReport n (take (place (countIn w)) w)) ++ groupAt w (n - 1))
+        ≡ encoded (portReport n (take (place (countIn w)) w)) ++ unless a (replicate groupSize 0) (groupAt w (n - 1))
+    by Done f = refl
+    by Lacpdu f = refl
+    by Marker f = refl
+    by (Refused r) f =
+        let none = refused-port (take (place (countIn w)) w) n r f in
+        sym (ap (λ (p : Port). encoded p ++ replicate groupSize 0) none ∙ ap (λ (l : List ℕ). l ++ replicate groupSize 0) absent-zeros)
+
+-- what the wrapper of the report has in hand
+module _ (n : ℕ) (w m : List ℕ) (has : hasMonitors w ≡ true) (b : ℕ) (is : b ≡ place (countIn w)) (a : Answer) (r : List ℕ) (told : a ≡ answer (report n) (take b w))
+    (first : r ≡ fitted (encoded (portReport n (take b w))) m) where
+  told-whole : a ≡ wholeAnswer (report n) w
+  unfolding wholeAnswer
+  told-whole = told ∙ ap (λ (k : ℕ). answer (report n) (take k w)) is ∙ rw has
+
+  told-base : a ≡ answer (report n) (baseOf w)
+  unfolding baseOf
+  told-base = told ∙ ap (λ (k : ℕ). answer (report n) (take k w)) is
+
+  first-base : r ≡ fitted (encoded (portReport n (baseOf w))) m
+  unfolding baseOf
+  first-base = first ∙ ap (λ (k : ℕ). fitted (encoded (portReport n (take k w))) m) is
+
+  behind : List ℕ
+  behind = unless (answer (report n) (baseOf w)) (replicate groupSize 0) (groupAt w (n - 1))
+
+  pub reported-short : length m < 57 → MeetsPort n w m a r
+  unfolding behind
+  reported-short h = (
+    told-whole,
+    first-base ∙ sym (ap (λ (l : List ℕ). fitted l m) (record-parts n w has)
+        ∙ fitted-short (encoded (portReport n (baseOf w))) behind m (let l = encoded-length (portReport n (baseOf w)) in omega (arith, l, h))),
+  )
+
+  pub reported : (v g : List ℕ) → 57 ≤ length m → v ≡ putMid 57 (length r - 57) r (fitted g (take (length r - 57) (drop 57 r)))
+      → g ≡ unless a (replicate groupSize 0) (groupAt w (n - 1)) → MeetsPort n w m a v
+  unfolding behind
+  reported v g h left group =
+      let s = encoded (portReport n (baseOf w)) in
+      let l : length s ≡ 57 = encoded-length (portReport n (baseOf w)) in
+      let same : g ≡ behind = group ∙ ap (λ (x : Answer). unless x (replicate groupSize 0) (groupAt w (n - 1))) told-base in (
+        told-whole,
+        left ∙ ap (λ (k : ℕ). putMid k (length r - k) r (fitted g (take (length r - k) (drop k r)))) (sym l)
+            ∙ report-behind s g m r first-base (omega (arith, l, h))
+            ∙ ap (λ (x : List ℕ). fitted (s ++ x) m) same ∙ sym (ap (λ (x : List ℕ). fitted x m) (record-parts n w has)),
+      )
+
+pub report-roomless : (n : ℕ) (w m r : List ℕ) → hasMonitors w ≡ false → r ≡ fitted (replicate wholeRecordSize 0) m → MeetsPort n w m (Refused reason.Table) r
+unfolding wholeAnswer wholeRecord
+report-roomless n w m r e left = (rw e, left ∙ rw e)
+
+-- a port that is reported has its group
+pub group-there : (n : ℕ) (w : List ℕ) → hasMonitors w ≡ true → accepted (answer (report n) (take (place (countIn w)) w)) ≡ true → (1 ≤ n) × (n ≤ countIn w)
+unfolding answer baseOf
+group-there n w has e =
+    let h = within-true 1 n (countIn (baseOf w)) (accepted-number (baseOf w) n Done e) in
+    (h .0, rw (base-count w) at (h .1))
+
+pub given-back : {A : Type 0} (x y : A) (a : Answer) → accepted a ≡ true → unless a x y ≡ y
+given-back x y Done e = refl
+given-back x y Lacpdu e = refl
+given-back x y Marker e = refl
+given-back x y (Refused r) e = absurd (false≢true e)
+
+pub taken-back : {A : Type 0} (x y : A) (a : Answer) → accepted a ≡ false → unless a x y ≡ x
+taken-back x y Done e = absurd (false≢true (sym e))
+taken-back x y Lacpdu e = absurd (false≢true (sym e))
+taken-back x y Marker e = absurd (false≢true (sym e))
+taken-back x y (Refused r) e = refl

@@ -1,4 +1,4 @@
--- `group_at` meets its contract. Assumes nothing.
+-- `group_at` meets its contract: a part that ends a group after its beginning is that of group i. Assumes nothing.
 use native.Mathlib.Nat.{add-sub-cancel-left}
 use Rattle.churn.specs.Whole.{groupAt}
 use borrow.Author.Needs.{needs}

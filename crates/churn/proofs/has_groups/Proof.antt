@@ -1,4 +1,4 @@
--- `has_groups` meets its contract. Assumes nothing.
+-- `has_groups` meets its contract: the first i groups are in range; it ends early at one that is not. Assumes nothing.
 use Prim.Native.Nat.{_≤_, _<_, _-_}
 use mathlib.Core.Path.{_≡_, refl, sym, ap, _∙_}
 use mathlib.Core.Bool.{true}

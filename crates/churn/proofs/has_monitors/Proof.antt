@@ -1,4 +1,4 @@
--- `has_monitors` meets its contract. Assumes nothing.
+-- `has_monitors` meets its contract: each way out has the tests that led there. Assumes nothing.
 use native.Mathlib.Omega.{arith}
 use lib.ListN.{length}
 use borrow.Author.Tests.{ne-eqb, eq-eqb}

@@ -1,24 +1,18 @@
+-- `base_size` meets its contract: the place behind the last record, which the size reaches. Assumes nothing.
 use native.Mathlib.Omega.{arith}
 use Rattle.whole.proofs.CallLaws.{whole-size}
 use Rattle.whole.proofs.base_size.Statement.{statement}
 use Rattle.whole.proofs.base_size.Tie as tie
-use Rattle.whole.proofs.base_size.Reads as reads
-use Rattle.whole.proofs.base_size.Lts as lts
-use Rattle.table.proofs.layout.place_of.Reads as place-of-reads
 
--- src/lib.rt:29:14
 shared-slice-read-place-of : tie.Need-shared-slice-read-place-of
 shared-slice-read-place-of c = let size = whole-size _ (c .before .before .pre) in omega (arith, size)
 
--- src/lib.rt:29:14
 cast-place-of : tie.Need-cast-place-of
 cast-place-of c = omega (arith, c .shared-slice-known2 .given 0)
 
--- src/lib.rt:29:5
 place-of-requires : tie.Need-place-of-requires
 place-of-requires c κs = omega (arith, c .shared-slice-known2 .given 0)
 
--- src/lib.rt:25:1
 returns : tie.Need-returns
 returns c =
     let size = whole-size _ (c .before .before .before .pre) in

@@ -1,3 +1,4 @@
+-- `configure` meets its contract: the base's call, and the machines where the settings are others. Assumes nothing.
 use mathlib.Core.Path.{_≡_, refl, sym, ap, _∙_}
 use lib.ListN.{length, take}
 use lib.Seq.{length-take-le}
@@ -17,65 +18,45 @@ use Rattle.whole.proofs.CallLaws.{roomless, finished, rejoined, base-wh
 use borrow.Author.Needs.{needs}
 use Rattle.whole.proofs.configure.Statement.{statement}
 use Rattle.whole.proofs.configure.Tie as tie
-use Rattle.whole.proofs.configure.Reads as reads
-use Rattle.whole.proofs.configure.Lts as lts
-use Rattle.churn.proofs.has_monitors.Reads as has-monitors-reads
-use Rattle.control.proofs.answer.Answer.is_accepted.Reads as is-accepted-reads
-use Rattle.control.proofs.configure.Reads as configure-reads
-use Rattle.whole.proofs.base_size.Reads as base-size-reads
-use Rattle.whole.proofs.has_settings.Reads as has-settings-reads
-use Rattle.whole.proofs.watch_if.Reads as watch-if-reads
 
--- src/lib.rt:133:9
 has-monitors-requires : tie.Need-has-monitors-requires
 has-monitors-requires c κs = search needs
 
--- src/lib.rt:134:9
 same-length : tie.Need-same-length
 same-length c = search needs
 
--- src/lib.rt:134:9
 returns : tie.Need-returns
 returns c =
     let a = c .before .before .before .before .args in
     roomless (call.configure (a .n) (a .settings)) (now (a .table)) (sym (c .before .has-monitors .ensures) ∙ not-true _ (c .if1 .taken))
 
--- src/lib.rt:136:9
 base-size-requires : tie.Need-base-size-requires
 base-size-requires c κs = sym (c .before .before .has-monitors .ensures) ∙ not-false _ (c .before .if1 .left)
 
--- src/lib.rt:137:29
 slice-reshare-prefix-has-settings : tie.Need-slice-reshare-prefix-has-settings
 slice-reshare-prefix-has-settings c = search needs
 
--- src/lib.rt:137:29
 slice-aggregate-has-settings : tie.Need-slice-aggregate-has-settings
 slice-aggregate-has-settings c = sym (length-take-le (c .before .base-size .result) (now (c .before .before .before .before .before .before .before .args .table)) (c .before .base-size .ensures .1))
 
--- src/lib.rt:137:9
 has-settings-requires : tie.Need-has-settings-requires
 has-settings-requires c κs =
     let t = now (c .before .before .before .before .before .before .before .args .table) in
     let base = c .before .base-size .ensures in
     base-whole t (c .before .base-size .result) (base .0) (base .1)
 
--- src/lib.rt:138:32
 slice-relend-prefix-configure : tie.Need-slice-relend-prefix-configure
 slice-relend-prefix-configure c = search needs
 
--- src/lib.rt:138:32
 slice-aggregate-configure : tie.Need-slice-aggregate-configure
 slice-aggregate-configure c = sym (length-take-le (c .before .before .before .base-size .result) (now (c .before .before .before .before .before .before .before .before .before .args .table)) (c .before .before .before .base-size .ensures .1))
 
--- src/lib.rt:138:9
 configure-requires : tie.Need-configure-requires
 configure-requires c κs = search needs
 
--- src/lib.rt:139:21
 is-accepted-requires : tie.Need-is-accepted-requires
 is-accepted-requires c κs = search needs
 
--- src/lib.rt:139:5
 watch-if-requires : tie.Need-watch-if-requires
 watch-if-requires c κs e =
     let a = c .before .before .before .before .before .before .before .before .before .before .before .before .before .before .args in
@@ -83,11 +64,9 @@ watch-if-requires c κs e =
     let same : length (c .before .before .before .before .configure .last .0) ≡ length (take (c .before .before .before .before .before .before .before .before .base-size .result) (now (a .table))) = search needs in
     rejoined (call.configure (a .n) (a .settings)) refl (now (a .table)) has (c .before .before .before .before .before .before .before .before .base-size .result) (c .before .before .before .before .before .before .before .before .base-size .ensures .0) (c .before .before .before .before .configure .last .0) same (c .before .before .before .before .configure .ensures .1)
 
--- src/lib.rt:130:1
 same-length-2 : tie.Need-same-length-2
 same-length-2 c = search needs
 
--- src/lib.rt:130:1
 returns-2 : tie.Need-returns-2
 unfolding answer
 returns-2 c =

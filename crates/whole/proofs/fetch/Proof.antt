@@ -1,3 +1,4 @@
+-- `fetch` meets its contract: the base's fetch; no machine runs. Assumes nothing.
 use mathlib.Core.Path.{refl, sym, _∙_}
 use lib.Seq.{length-take-le}
 use denote.Ref.{now}
@@ -8,51 +9,36 @@ use Rattle.whole.proofs.CallLaws.{roomless-out, finished-out}
 use borrow.Author.Needs.{needs}
 use Rattle.whole.proofs.fetch.Statement.{statement}
 use Rattle.whole.proofs.fetch.Tie as tie
-use Rattle.whole.proofs.fetch.Reads as reads
-use Rattle.whole.proofs.fetch.Lts as lts
-use Rattle.churn.proofs.has_monitors.Reads as has-monitors-reads
-use Rattle.control.proofs.fetch.Reads as fetch-reads
-use Rattle.whole.proofs.base_size.Reads as base-size-reads
 
--- src/lib.rt:72:9
 has-monitors-requires : tie.Need-has-monitors-requires
 has-monitors-requires c κs = search needs
 
--- src/lib.rt:73:9
 same-length : tie.Need-same-length
 same-length c = search needs
 
--- src/lib.rt:73:9
 returns : tie.Need-returns
 returns c =
     let a = c .before .before .before .before .before .args in
     roomless-out (call.fetch (a .n) (now (a .out))) (now (a .table)) (sym (c .before .has-monitors .ensures) ∙ not-true _ (c .if1 .taken))
 
--- src/lib.rt:75:9
 base-size-requires : tie.Need-base-size-requires
 base-size-requires c κs = sym (c .before .before .has-monitors .ensures) ∙ not-false _ (c .before .if1 .left)
 
--- src/lib.rt:76:20
 slice-relend-prefix-fetch : tie.Need-slice-relend-prefix-fetch
 slice-relend-prefix-fetch c = search needs
 
--- src/lib.rt:76:20
 slice-aggregate-fetch : tie.Need-slice-aggregate-fetch
 slice-aggregate-fetch c = sym (length-take-le (c .before .base-size .result) (now (c .before .before .before .before .before .before .before .before .args .table)) (c .before .base-size .ensures .1))
 
--- src/lib.rt:76:5
 fetch-requires : tie.Need-fetch-requires
 fetch-requires c κs = search needs
 
--- src/lib.rt:69:1
 same-length-2 : tie.Need-same-length-2
 same-length-2 c = search needs
 
--- src/lib.rt:69:1
 same-length-3 : tie.Need-same-length-3
 same-length-3 c = search needs
 
--- src/lib.rt:69:1
 returns-2 : tie.Need-returns-2
 returns-2 c =
     let a = c .before .before .before .before .before .before .before .before .before .before .before .before .before .before .args in

@@ -1,3 +1,4 @@
+-- `has_line` meets its contract: the line of the record, if there is one. Assumes nothing.
 use Rattle.table.specs.Record.{decoded}
 use Prim.Native.Nat.{_-_, _<_}
 use native.Mathlib.Omega.{arith}
@@ -8,51 +9,37 @@ use Rattle.table.proofs.StoreLaws.{port-decoded}
 use borrow.Author.Needs.{needs}
 use Rattle.whole.proofs.has_line.Statement.{statement}
 use Rattle.whole.proofs.has_line.Tie as tie
-use Rattle.whole.proofs.has_line.Reads as reads
-use Rattle.whole.proofs.has_line.Lts as lts
-use Rattle.machine.proofs.states.Line.same.Reads as same-reads
-use Rattle.table.proofs.record.line_in.Reads as line-in-reads
-use Rattle.table.proofs.record_at.Reads as record-at-reads
 
--- src/lib.rt:94:17
 shared-slice-read-count : tie.Need-shared-slice-read-count
 shared-slice-read-count c = search needs
 
--- src/lib.rt:94:17
 cast-count : tie.Need-cast-count
 cast-count c = omega (arith, c .shared-slice-known2 .given 0)
 
--- src/lib.rt:96:9
 returns : tie.Need-returns
 returns c e =
     let h = within-true 1 (c .before .before .before .args .n) (countIn (now (c .before .before .before .args .table))) e in
     let some = h .0 in
     absurd (omega (arith, c .if1 .taken, some))
 
--- src/lib.rt:99:9
 returns-2 : tie.Need-returns-2
 returns-2 c e =
     let h = within-true 1 (c .before .before .before .before .args .n) (countIn (now (c .before .before .before .before .args .table))) e in
     let most = h .1 in
     absurd (omega (arith, c .if2 .taken, most))
 
--- src/lib.rt:102:62
 cast-record-at : tie.Need-cast-record-at
 cast-record-at c = search needs
 
--- src/lib.rt:102:38
 record-at-requires : tie.Need-record-at-requires
 record-at-requires c κs = search needs
 
--- src/lib.rt:102:15
 line-in-requires : tie.Need-line-in-requires
 line-in-requires c κs = search needs
 
--- src/lib.rt:102:5
 same-requires : tie.Need-same-requires
 same-requires c κs = search needs
 
--- src/lib.rt:90:1
 returns-3 : tie.Need-returns-3
 unfolding decodedAt decoded
 returns-3 c e =

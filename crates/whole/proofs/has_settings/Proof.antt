@@ -1,3 +1,4 @@
+-- `has_settings` meets its contract: the settings of the record, if there is one. Assumes nothing.
 use Prim.Native.Nat.{_-_, _<_}
 use native.Mathlib.Omega.{arith}
 use denote.Ref.{now}
@@ -7,51 +8,37 @@ use Rattle.table.proofs.StoreLaws.{port-decoded}
 use borrow.Author.Needs.{needs}
 use Rattle.whole.proofs.has_settings.Statement.{statement}
 use Rattle.whole.proofs.has_settings.Tie as tie
-use Rattle.whole.proofs.has_settings.Reads as reads
-use Rattle.whole.proofs.has_settings.Lts as lts
-use Rattle.settings.proofs.Settings.is_held.Reads as is-held-reads
-use Rattle.table.proofs.record.read_record.Reads as read-record-reads
-use Rattle.table.proofs.record_at.Reads as record-at-reads
 
--- src/lib.rt:110:17
 shared-slice-read-count : tie.Need-shared-slice-read-count
 shared-slice-read-count c = search needs
 
--- src/lib.rt:110:17
 cast-count : tie.Need-cast-count
 cast-count c = omega (arith, c .shared-slice-known2 .given 0)
 
--- src/lib.rt:112:9
 returns : tie.Need-returns
 returns c e =
     let h = within-true 1 (c .before .before .before .args .n) (countIn (now (c .before .before .before .args .table))) e in
     let some = h .0 in
     absurd (omega (arith, c .if1 .taken, some))
 
--- src/lib.rt:115:9
 returns-2 : tie.Need-returns-2
 returns-2 c e =
     let h = within-true 1 (c .before .before .before .before .args .n) (countIn (now (c .before .before .before .before .args .table))) e in
     let most = h .1 in
     absurd (omega (arith, c .if2 .taken, most))
 
--- src/lib.rt:118:73
 cast-record-at : tie.Need-cast-record-at
 cast-record-at c = search needs
 
--- src/lib.rt:118:49
 record-at-requires : tie.Need-record-at-requires
 record-at-requires c κs = search needs
 
--- src/lib.rt:118:22
 read-record-requires : tie.Need-read-record-requires
 read-record-requires c κs = search needs
 
--- src/lib.rt:118:5
 is-held-requires : tie.Need-is-held-requires
 is-held-requires c κs = search needs
 
--- src/lib.rt:106:1
 returns-3 : tie.Need-returns-3
 unfolding decodedAt
 returns-3 c e =

@@ -1,25 +1,19 @@
+-- `is_room` meets its contract: the count first, and then the size for it. Assumes nothing.
 use borrow.Author.Tests.{lt-leb, le-leb}
 use Rattle.table.specs.Layout.{mostPorts}
 use borrow.Author.Needs.{needs}
 use Rattle.whole.proofs.is_room.Statement.{statement}
 use Rattle.whole.proofs.is_room.Tie as tie
-use Rattle.whole.proofs.is_room.Reads as reads
-use Rattle.whole.proofs.is_room.Lts as lts
-use Rattle.churn.proofs.whole_size.Reads as whole-size-reads
 
--- src/lib.rt:148:9
 returns : tie.Need-returns
 returns c = rw (lt-leb 1 _ (c .if1 .taken))
 
--- src/lib.rt:151:9
 returns-2 : tie.Need-returns-2
 returns-2 c = rw (le-leb 1 _ (c .before .if1 .left), lt-leb _ mostPorts (c .if2 .taken))
 
--- src/lib.rt:153:20
 whole-size-requires : tie.Need-whole-size-requires
 whole-size-requires c κs = search needs
 
--- src/lib.rt:144:1
 returns-3 : tie.Need-returns-3
 returns-3 c = rw (le-leb 1 _ (c .before .before .if1 .left), le-leb _ mostPorts (c .before .if2 .left), c .whole-size .ensures)
 

@@ -1,3 +1,4 @@
+-- `line` meets its contract: the base's call, and the machines where the line is another. Assumes nothing.
 use mathlib.Core.Path.{_≡_, refl, sym, ap, _∙_}
 use lib.ListN.{length, take}
 use lib.Seq.{length-take-le}
@@ -16,65 +17,45 @@ use Rattle.whole.proofs.CallLaws.{roomless, finished, rejoined, base-wh
 use borrow.Author.Needs.{needs}
 use Rattle.whole.proofs.line.Statement.{statement}
 use Rattle.whole.proofs.line.Tie as tie
-use Rattle.whole.proofs.line.Reads as reads
-use Rattle.whole.proofs.line.Lts as lts
-use Rattle.churn.proofs.has_monitors.Reads as has-monitors-reads
-use Rattle.control.proofs.answer.Answer.is_accepted.Reads as is-accepted-reads
-use Rattle.control.proofs.line.Reads as line-reads
-use Rattle.whole.proofs.base_size.Reads as base-size-reads
-use Rattle.whole.proofs.has_line.Reads as has-line-reads
-use Rattle.whole.proofs.watch_if.Reads as watch-if-reads
 
--- src/lib.rt:119:9
 has-monitors-requires : tie.Need-has-monitors-requires
 has-monitors-requires c κs = search needs
 
--- src/lib.rt:120:9
 same-length : tie.Need-same-length
 same-length c = search needs
 
--- src/lib.rt:120:9
 returns : tie.Need-returns
 returns c =
     let a = c .before .before .before .before .args in
     roomless (call.line (a .n) (record { up = a .up; full = a .full })) (now (a .table)) (sym (c .before .has-monitors .ensures) ∙ not-true _ (c .if1 .taken))
 
--- src/lib.rt:122:9
 base-size-requires : tie.Need-base-size-requires
 base-size-requires c κs = sym (c .before .before .has-monitors .ensures) ∙ not-false _ (c .before .if1 .left)
 
--- src/lib.rt:123:25
 slice-reshare-prefix-has-line : tie.Need-slice-reshare-prefix-has-line
 slice-reshare-prefix-has-line c = search needs
 
--- src/lib.rt:123:25
 slice-aggregate-has-line : tie.Need-slice-aggregate-has-line
 slice-aggregate-has-line c = sym (length-take-le (c .before .base-size .result) (now (c .before .before .before .before .before .before .before .args .table)) (c .before .base-size .ensures .1))
 
--- src/lib.rt:123:9
 has-line-requires : tie.Need-has-line-requires
 has-line-requires c κs =
     let t = now (c .before .before .before .before .before .before .before .args .table) in
     let base = c .before .base-size .ensures in
     base-whole t (c .before .base-size .result) (base .0) (base .1)
 
--- src/lib.rt:124:27
 slice-relend-prefix-line : tie.Need-slice-relend-prefix-line
 slice-relend-prefix-line c = search needs
 
--- src/lib.rt:124:27
 slice-aggregate-line : tie.Need-slice-aggregate-line
 slice-aggregate-line c = sym (length-take-le (c .before .before .before .base-size .result) (now (c .before .before .before .before .before .before .before .before .before .args .table)) (c .before .before .before .base-size .ensures .1))
 
--- src/lib.rt:124:9
 line-requires : tie.Need-line-requires
 line-requires c κs = search needs
 
--- src/lib.rt:125:21
 is-accepted-requires : tie.Need-is-accepted-requires
 is-accepted-requires c κs = search needs
 
--- src/lib.rt:125:5
 watch-if-requires : tie.Need-watch-if-requires
 watch-if-requires c κs e =
     let a = c .before .before .before .before .before .before .before .before .before .before .before .before .before .before .args in
@@ -82,11 +63,9 @@ watch-if-requires c κs e =
     let same : length (c .before .before .before .before .line .last .0) ≡ length (take (c .before .before .before .before .before .before .before .before .base-size .result) (now (a .table))) = search needs in
     rejoined (call.line (a .n) (record { up = a .up; full = a .full })) refl (now (a .table)) has (c .before .before .before .before .before .before .before .before .base-size .result) (c .before .before .before .before .before .before .before .before .base-size .ensures .0) (c .before .before .before .before .line .last .0) same (c .before .before .before .before .line .ensures .1)
 
--- src/lib.rt:116:1
 same-length-2 : tie.Need-same-length-2
 same-length-2 c = search needs
 
--- src/lib.rt:116:1
 returns-2 : tie.Need-returns-2
 unfolding answer
 returns-2 c =

@@ -1,3 +1,4 @@
+-- `receive` meets its contract: the base's call, and the machines for an LACPDU. Assumes nothing.
 use mathlib.Core.Path.{_≡_, refl, sym, ap, _∙_}
 use lib.ListN.{length, take}
 use lib.Seq.{length-take-le}
@@ -8,49 +9,33 @@ use Rattle.whole.proofs.CallLaws.{roomless-out, finished-out, rejoined}
 use borrow.Author.Needs.{needs}
 use Rattle.whole.proofs.receive.Statement.{statement}
 use Rattle.whole.proofs.receive.Tie as tie
-use Rattle.whole.proofs.receive.Reads as reads
-use Rattle.whole.proofs.receive.Lts as lts
-use Rattle.churn.proofs.has_monitors.Reads as has-monitors-reads
-use Rattle.control.proofs.answer.Answer.is_lacpdu.Reads as is-lacpdu-reads
-use Rattle.control.proofs.receive.Reads as receive-reads
-use Rattle.whole.proofs.base_size.Reads as base-size-reads
-use Rattle.whole.proofs.watch_if.Reads as watch-if-reads
 
--- src/lib.rt:69:9
 has-monitors-requires : tie.Need-has-monitors-requires
 has-monitors-requires c κs = search needs
 
--- src/lib.rt:70:9
 same-length : tie.Need-same-length
 same-length c = search needs
 
--- src/lib.rt:70:9
 returns : tie.Need-returns
 returns c =
     let a = c .before .before .before .before .before .before .args in
     roomless-out (call.receive (a .n) (now (a .frame)) (now (a .out))) (now (a .table)) (sym (c .before .has-monitors .ensures) ∙ not-true _ (c .if1 .taken))
 
--- src/lib.rt:72:9
 base-size-requires : tie.Need-base-size-requires
 base-size-requires c κs = sym (c .before .before .has-monitors .ensures) ∙ not-false _ (c .before .if1 .left)
 
--- src/lib.rt:73:30
 slice-relend-prefix-receive : tie.Need-slice-relend-prefix-receive
 slice-relend-prefix-receive c = search needs
 
--- src/lib.rt:73:30
 slice-aggregate-receive : tie.Need-slice-aggregate-receive
 slice-aggregate-receive c = sym (length-take-le (c .before .base-size .result) (now (c .before .before .before .before .before .before .before .before .before .args .table)) (c .before .base-size .ensures .1))
 
--- src/lib.rt:73:9
 receive-requires : tie.Need-receive-requires
 receive-requires c κs = search needs
 
--- src/lib.rt:74:21
 is-lacpdu-requires : tie.Need-is-lacpdu-requires
 is-lacpdu-requires c κs = search needs
 
--- src/lib.rt:74:5
 watch-if-requires : tie.Need-watch-if-requires
 watch-if-requires c κs e =
     let a = c .before .before .before .before .before .before .before .before .before .before .before .before .before .before .before .before .before .args in
@@ -58,15 +43,12 @@ watch-if-requires c κs e =
     let same : length (c .before .before .before .before .before .before .receive .last .0) ≡ length (take (c .before .before .before .before .before .before .before .before .before .base-size .result) (now (a .table))) = search needs in
     rejoined (call.receive (a .n) (now (a .frame)) (now (a .out))) refl (now (a .table)) has (c .before .before .before .before .before .before .before .before .before .base-size .result) (c .before .before .before .before .before .before .before .before .before .base-size .ensures .0) (c .before .before .before .before .before .before .receive .last .0) same (c .before .before .before .before .before .before .receive .ensures .1)
 
--- src/lib.rt:66:1
 same-length-2 : tie.Need-same-length-2
 same-length-2 c = search needs
 
--- src/lib.rt:66:1
 same-length-3 : tie.Need-same-length-3
 same-length-3 c = search needs
 
--- src/lib.rt:66:1
 returns-2 : tie.Need-returns-2
 returns-2 c =
     let a = c .before .before .before .before .before .before .before .before .before .before .before .before .before .before .before .before .before .before .before .before .args in

@@ -1,3 +1,4 @@
+-- `report_due` meets its contract: the base's report. Assumes nothing.
 use Prim.Native.Nat.{ℕ}
 use mathlib.Core.Path.{sym, ap, _∙_}
 use lib.ListN.{take}
@@ -10,34 +11,23 @@ use Rattle.whole.specs.Report.{wholeDue}
 use borrow.Author.Needs.{needs}
 use Rattle.whole.proofs.report_due.Statement.{statement}
 use Rattle.whole.proofs.report_due.Tie as tie
-use Rattle.whole.proofs.report_due.Reads as reads
-use Rattle.whole.proofs.report_due.Lts as lts
-use Rattle.churn.proofs.has_monitors.Reads as has-monitors-reads
-use Rattle.control.proofs.report_due.Reads as report-due-reads
-use Rattle.whole.proofs.base_size.Reads as base-size-reads
 
--- src/lib.rt:215:9
 has-monitors-requires : tie.Need-has-monitors-requires
 has-monitors-requires c κs = search needs
 
--- src/lib.rt:216:9
 returns : tie.Need-returns
 unfolding wholeDue
 returns c = rw (sym (c .before .has-monitors .ensures) ∙ not-true _ (c .if1 .taken))
 
--- src/lib.rt:221:9
 base-size-requires : tie.Need-base-size-requires
 base-size-requires c κs = sym (c .before .has-monitors .ensures) ∙ not-false _ (c .if1 .left)
 
--- src/lib.rt:222:25
 slice-aggregate-report-due : tie.Need-slice-aggregate-report-due
 slice-aggregate-report-due c = sym (length-take-le (c .before .base-size .result) (now (c .before .before .before .before .before .args .table)) (c .before .base-size .ensures .1))
 
--- src/lib.rt:222:5
 report-due-requires : tie.Need-report-due-requires
 report-due-requires c κs = search needs
 
--- src/lib.rt:212:1
 returns-2 : tie.Need-returns-2
 unfolding wholeDue baseOf
 returns-2 c =

@@ -1,3 +1,4 @@
+-- `start` meets its contract: the base's start, and the machines begun. Assumes nothing.
 use mathlib.Core.Path.{_≡_, refl, sym, ap, _∙_}
 use lib.ListN.{length, take}
 use lib.Seq.{length-take-le}
@@ -10,33 +11,21 @@ use Rattle.whole.proofs.CallLaws.{roomless, finished, room-size, room-f
 use borrow.Author.Needs.{needs}
 use Rattle.whole.proofs.start.Statement.{statement}
 use Rattle.whole.proofs.start.Tie as tie
-use Rattle.whole.proofs.start.Reads as reads
-use Rattle.whole.proofs.start.Lts as lts
-use Rattle.control.proofs.answer.Answer.is_accepted.Reads as is-accepted-reads
-use Rattle.control.proofs.start.Reads as start-reads
-use Rattle.table.proofs.layout.place_of.Reads as place-of-reads
-use Rattle.whole.proofs.is_room.Reads as is-room-reads
-use Rattle.whole.proofs.watch_if.Reads as watch-if-reads
 
--- src/lib.rt:166:9
 is-room-requires : tie.Need-is-room-requires
 is-room-requires c κs = search needs
 
--- src/lib.rt:167:9
 same-length : tie.Need-same-length
 same-length c = search needs
 
--- src/lib.rt:167:9
 returns : tie.Need-returns
 returns c =
     let a = c .before .before .before .before .args in
     roomless (call.start (a .count) (a .system) (a .delay) (a .settings)) (now (a .table)) (sym (c .before .is-room .ensures) ∙ not-true _ (c .if1 .taken))
 
--- src/lib.rt:169:9
 place-of-requires : tie.Need-place-of-requires
 place-of-requires c κs = search needs
 
--- src/lib.rt:170:28
 slice-relend-prefix-start : tie.Need-slice-relend-prefix-start
 slice-relend-prefix-start c =
     let a = c .before .before .before .before .before .args in
@@ -44,7 +33,6 @@ slice-relend-prefix-start c =
     let is = c .place-of .ensures in
     omega (arith, size, is)
 
--- src/lib.rt:170:28
 slice-aggregate-start : tie.Need-slice-aggregate-start
 slice-aggregate-start c =
     let a = c .before .before .before .before .before .before .args in
@@ -52,15 +40,12 @@ slice-aggregate-start c =
     let is = c .before .place-of .ensures in
     sym (length-take-le (c .before .place-of .result) (now (a .table)) (omega (arith, size, is)))
 
--- src/lib.rt:170:9
 start-requires : tie.Need-start-requires
 start-requires c κs = search needs
 
--- src/lib.rt:171:21
 is-accepted-requires : tie.Need-is-accepted-requires
 is-accepted-requires c κs = search needs
 
--- src/lib.rt:171:5
 watch-if-requires : tie.Need-watch-if-requires
 watch-if-requires c κs e =
     let a = c .before .before .before .before .before .before .before .before .before .before .before .args in
@@ -70,11 +55,9 @@ watch-if-requires c κs e =
     restarted (a .count) (a .system) (a .delay) (a .settings) (now (a .table)) has (c .before .before .before .before .before .before .place-of .result) (c .before .before .before .before .before .before .place-of .ensures) (c .before .before .before .before .start .last .0) same (told .1)
     (ap accepted (sym (told .0)) ∙ sym (c .is-accepted .ensures) ∙ e)
 
--- src/lib.rt:157:1
 same-length-2 : tie.Need-same-length-2
 same-length-2 c = search needs
 
--- src/lib.rt:157:1
 returns-2 : tie.Need-returns-2
 returns-2 c =
     let a = c .before .before .before .before .before .before .before .before .before .before .before .before .before .before .args in

@@ -1,3 +1,4 @@
+-- `tick` meets its contract: the base's tick, and the machines. Assumes nothing.
 use mathlib.Core.Path.{_≡_, refl, sym, _∙_}
 use lib.ListN.{length, take}
 use lib.Seq.{length-take-le}
@@ -8,49 +9,33 @@ use Rattle.whole.proofs.CallLaws.{roomless, finished, rejoined}
 use borrow.Author.Needs.{needs}
 use Rattle.whole.proofs.tick.Statement.{statement}
 use Rattle.whole.proofs.tick.Tie as tie
-use Rattle.whole.proofs.tick.Reads as reads
-use Rattle.whole.proofs.tick.Lts as lts
-use Rattle.churn.proofs.has_monitors.Reads as has-monitors-reads
-use Rattle.control.proofs.answer.Answer.is_accepted.Reads as is-accepted-reads
-use Rattle.control.proofs.tick.Reads as tick-reads
-use Rattle.whole.proofs.base_size.Reads as base-size-reads
-use Rattle.whole.proofs.watch_if.Reads as watch-if-reads
 
--- src/lib.rt:56:9
 has-monitors-requires : tie.Need-has-monitors-requires
 has-monitors-requires c κs = search needs
 
--- src/lib.rt:57:9
 same-length : tie.Need-same-length
 same-length c = search needs
 
--- src/lib.rt:57:9
 returns : tie.Need-returns
 returns c =
     let t = now (c .before .before .before .before .args .table) in
     roomless call.tick t (sym (c .before .has-monitors .ensures) ∙ not-true _ (c .if1 .taken))
 
--- src/lib.rt:59:9
 base-size-requires : tie.Need-base-size-requires
 base-size-requires c κs = sym (c .before .before .has-monitors .ensures) ∙ not-false _ (c .before .if1 .left)
 
--- src/lib.rt:60:27
 slice-relend-prefix-tick : tie.Need-slice-relend-prefix-tick
 slice-relend-prefix-tick c = search needs
 
--- src/lib.rt:60:27
 slice-aggregate-tick : tie.Need-slice-aggregate-tick
 slice-aggregate-tick c = sym (length-take-le (c .before .base-size .result) (now (c .before .before .before .before .before .before .before .args .table)) (c .before .base-size .ensures .1))
 
--- src/lib.rt:60:9
 tick-requires : tie.Need-tick-requires
 tick-requires c κs = search needs
 
--- src/lib.rt:61:21
 is-accepted-requires : tie.Need-is-accepted-requires
 is-accepted-requires c κs = search needs
 
--- src/lib.rt:61:5
 watch-if-requires : tie.Need-watch-if-requires
 watch-if-requires c κs e =
     let has = sym (c .before .before .before .before .before .before .before .before .before .has-monitors .ensures) ∙ not-false _ (c .before .before .before .before .before .before .before .before .if1 .left) in
@@ -58,11 +43,9 @@ watch-if-requires c κs e =
     let same : length (c .before .before .before .before .tick .last .0) ≡ length (take (c .before .before .before .before .before .before .base-size .result) w) = search needs in
     rejoined call.tick refl w has (c .before .before .before .before .before .before .base-size .result) (c .before .before .before .before .before .before .base-size .ensures .0) (c .before .before .before .before .tick .last .0) same (c .before .before .before .before .tick .ensures .1)
 
--- src/lib.rt:53:1
 same-length-2 : tie.Need-same-length-2
 same-length-2 c = search needs
 
--- src/lib.rt:53:1
 returns-2 : tie.Need-returns-2
 returns-2 c =
     let has = sym (c .before .before .before .before .before .before .before .before .before .before .before .before .has-monitors .ensures) ∙ not-false _ (c .before .before .before .before .before .before .before .before .before .before .before .if1 .left) in
