@@ -27,13 +27,13 @@ use Rattle.control.specs.declared.answer.Answer.the-variants.{Done, Lacpdu, Mar
 use Rattle.control.specs.declared.answer.Reason.{Reason}
 use Rattle.control.specs.declared.answer.Reason.the-variants as reason
 use Rattle.control.specs.Answer.{isNumber, onPort, withRoom, withDefault, frameAnswer, dueAnswer}
-use Rattle.control.specs.Call.{Call, start, receive, tick, line, configure, fetch, report, aggregator, due as dueCall}
+use Rattle.control.specs.Call.{Call, start, receive, tick, line, configure, fetch, report, aggregator, due as dueCall, isStart}
 use Rattle.control.specs.After.{answer, afterFrame, changedBy, unless, after, effect}
 use Rattle.control.specs.Accepted.{accepted}
 use Rattle.claims.specs.Run.{Takes, AllTake, run, Made}
 use Rattle.control.proofs.CallLaws.{if-accepted, named, received-on, after-accepted, refused-table, refused-buffer}
 use Rattle.claims.specs.AtRest.{Sound}
-use Rattle.claims.specs.Claims.{isStart, NeverStuck, NoAnswerOne, RefusalsSilent}
+use Rattle.claims.specs.Claims.{NeverStuck, NoAnswerOne, RefusalsSilent}
 use Rattle.claims.proofs.Sound.{unmoved, send-sound, line-sound, settings-sound, received-sound, tick-sound, start-sound}
 
 -- ---- each call keeps a table sound

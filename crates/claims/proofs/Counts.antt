@@ -1,7 +1,7 @@
 -- No call changes the port count of a table: of one size there is one count, so a further start has the same; every other call keeps the header.
 -- Assumes nothing.
 use Prim.Native.Nat.{ℕ, _-_}
-use mathlib.Core.Path.{_≡_, refl, sym, _∙_}
+use mathlib.Core.Path.{_≡_, refl, sym, ap, _∙_}
 use mathlib.Core.Bool.{Bool, true, false, cond, false≢true}
 use mathlib.Core.List.{List, [], _∷_, map}
 use native.Mathlib.Omega.{arith}
@@ -33,20 +33,14 @@ use Rattle.control.specs.declared.answer.Answer.{Answer}
 use Rattle.control.specs.declared.answer.Answer.the-variants.{Done, Lacpdu, Marker, Refused}
 use Rattle.control.specs.declared.answer.Reason.the-variants as reason
 use Rattle.control.specs.Answer.{withDefault}
-use Rattle.control.specs.Call.{Call, start, receive, tick, line, configure, fetch, report, aggregator, due}
+use Rattle.control.specs.Call.{Call, start, receive, tick, line, configure, fetch, report, aggregator, due, isStart}
 use Rattle.control.specs.After.{answer, afterFrame, changedBy, unless, after, effect}
 use Rattle.control.specs.Accepted.{accepted}
-use Rattle.claims.proofs.Sound.{keptIf}
+use Rattle.control.proofs.CallLaws.{after-accepted, refused-table}
+use Rattle.control.proofs.CountLaws.{started-count, after-count}
 use Rattle.claims.specs.Run.{run, AllTake}
 use Rattle.claims.specs.AtRest.{Sound}
 use Rattle.claims.proofs.Calls.{call-sound}
-
-pub again-count : (t : List ℕ) (qs : List Port) → countIn (again t qs) ≡ countIn t
-again-count t qs = made-count (headerOf t) qs
-
-unless-count : (b : Bool) (t : List ℕ) (qs : List Port) → countIn (keptIf b t qs) ≡ countIn t
-unless-count true t qs = again-count t (ports t)
-unless-count false t qs = again-count t qs
 
 -- ---- a start
 
@@ -62,55 +56,38 @@ start-room t count system delay x e =
     if-room true a f = refl
     if-room false a f = absurd (false≢true f)
 
-pub started-count : (t : List ℕ) (count : ℕ) (system : SystemId) (delay : TensOfMicroseconds) (x : Settings)
-    → countIn (changedBy (start count system delay x) t) ≡ count
-unfolding effect afterStart
-started-count t count system delay x =
-    let h : Header = record { count = count; system = system; delay = delay } in
-    made-count h (settled h (replicate count (started x)))
-
 same-count : (a b : ℕ) → tableSize a ≡ tableSize b → a ≡ b
 same-count a b e = omega arith
 
+accepted-kept : (t : List ℕ) → Sound t → (count : ℕ) (system : SystemId) (delay : TensOfMicroseconds) (x : Settings)
+    → accepted (answer (start count system delay x) t) ≡ true → countIn (after (start count system delay x) t) ≡ countIn t
+accepted-kept t s count system delay x e =
+    ap countIn (after-accepted t (start count system delay x) e) ∙ started-count t count system delay x
+    ∙ same-count count (countIn t) (sym (start-room t count system delay x e .1) ∙ in-range t (s .ranged) .size)
+
+-- so one that is accepted on a table leaves its count
+start-kept : (t : List ℕ) → Sound t → (c : Call) → isStart c ≡ true → (a : Answer) → answer c t ≡ a → countIn (after c t) ≡ countIn t
+start-kept t s (start count system delay x) e (Refused r) f = ap countIn (refused-table (start count system delay x) t f)
+start-kept t s (start count system delay x) e Done f = accepted-kept t s count system delay x (ap accepted f)
+start-kept t s (start count system delay x) e Lacpdu f = accepted-kept t s count system delay x (ap accepted f)
+start-kept t s (start count system delay x) e Marker f = accepted-kept t s count system delay x (ap accepted f)
+start-kept t s (receive n frame out) e a f = absurd (false≢true e)
+start-kept t s tick e a f = absurd (false≢true e)
+start-kept t s (line n l) e a f = absurd (false≢true e)
+start-kept t s (configure n x) e a f = absurd (false≢true e)
+start-kept t s (fetch n out) e a f = absurd (false≢true e)
+start-kept t s (report n) e a f = absurd (false≢true e)
+start-kept t s (aggregator k) e a f = absurd (false≢true e)
+start-kept t s due e a f = absurd (false≢true e)
+
 -- ---- each call
 
-frame-count : (t : List ℕ) (i : ℕ) (frame : List ℕ) (a : Answer) → countIn (onOctets (afterFrame a i frame) t) ≡ countIn t
-frame-count t i frame Done = again-count t (ports t)
-frame-count t i frame Lacpdu =
-    unfold afterReceived in again-count t (worked (ours t) (displaced i (blockOf (actorPart frame)) (set (ports t) i (receivedAt i frame (stateOf t)))))
-frame-count t i frame Marker = again-count t (ports t)
-frame-count t i frame (Refused r) = again-count t (ports t)
-
-line-count : (t : List ℕ) (i : ℕ) (l : Line) → countIn (onOctets (afterLine i l) t) ≡ countIn t
-unfolding afterLine afterOne
-line-count t i l = unless-count (sameLine l (portAt t i .line)) t (worked (ours t) (set (ports t) i (lined l (portAt t i))))
-
-settings-count : (t : List ℕ) (i : ℕ) (x : Settings) → countIn (onOctets (afterSettings i x) t) ≡ countIn t
-unfolding afterSettings afterOne
-settings-count t i x = unless-count (sameSettings x (portAt t i)) t (worked (ours t) (set (ports t) i (configured x (portAt t i))))
-
-changed-count : (t : List ℕ) → Sound t → (c : Call) → accepted (answer c t) ≡ true → countIn (changedBy c t) ≡ countIn t
-changed-count t s (start count system delay x) e =
-    started-count t count system delay x
-    ∙ same-count count (countIn t) (sym (start-room t count system delay x e .1) ∙ in-range t (s .ranged) .size)
-changed-count t s (receive n frame out) e = unfold effect in frame-count t (n - 1) frame (answer (receive n frame out) t)
-changed-count t s tick e = unfold effect afterTick in again-count t (worked (ours t) (map advanced (ports t)))
-changed-count t s (line n l) e = unfold effect in line-count t (n - 1) l
-changed-count t s (configure n x) e = unfold effect in settings-count t (n - 1) x
-changed-count t s (fetch n out) e = unfold effect afterSend in again-count t (set (ports t) (n - 1) (sent (portAt t (n - 1))))
-changed-count t s (report n) e = unfold effect in again-count t (ports t)
-changed-count t s (aggregator n) e = unfold effect in again-count t (ports t)
-changed-count t s due e = unfold effect in again-count t (ports t)
-
 pub call-count : (t : List ℕ) → Sound t → (c : Call) → countIn (after c t) ≡ countIn t
-unfolding after
-call-count t s c = by (answer c t) (λ e. changed-count t s c e)
+call-count t s c = by (isStart c) refl
   where
-    by : (a : Answer) → (accepted a ≡ true → countIn (changedBy c t) ≡ countIn t) → countIn (unless a t (changedBy c t)) ≡ countIn t
-    by Done f = f refl
-    by Lacpdu f = f refl
-    by Marker f = f refl
-    by (Refused r) f = refl
+    by : (b : Bool) → isStart c ≡ b → countIn (after c t) ≡ countIn t
+    by true e = start-kept t s c e (answer c t) refl
+    by false e = after-count c e t
 
 pub run-count : (t : List ℕ) → Sound t → (cs : List Call) → AllTake cs → countIn (run t cs) ≡ countIn t
 unfolding run

@@ -32,14 +32,14 @@ use Rattle.work.specs.Work.{worked, afterOne, receivedAt, afterReceived, afterT
 use Rattle.control.specs.declared.answer.Answer.{Answer}
 use Rattle.control.specs.declared.answer.Answer.the-variants.{Done, Lacpdu, Marker, Refused}
 use Rattle.control.specs.Answer.{withRoom, withDefault, dueAnswer}
-use Rattle.control.specs.Call.{Call, start, receive, tick, line, configure, fetch, report, aggregator, due as dueCall}
+use Rattle.control.specs.Call.{Call, start, receive, tick, line, configure, fetch, report, aggregator, due as dueCall, isStart}
 use Rattle.control.specs.After.{answer, afterFrame, changedBy, after, effect}
 use Rattle.control.specs.Accepted.{accepted}
 use Rattle.control.proofs.CallLaws.{named, received-on, after-accepted}
+use Rattle.control.proofs.CountLaws.{keptIf}
 use Rattle.claims.specs.Run.{Takes}
 use Rattle.claims.specs.AtRest.{Sound}
-use Rattle.claims.specs.Claims.{isStart}
-use Rattle.claims.proofs.Sound.{Before, in-ports, work-ports, tick-before, line-before, settings-before, received-before, send-ports, keptIf, sound-back}
+use Rattle.claims.proofs.Sound.{Before, in-ports, work-ports, tick-before, line-before, settings-before, received-before, send-ports, sound-back}
 use Rattle.claims.proofs.Locality.{again-at, set-kept}
 
 -- what the call's own rule makes of port i, from 0, before its periodic machine and steps 3 to 6

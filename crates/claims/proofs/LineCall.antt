@@ -42,9 +42,10 @@ use Rattle.control.specs.Accepted.{accepted}
 use Rattle.table.proofs.TableLaws.{octets-back}
 use Rattle.claims.specs.Run.{Takes, AllTake, run}
 use Rattle.control.proofs.CallLaws.{named, numbered, received-on, after-accepted, in-table}
+use Rattle.control.proofs.CountLaws.{keptIf}
 use Rattle.claims.specs.AtRest.{Sound}
 use Rattle.claims.specs.LineCall.{LineTaken, LineRepeated, Silent, HalfSilent, relines, NoneRelines, StaysSilent}
-use Rattle.claims.proofs.Sound.{Before, in-ports, tick-before, line-before, settings-before, received-before, send-ports, keptIf, sound-back}
+use Rattle.claims.proofs.Sound.{Before, in-ports, tick-before, line-before, settings-before, received-before, send-ports, sound-back}
 use Rattle.claims.proofs.Calls.{call-sound, run-sound, never-stuck}
 use Rattle.claims.proofs.Rule.{port-firm}
 use Rattle.claims.proofs.Counts.{call-count, run-count}

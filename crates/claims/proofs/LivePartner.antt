@@ -50,9 +50,9 @@ use Rattle.claims.specs.Run.{Takes, AllTake, run}
 use Rattle.control.proofs.CallLaws.{named, received-on, after-accepted}
 use Rattle.claims.specs.AtRest.{Sound}
 use Rattle.claims.specs.LivePartner.{lasting, Live, isExpired, toHalf, ends, NoneEnds, LivePartner}
-use Rattle.claims.proofs.Sound.{Before, in-ports, port-standing, tick-before, line-before, settings-before, received-before, send-ports, keptIf, unmoved}
+use Rattle.claims.proofs.Sound.{Before, in-ports, port-standing, tick-before, line-before, settings-before, received-before, send-ports, unmoved}
 use Rattle.claims.proofs.Calls.{call-sound, never-stuck}
-use Rattle.claims.proofs.Counts.{again-count}
+use Rattle.control.proofs.CountLaws.{again-count, keptIf}
 use Rattle.claims.proofs.Locality.{again-at, displaced-kept}
 use Rattle.claims.proofs.Views.{work-view, set-view}
 

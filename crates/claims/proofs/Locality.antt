@@ -44,9 +44,9 @@ use Rattle.claims.specs.Run.{Takes}
 use Rattle.control.proofs.CallLaws.{named, received-on, after-accepted}
 use Rattle.claims.specs.AtRest.{Sound}
 use Rattle.claims.specs.Locality.{touches, Apart, Locality}
-use Rattle.claims.proofs.Sound.{Before, in-ports, port-resting, work-ports, line-before, settings-before, received-before, send-ports, keptIf, sound-back}
+use Rattle.claims.proofs.Sound.{Before, in-ports, port-resting, work-ports, line-before, settings-before, received-before, send-ports, sound-back}
 use Rattle.claims.proofs.Calls.{never-stuck}
-use Rattle.claims.proofs.Counts.{again-count}
+use Rattle.control.proofs.CountLaws.{again-count, keptIf}
 
 -- ---- work on a sound table, of which some records are as they were
 

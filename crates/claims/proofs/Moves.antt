@@ -45,17 +45,17 @@ use Rattle.control.specs.declared.answer.Answer.{Answer}
 use Rattle.control.specs.declared.answer.Answer.the-variants.{Done, Lacpdu, Marker, Refused}
 use Rattle.control.specs.declared.answer.Reason.the-variants as reason
 use Rattle.control.specs.Answer.{withDefault}
-use Rattle.control.specs.Call.{Call, start, receive, tick, line, configure, fetch, report, aggregator, due}
+use Rattle.control.specs.Call.{Call, start, receive, tick, line, configure, fetch, report, aggregator, due, isStart}
 use Rattle.control.specs.After.{answer, changedBy, after, effect}
 use Rattle.control.specs.Accepted.{accepted}
 use Rattle.control.proofs.CallLaws.{if-accepted, Received, received-on, after-accepted, refused-table}
 use Rattle.claims.specs.Run.{Takes}
 use Rattle.claims.specs.AtRest.{Sound}
-use Rattle.claims.specs.Claims.{isStart}
 use Rattle.claims.specs.Moves.{Begins, Descended, MovedOver, OneAggregator, Forgotten, Resettled, Elsewhere, MovedForgets}
 use Rattle.claims.proofs.Sound.{Before, port-resting, received-before, start-ports}
 use Rattle.claims.proofs.Calls.{never-stuck}
-use Rattle.claims.proofs.Counts.{started-count, call-count}
+use Rattle.control.proofs.CountLaws.{started-count}
+use Rattle.claims.proofs.Counts.{call-count}
 use Rattle.claims.proofs.Locality.{set-kept}
 use Rattle.claims.proofs.LivePartner.{after-received}
 use Rattle.claims.proofs.Views.{work-view}

@@ -42,6 +42,7 @@ use Rattle.trunk.proofs.RestLaws.{settled-twice}
 use Rattle.trunk.proofs.RestingLaws.{displaced-standing, settled-resting}
 use Rattle.trunk.proofs.RangeKept.{displaced-ranged}
 use Rattle.work.specs.Work.{worked, afterOne, afterStart, receivedAt, afterReceived, afterTick, afterLine, afterSettings, afterSend}
+use Rattle.control.proofs.CountLaws.{keptIf}
 use Rattle.settings.proofs.RangeLaws.{configured-ranged, started-ranged}
 use Rattle.trunk.proofs.Settles.{Settles, settles, settles-is, sent-settles}
 use Rattle.work.proofs.WorkLaws.{worked-length, worked-fits}
@@ -117,10 +118,6 @@ sound-back t s = octets-back t (s .ranged) (s .octets)
 
 pub unmoved : (P : List ℕ → Type 0) (t : List ℕ) → Sound t → P t → P (octetsOf (stateOf t))
 unmoved P t s x = subst P (sym (sound-back t s)) x
-
--- the table if b, and with other ports if not
-abbrev pub keptIf : Bool → List ℕ → List Port → List ℕ
-keptIf b t ps = octetsOf (cond b (stateOf t) (withPorts ps (stateOf t)))
 
 -- the records that a call leaves before settling
 pub record Before (t : List ℕ) (ps : List Port) : Type 0 where

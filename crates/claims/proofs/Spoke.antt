@@ -44,11 +44,12 @@ use Rattle.control.specs.Call.{Call, start, receive, tick, line, configure, fet
 use Rattle.control.specs.After.{answer, after, effect}
 use Rattle.control.specs.Accepted.{isLacpdu, accepted}
 use Rattle.control.proofs.CallLaws.{named, on-port, after-accepted}
+use Rattle.control.proofs.CountLaws.{keptIf}
 use Rattle.claims.specs.Run.{Takes, AllTake, run, Made}
 use Rattle.claims.specs.AtRest.{Sound}
 use Rattle.claims.specs.LivePartner.{lasting, isExpired, toHalf, ends, NoneEnds}
 use Rattle.claims.specs.Spoke.{Heard, Spoke, PartnerSpoke}
-use Rattle.claims.proofs.Sound.{Before, in-ports, port-resting, port-standing, tick-before, line-before, keptIf}
+use Rattle.claims.proofs.Sound.{Before, in-ports, port-resting, port-standing, tick-before, line-before}
 use Rattle.claims.proofs.Calls.{never-stuck, made-start, made-call, run-more, all-more}
 use Rattle.claims.proofs.Counts.{call-count}
 use Rattle.claims.proofs.Views.{settled-view, work-view}

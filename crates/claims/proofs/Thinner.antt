@@ -44,12 +44,11 @@ use Rattle.trunk.proofs.MoveLaws.{settled-stays}
 use Rattle.work.specs.Work.{worked, receivedAt}
 use Rattle.control.specs.declared.answer.Answer.{Answer}
 use Rattle.control.specs.declared.answer.Answer.the-variants.{Done, Lacpdu, Marker, Refused}
-use Rattle.control.specs.Call.{Call}
+use Rattle.control.specs.Call.{Call, isStart}
 use Rattle.control.specs.After.{answer, after}
 use Rattle.control.specs.Accepted.{accepted}
 use Rattle.control.proofs.CallLaws.{refused-table}
 use Rattle.claims.specs.AtRest.{Sound}
-use Rattle.claims.specs.Claims.{isStart}
 use Rattle.claims.specs.Thinner.{goesOn, Why, restarted, other-line, regrouped as Why·regrouped, told, unheard, joined, left, ThinnerForAReason}
 use Rattle.claims.proofs.Sound.{Before, port-resting}
 use Rattle.claims.proofs.Calls.{never-stuck}

@@ -51,9 +51,10 @@ use Rattle.claims.specs.Run.{Takes, AllTake, run, Made}
 use Rattle.control.proofs.CallLaws.{OnPort, on-port, named, received-on, after-accepted}
 use Rattle.claims.specs.AtRest.{Sound}
 use Rattle.claims.specs.ThreeSends.{sendsBy, sends, sendsOf, recent, ThreeSends, ticksIn, NoneStarts, FourSendsApart}
-use Rattle.claims.proofs.Sound.{Before, in-ports, tick-before, line-before, settings-before, received-before, send-ports, start-ports, keptIf, sound-back}
+use Rattle.claims.proofs.Sound.{Before, in-ports, tick-before, line-before, settings-before, received-before, send-ports, start-ports, sound-back}
 use Rattle.claims.proofs.Calls.{started-sound, call-sound, never-stuck}
-use Rattle.claims.proofs.Counts.{start-room, started-count, call-count, run-count}
+use Rattle.control.proofs.CountLaws.{started-count, keptIf}
+use Rattle.claims.proofs.Counts.{start-room, call-count, run-count}
 use Rattle.claims.proofs.Locality.{again-at}
 use Rattle.claims.proofs.Views.{settled-view, work-view, set-view}
 use Rattle.claims.proofs.Recent.{Rising, Keeps, keeps-none, keeps-ticked, keeps-free, keeps-sent, recent-before}

@@ -32,13 +32,12 @@ use Rattle.trunk.proofs.MoveLaws.{settled-waits}
 use Rattle.work.specs.Work.{worked, receivedAt}
 use Rattle.control.specs.declared.answer.Answer.{Answer}
 use Rattle.control.specs.declared.answer.Answer.the-variants.{Done, Lacpdu, Marker, Refused}
-use Rattle.control.specs.Call.{Call}
+use Rattle.control.specs.Call.{Call, isStart}
 use Rattle.control.specs.After.{answer, after}
 use Rattle.control.specs.Accepted.{accepted}
 use Rattle.control.proofs.CallLaws.{refused-table}
 use Rattle.claims.specs.Run.{Takes, AllTake, run, Made}
 use Rattle.claims.specs.AtRest.{Sound}
-use Rattle.claims.specs.Claims.{isStart}
 use Rattle.claims.specs.Moves.{Begins, NoMoveUnseen}
 use Rattle.claims.specs.ThreeSends.{isTick, ticksIn, NoneStarts}
 use Rattle.claims.proofs.Sound.{Before}

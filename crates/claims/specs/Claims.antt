@@ -1,7 +1,7 @@
 -- What holds of every table that calls can make, and of every call.
 use Prim.Native.Nat.{ℕ, _<_}
 use mathlib.Core.Path.{_≡_}
-use mathlib.Core.Bool.{Bool, true, false}
+use mathlib.Core.Bool.{true, false}
 use mathlib.Core.List.{List, map}
 use mathlib.Core.Logic.{_≢_}
 use Rattle.machine.specs.Compare.{sameSystem}
@@ -16,7 +16,7 @@ use Rattle.work.specs.Work.{worked}
 use Rattle.control.specs.declared.answer.Answer.the-variants.{Refused}
 use Rattle.control.specs.declared.answer.Reason.{Reason}
 use Rattle.control.specs.declared.answer.Reason.the-variants.{Table}
-use Rattle.control.specs.Call.{Call, start, receive, tick, line, configure, fetch, report, aggregator, due}
+use Rattle.control.specs.Call.{Call, isStart}
 use Rattle.control.specs.After.{answer, after, bufferOf, outgoing}
 use Rattle.claims.specs.Run.{Made}
 use Rattle.claims.specs.AtRest.{Sound}
@@ -27,17 +27,6 @@ abbrev pub NeverStuck : Type 0
 NeverStuck = (t : List ℕ) → Made t → Sound t
 
 -- so answer 1 is never given again, but to a start, which is told the size of the memory
-abbrev pub isStart : Call → Bool
-isStart (start count system delay s) = true
-isStart (receive n frame out) = false
-isStart tick = false
-isStart (line n l) = false
-isStart (configure n s) = false
-isStart (fetch n out) = false
-isStart (report n) = false
-isStart (aggregator k) = false
-isStart due = false
-
 abbrev pub NoAnswerOne : Type 0
 NoAnswerOne = (t : List ℕ) → Made t → (c : Call) → isStart c ≡ false → answer c t ≢ Refused Table
 

@@ -16,10 +16,10 @@ use Rattle.work.specs.Work.{worked}
 use Rattle.control.specs.declared.answer.Answer.the-variants.{Done, Refused}
 use Rattle.control.specs.declared.answer.Reason.{Reason}
 use Rattle.control.specs.declared.answer.Reason.the-variants.{Table}
-use Rattle.control.specs.Call.{Call, fetch}
+use Rattle.control.specs.Call.{Call, fetch, isStart}
 use Rattle.control.specs.After.{answer, after, bufferOf, outgoing}
 use Rattle.claims.specs.Run.{Takes, Made}
-use Rattle.claims.specs.Claims.{isStart, BitsTrue, LagHasGroup}
+use Rattle.claims.specs.Claims.{BitsTrue, LagHasGroup}
 use Rattle.claims.specs.Lag.{lagAt}
 use Rattle.claims.specs.Locality.{touches}
 use Rattle.claims.specs.ReadBack.{Reads}

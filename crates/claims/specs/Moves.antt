@@ -18,10 +18,9 @@ use Rattle.port.specs.Transmit.{nttCleared}
 use Rattle.table.specs.Table.{countIn, portAt}
 use Rattle.trunk.specs.Displaced.{isDisplaced}
 use Rattle.control.specs.declared.answer.Answer.the-variants.{Lacpdu}
-use Rattle.control.specs.Call.{Call, receive}
+use Rattle.control.specs.Call.{Call, receive, isStart}
 use Rattle.control.specs.After.{answer, after}
 use Rattle.claims.specs.Run.{Takes, AllTake, run, Made}
-use Rattle.claims.specs.Claims.{isStart}
 use Rattle.claims.specs.ThreeSends.{ticksIn, NoneStarts}
 
 -- a port begins to wait: it is not attached, and its timer has just been started

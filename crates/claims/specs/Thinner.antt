@@ -15,10 +15,9 @@ use Rattle.settings.specs.declared.Settings.{Settings}
 use Rattle.settings.specs.Settings.{sameGrouping}
 use Rattle.table.specs.Table.{countIn, ports, portAt, ours}
 use Rattle.trunk.specs.Selection.{sharesGroup}
-use Rattle.control.specs.Call.{Call, receive, tick, line, configure}
+use Rattle.control.specs.Call.{Call, receive, tick, line, configure, isStart}
 use Rattle.control.specs.After.{after}
 use Rattle.claims.specs.Run.{Takes, Made}
-use Rattle.claims.specs.Claims.{isStart}
 
 -- a frame on port i, from 0, tells of its partner as it is: the same party, in sync, and collecting
 abbrev pub goesOn : List ℕ → ℕ → List ℕ → Bool

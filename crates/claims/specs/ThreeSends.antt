@@ -12,11 +12,10 @@ use Rattle.machine.specs.Time.{fastPeriodicTime}
 use Rattle.table.specs.Table.{countIn, portAt}
 use Rattle.control.specs.declared.answer.Answer.the-variants.{Done}
 use Rattle.control.specs.Answer.{answerNumber}
-use Rattle.control.specs.Call.{Call, start, receive, tick, line, configure, fetch, report, aggregator, due}
+use Rattle.control.specs.Call.{Call, start, receive, tick, line, configure, fetch, report, aggregator, due, isStart}
 use Rattle.control.specs.After.{answer, after}
 use Rattle.control.specs.Accepted.{accepted}
 use Rattle.claims.specs.Run.{Takes, AllTake, run, Made}
-use Rattle.claims.specs.Claims.{isStart}
 
 -- ---- the sends of a run
 

@@ -1,5 +1,6 @@
 -- The calls with their arguments. A run folds `answer` and `after` over a list of them.
 use Prim.Native.Nat.{ℕ}
+use mathlib.Core.Bool.{Bool, true, false}
 use mathlib.Core.List.{List}
 use Rattle.frame.specs.declared.block.SystemId.{SystemId}
 use Rattle.frame.specs.declared.wire.TensOfMicroseconds.{TensOfMicroseconds}
@@ -17,3 +18,15 @@ pub data Call : Type 0 where
   report : (port : ℕ) → Call
   aggregator : (number : ℕ) → Call
   due : Call
+
+-- a start makes the table anew, whatever the memory held
+abbrev pub isStart : Call → Bool
+isStart (start count system delay s) = true
+isStart (receive n frame out) = false
+isStart tick = false
+isStart (line n l) = false
+isStart (configure n s) = false
+isStart (fetch n out) = false
+isStart (report n) = false
+isStart (aggregator k) = false
+isStart due = false

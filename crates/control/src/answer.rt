@@ -1,5 +1,6 @@
 // What a call answers.
 ghost use mathlib.Core.Path.{_≡_};
+ghost use Rattle.control.specs.Accepted.{accepted, isLacpdu};
 ghost use Rattle.control.specs.Answer.{reasonNumber, answerNumber, lengthSent};
 use frame::class::FRAME;
 use frame::class::Refusal;
@@ -69,6 +70,28 @@ impl Answer {
             Answer::Lacpdu => 0,
             Answer::Marker => 0,
             Answer::Refused(why) => why.number(),
+        }
+    }
+
+    pub fn is_accepted(self) -> bool
+        ensures { λ r. ⌜ r ≡ accepted self ⌝ }
+    {
+        match self {
+            Answer::Done => true,
+            Answer::Lacpdu => true,
+            Answer::Marker => true,
+            Answer::Refused(_) => false,
+        }
+    }
+
+    pub fn is_lacpdu(self) -> bool
+        ensures { λ r. ⌜ r ≡ isLacpdu self ⌝ }
+    {
+        match self {
+            Answer::Done => false,
+            Answer::Lacpdu => true,
+            Answer::Marker => false,
+            Answer::Refused(_) => false,
         }
     }
 

@@ -22,7 +22,7 @@ use table::layout::RECORD;
 
 pub mod answer;
 mod checks;
-mod constants;
+pub mod constants;
 
 // Starts a table of `count` ports in memory of any content; every port begins with these settings.
 pub fn start(

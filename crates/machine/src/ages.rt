@@ -66,7 +66,7 @@ impl Ages {
 }
 
 // A running timer falls by one; a stopped one stays at 0.
-fn fallen(t: Ticks) -> Ticks
+pub fn fallen(t: Ticks) -> Ticks
     ensures { λ r. ⌜ r ≡ Time·fallen t ⌝ }
 {
     if t.0 == 0 {

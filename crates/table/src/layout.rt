@@ -24,7 +24,7 @@ pub struct Header {
 }
 
 // Where record `i`, from 0, begins; for the port count, the octets of the table.
-pub(crate) fn place_of(i: usize) -> usize
+pub fn place_of(i: usize) -> usize
     requires { ⌜ place i ≤ 18446744073709551615 ⌝ }
     ensures { λ r. ⌜ r ≡ place i ⌝ }
 {

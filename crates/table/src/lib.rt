@@ -54,7 +54,7 @@ pub fn count(table: &[u8]) -> usize
 }
 
 // The part of the table that is record `i`, from 0.
-fn record_at(table: &[u8], i: usize) -> &[u8]
+pub fn record_at(table: &[u8], i: usize) -> &[u8]
     requires { ⌜ place i + recordSize ≤ length (now table) ⌝ }
     ensures { λ r. ⌜ (now r ≡ recordAt (now (table .entry)) i) × (length (now r) ≡ recordSize) ⌝ }
 {

@@ -1,0 +1,3 @@
+pub mod Churn
+pub mod Group
+pub mod Whole

@@ -1,0 +1,102 @@
+// The octets of a port's two monitors.
+ghost use mathlib.Core.Path.{_≡_};
+ghost use Prim.Native.Nat.{_+_, _≤_};
+ghost use lib.ListN.{length};
+ghost use Rattle.octets.specs.Octets.{putAt};
+ghost use Rattle.churn.specs.Group.{groupSize, churnCode, churnOf, longOctets, longAt, groupOctets, groupOf, groupInRange};
+use crate::watch::CHURN_DETECTION_TIME;
+use crate::watch::Churn;
+use crate::watch::Monitors;
+use crate::watch::Watch;
+use machine::states::Ticks;
+
+// The octets of a group.
+pub const GROUP: usize = 14;
+
+fn churn_code(s: Churn) -> u8
+    ensures { λ r. ⌜ r ≡ churnCode s ⌝ }
+{
+    match s {
+        Churn::NoChurn => 0,
+        Churn::Monitor => 1,
+        Churn::Churn => 2,
+    }
+}
+
+fn churn_of(n: u8) -> Churn
+    ensures { λ r. ⌜ r ≡ churnOf n ⌝ }
+{
+    match n {
+        1 => Churn::Monitor,
+        2 => Churn::Churn,
+        _ => Churn::NoChurn,
+    }
+}
+
+fn wide(n: u16) -> u32
+    ensures { λ r. ⌜ (r ≡ n) × (r ≤ 65535) ⌝ }
+{
+    n as u32
+}
+
+// The number of four octets at index `at`.
+fn long(s: &[u8], at: usize) -> u32
+    requires { ⌜ at + 4 ≤ length (now s) ⌝ }
+    ensures { λ r. ⌜ r ≡ longAt (now (s .entry)) at ⌝ }
+{
+    wide(octets::number(s, at)) * 65536 + wide(octets::number(s, at + 2))
+}
+
+// Writes a number of four octets at index `at`.
+fn put_long(dst: &mut [u8], at: usize, n: u32)
+    requires { ⌜ at + 4 ≤ length (now dst) ⌝ }
+    ensures { λ _. ⌜ now (dst .exit) ≡ putAt at (longOctets n) (now (dst .entry)) ⌝ }
+{
+    octets::put_number(dst, at, (n / 65536) as u16);
+    octets::put_number(dst, at + 2, (n % 65536) as u16);
+}
+
+// The monitors that a group's octets tell of.
+pub fn read(s: &[u8]) -> Monitors
+    requires { ⌜ length (now s) ≡ groupSize ⌝ }
+    ensures { λ r. ⌜ r ≡ groupOf (now (s .entry)) ⌝ }
+{
+    let actor = Watch {
+        state: churn_of(s[0]),
+        timer: Ticks(octets::number(s, 2)),
+        count: long(s, 6),
+    };
+    let partner = Watch {
+        state: churn_of(s[1]),
+        timer: Ticks(octets::number(s, 4)),
+        count: long(s, 10),
+    };
+    Monitors { actor, partner }
+}
+
+// Writes a group into its octets.
+pub fn write(m: Monitors, out: &mut [u8])
+    requires { ⌜ length (now out) ≡ groupSize ⌝ }
+    ensures { λ _. ⌜ now (out .exit) ≡ groupOctets m ⌝ }
+{
+    let actor = m.actor;
+    let partner = m.partner;
+    let ours = actor.state;
+    let theirs = partner.state;
+    octets::put(out, 0, &[churn_code(ours), churn_code(theirs)]);
+    octets::put_number(out, 2, actor.timer.0);
+    octets::put_number(out, 4, partner.timer.0);
+    put_long(out, 6, actor.count);
+    put_long(out, 10, partner.count);
+}
+
+// Whether a group's octets are in range.
+pub fn is_group(s: &[u8]) -> bool
+    requires { ⌜ length (now s) ≡ groupSize ⌝ }
+    ensures { λ r. ⌜ r ≡ groupInRange (now (s .entry)) ⌝ }
+{
+    (s[0] <= 2)
+        & ((s[1] <= 2)
+            & ((octets::number(s, 2) <= CHURN_DETECTION_TIME)
+                & (octets::number(s, 4) <= CHURN_DETECTION_TIME)))
+}
