@@ -1,1 +1,3 @@
 pub mod WholeLaws
+pub mod ChurnLaws
+pub mod MadeLaws
