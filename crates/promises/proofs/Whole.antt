@@ -99,11 +99,11 @@ refused-idle dueCall t r = refl
 
 -- a call that finds no room changes nothing, and one that finds it is the call on the front
 module _ (c : Call) (w : List ℕ) where
-  lost-after : hasRoom c w ≡ false → wholeAfter c w ≡ w
+  pub lost-after : hasRoom c w ≡ false → wholeAfter c w ≡ w
   unfolding wholeAfter
   lost-after e = rw e
 
-  lost-answer : hasRoom c w ≡ false → wholeAnswer c w ≡ Refused reason.Table
+  pub lost-answer : hasRoom c w ≡ false → wholeAnswer c w ≡ Refused reason.Table
   unfolding wholeAnswer
   lost-answer e = rw e
 
@@ -268,16 +268,16 @@ module _ (m : List ℕ) (o : Octets m) (count : ℕ) (system : SystemId) (delay 
   left-size : length (after (start count system delay x) (take (place count) m)) ≡ place count
   left-size = sound-size (after (start count system delay x) (take (place count) m)) left-sound ∙ ap place left-count
 
-  whole : List ℕ
+  pub whole : List ℕ
   whole = after (start count system delay x) (take (place count) m) ++ drop (place count) m
 
-  whole-is : wholeAfter (start count system delay x) m ≡ watchedAll stage.Start whole
+  pub whole-is : wholeAfter (start count system delay x) m ≡ watchedAll stage.Start whole
   unfolding whole
   whole-is =
       front-after (start count system delay x) m count refl start-roomy
       ∙ ap (λ (b : Bool). watchedIf b stage.Start (after (start count system delay x) (take (place count) m) ++ drop (place count) m)) start-done
 
-  whole-fits : length whole ≡ wholeSize (countIn whole)
+  pub whole-fits : length whole ≡ wholeSize (countIn whole)
   unfolding whole
   whole-fits = joined-whole m (after (start count system delay x) (take (place count) m)) count (room-size m count start-roomy) left-size left-count
 
@@ -323,19 +323,19 @@ module _ (w : List ℕ) (s : WholeSound w) (c : Call) (k : Takes c) where
   pub joined : List ℕ
   joined = after c (baseOf w) ++ drop (place (countIn w)) w
 
-  join-base : baseOf joined ≡ after c (baseOf w)
+  pub join-base : baseOf joined ≡ after c (baseOf w)
   unfolding joined
   join-base = joined-base w (after c (baseOf w)) (countIn w) size then-size then-count
 
-  join-count : countIn joined ≡ countIn w
+  pub join-count : countIn joined ≡ countIn w
   unfolding joined
   join-count = joined-count w (after c (baseOf w)) (countIn w) size then-size then-count
 
-  join-whole : length joined ≡ wholeSize (countIn joined)
+  pub join-whole : length joined ≡ wholeSize (countIn joined)
   unfolding joined
   join-whole = joined-whole w (after c (baseOf w)) (countIn w) size then-size then-count
 
-  join-monitors : (i : ℕ) → monitorsAt joined i ≡ monitorsAt w i
+  pub join-monitors : (i : ℕ) → monitorsAt joined i ≡ monitorsAt w i
   unfolding joined
   join-monitors i = joined-monitors w (after c (baseOf w)) (countIn w) size then-size then-count refl i
 
@@ -352,7 +352,7 @@ module _ (w : List ℕ) (s : WholeSound w) (c : Call) (k : Takes c) where
   unfolding joined baseOf
   room-after room = front-after c w (countIn w) (room-count c w (s .ranged) room) room
 
-  if-base : (b : Bool) → baseOf (watchedIf b (stageOf c) joined) ≡ after c (baseOf w)
+  pub if-base : (b : Bool) → baseOf (watchedIf b (stageOf c) joined) ≡ after c (baseOf w)
   if-base true = watched-base (stageOf c) joined join-whole ∙ join-base
   if-base false = join-base
 
@@ -388,7 +388,7 @@ module _ (w : List ℕ) (s : WholeSound w) (c : Call) (k : Takes c) where
       by false room = subst WholeSound (sym (lost-after c w room)) s
 
   -- ---- and with the monitors dropped it is the call on the table without them
-  room-base : hasRoom c w ≡ true → BaseCall c w
+  pub room-base : hasRoom c w ≡ true → BaseCall c w
   room-base room = record {
     answers = unfold baseOf in front-answer c w (countIn w) (room-count c w (s .ranged) room) room;
     leaves = ap baseOf (room-after room) ∙ if-base (settles c (baseOf w) (answer c (baseOf w)));
@@ -423,7 +423,7 @@ start-alike w s count =
     ∙ ap (λ (b : Bool). within 1 count mostPorts && b) (rooms-alike (countIn w) count) ∙ ap (λ (n : ℕ). within 1 count mostPorts && eqb n (wholeSize count)) (sym long)
 
 -- a call without room is a start that the table without monitors refuses too
-lost-base : (w : List ℕ) → WholeSound w → (c : Call) → hasRoom c w ≡ false → answer c (baseOf w) ≡ Refused reason.Table
+pub lost-base : (w : List ℕ) → WholeSound w → (c : Call) → hasRoom c w ≡ false → answer c (baseOf w) ≡ Refused reason.Table
 unfolding answer
 lost-base w s (start count system delay x) e =
     ap (λ (b : Bool). cond b (withDefault x Done) (Refused reason.Table)) (start-alike w s count ∙ e)
