@@ -1,6 +1,5 @@
 pub mod Sound
 pub mod Calls
-pub mod Typed
 pub mod Rule
 pub mod Lag
 pub mod Counts
@@ -18,6 +17,6 @@ pub mod Moves
 pub mod Unseen
 pub mod Thinner
 pub mod Spoke
-pub mod Demands
+pub mod Further
 pub mod Witness
 pub mod Applied

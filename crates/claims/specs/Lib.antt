@@ -12,7 +12,7 @@ pub mod ReadBack
 pub mod Moves
 pub mod Thinner
 pub mod Spoke
-pub mod Demands
+pub mod Further
 pub mod Speakers
 pub mod Witness
 pub mod Applied

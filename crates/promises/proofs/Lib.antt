@@ -1,2 +1,4 @@
+pub mod Typed
 pub mod Whole
 pub mod Churn
+pub mod Demands

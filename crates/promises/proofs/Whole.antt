@@ -63,7 +63,7 @@ use Rattle.promises.specs.Churn.{Seen, seenOf}
 -- ---- the memory of a call: its front, and the rest
 
 -- a call that is no start takes the memory's own count, and asks for monitors in range
-plain-count : (c : Call) → isStart c ≡ false → (w : List ℕ) → countFor c w ≡ countIn w
+pub plain-count : (c : Call) → isStart c ≡ false → (w : List ℕ) → countFor c w ≡ countIn w
 plain-count (start count system delay x) s w = absurd (true≢false s)
 plain-count (receive n frame out) s w = refl
 plain-count tick s w = refl
@@ -74,7 +74,7 @@ plain-count (report n) s w = refl
 plain-count (aggregator k) s w = refl
 plain-count dueCall s w = refl
 
-plain-room : (c : Call) → isStart c ≡ false → (w : List ℕ) → hasRoom c w ≡ hasMonitors w
+pub plain-room : (c : Call) → isStart c ≡ false → (w : List ℕ) → hasRoom c w ≡ hasMonitors w
 plain-room (start count system delay x) s w = absurd (true≢false s)
 plain-room (receive n frame out) s w = refl
 plain-room tick s w = refl
@@ -110,6 +110,14 @@ module _ (c : Call) (w : List ℕ) where
   lost-out : hasRoom c w ≡ false → wholeOutgoing c w ≡ bufferOf c
   unfolding wholeOutgoing
   lost-out e = rw e
+
+  -- one that is accepted has found it
+  pub accepted-room : accepted (wholeAnswer c w) ≡ true → hasRoom c w ≡ true
+  accepted-room done = by (hasRoom c w) refl
+    where
+      by : (b : Bool) → hasRoom c w ≡ b → hasRoom c w ≡ true
+      by true e = e
+      by false e = absurd (false≢true (sym (ap accepted (lost-answer e)) ∙ done))
 
   module _ (count : ℕ) (is : countFor c w ≡ count) (room : hasRoom c w ≡ true) where
     pub front-answer : wholeAnswer c w ≡ answer c (take (place count) w)
@@ -247,11 +255,7 @@ room-count dueCall w has room = refl
 module _ (m : List ℕ) (o : Octets m) (count : ℕ) (system : SystemId) (delay : TensOfMicroseconds) (x : Settings) (takes : Takes (start count system delay x))
     (done : accepted (wholeAnswer (start count system delay x) m) ≡ true) where
   pub start-roomy : isWholeRoom m count ≡ true
-  start-roomy = by (isWholeRoom m count) refl
-    where
-      by : (b : Bool) → isWholeRoom m count ≡ b → isWholeRoom m count ≡ true
-      by true e = e
-      by false e = absurd (false≢true (sym (ap accepted (lost-answer (start count system delay x) m e)) ∙ done))
+  start-roomy = accepted-room (start count system delay x) m done
 
   pub start-done : accepted (answer (start count system delay x) (take (place count) m)) ≡ true
   start-done = sym (ap accepted (front-answer (start count system delay x) m count refl start-roomy)) ∙ done
