@@ -1,3 +1,4 @@
 pub mod Cases
 pub mod LineChanges
 pub mod TwoSwitches
+pub mod Churn
