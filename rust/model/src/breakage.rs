@@ -86,6 +86,8 @@ pub enum Breakage {
     IdleMonitorClearsTimer,
     /// Churn is told after Short_Timeout_Time, as the text of 43.4.17 has it.
     ChurnAfterShortTimeout,
+    /// CHURN is counted by every run of its machine, and not only where it is entered.
+    ChurnCountedAtEveryRun,
     /// A churn count stays at its highest value.
     ChurnCountSaturates,
     /// A churn count wraps at 16 bits.
@@ -94,17 +96,25 @@ pub enum Breakage {
     PartnerMonitorSeesOurs,
     /// The Churn Detection machines run on what stands before step 3.
     MonitorsBeforeStepThree,
+    /// They run in a tick alone.
+    MonitorsRunAtTicksAlone,
+    /// A call on one port runs those of that port alone.
+    MonitorsOfNamedPortAlone,
+    /// The churn timers fall when a tick has done all else.
+    ChurnTimersFallLast,
     /// Link and duplex as they were run the Churn Detection machines.
     RepeatedLineRunsMonitors,
     /// Settings as they were run them.
     RepeatedSettingsRunMonitors,
+    /// A stored churn state of 3 is in range, and taken for CHURN.
+    ChurnStateOf3Accepted,
     /// A stored churn timer of 601 is in range.
     ChurnTimerOf601Accepted,
 }
 
 impl Breakage {
     /// Every breakage, with the name by which it is asked for.
-    pub const ALL: [(&'static str, Breakage); 47] = [
+    pub const ALL: [(&'static str, Breakage); 52] = [
         ("partners-timeout", Breakage::PartnersTimeout),
         ("compares-after-recording", Breakage::ComparesAfterRecording),
         ("expired-records-default", Breakage::ExpiredRecordsDefault),
@@ -145,12 +155,17 @@ impl Breakage {
         ("monitor-timer-left-running", Breakage::MonitorTimerLeftRunning),
         ("idle-monitor-clears-timer", Breakage::IdleMonitorClearsTimer),
         ("churn-after-short-timeout", Breakage::ChurnAfterShortTimeout),
+        ("churn-counted-at-every-run", Breakage::ChurnCountedAtEveryRun),
         ("churn-count-saturates", Breakage::ChurnCountSaturates),
         ("churn-count-of-sixteen-bits", Breakage::ChurnCountOfSixteenBits),
         ("partner-monitor-sees-ours", Breakage::PartnerMonitorSeesOurs),
         ("monitors-before-step-three", Breakage::MonitorsBeforeStepThree),
+        ("monitors-run-at-ticks-alone", Breakage::MonitorsRunAtTicksAlone),
+        ("monitors-of-named-port-alone", Breakage::MonitorsOfNamedPortAlone),
+        ("churn-timers-fall-last", Breakage::ChurnTimersFallLast),
         ("repeated-line-runs-monitors", Breakage::RepeatedLineRunsMonitors),
         ("repeated-settings-run-monitors", Breakage::RepeatedSettingsRunMonitors),
+        ("churn-state-of-3-accepted", Breakage::ChurnStateOf3Accepted),
         ("churn-timer-of-601-accepted", Breakage::ChurnTimerOf601Accepted),
     ];
 

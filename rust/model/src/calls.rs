@@ -131,12 +131,18 @@ fn own(given: &SettingsArguments) -> Settings {
     }
 }
 
-/// The end of an accepted call that changes something: periodic machines, steps 3 to 6, Churn Detection machines, over all ports.
-fn finish(mut table: Table, memory: &mut [u8]) {
+/// The end of an accepted call on port `n` that changes something.
+fn finish(n: u32, mut table: Table, memory: &mut [u8]) {
+    let before = breakage::is(Breakage::MonitorsOfNamedPortAlone).then(|| table.clone());
     work(&mut table);
+    let others = before.iter().flat_map(|before| &before.ports).zip(&mut table.ports).zip(1..);
+    for ((before, port), _) in others.filter(|(_, other)| *other != n) {
+        port.churn = before.churn;
+    }
     table.write(memory);
 }
 
+/// What follows on a change: periodic machines, steps 3 to 6, Churn Detection machines, over all ports.
 fn work(table: &mut Table) {
     for port in &mut table.ports {
         port.periodic_machine();
@@ -207,7 +213,7 @@ fn receive(memory: &mut [u8], n: u32, frame: &[u8], out: &mut [u8]) -> Result<u3
         Frame::Lacpdu { actor, partner } => {
             port.current(&actor_of_n, &actor, &partner);
             displace(&mut table, n, &actor);
-            finish(table, memory);
+            finish(n, table, memory);
             Ok(0)
         }
         Frame::Marker(_) if !port.mux.collects() => Err(Refusal::NotCollecting),
@@ -226,8 +232,20 @@ fn tick(memory: &mut [u8]) -> Result<(), Refusal> {
         port.ticked();
         port.receive_machine();
     }
-    finish(table, memory);
+    work(&mut table);
+    late(&mut table);
+    table.write(memory);
     Ok(())
+}
+
+/// What a tick does last: nothing, but in the breakages.
+fn late(table: &mut Table) {
+    if breakage::is(Breakage::MonitorsRunAtTicksAlone) {
+        table.watch();
+    }
+    if breakage::is(Breakage::ChurnTimersFallLast) {
+        table.ports.iter_mut().for_each(|port| port.churn.ticked());
+    }
 }
 
 impl Port {
@@ -243,7 +261,9 @@ impl Port {
         if !stand || self.mux == Mux::Waiting {
             self.wait_while = self.wait_while.saturating_sub(1);
         }
-        self.churn.ticked();
+        if !breakage::is(Breakage::ChurnTimersFallLast) {
+            self.churn.ticked();
+        }
         let oldest = if breakage::is(Breakage::AgeForgottenAtTen) { OLDEST_AGE - 1 } else { OLDEST_AGE };
         self.ages = self.ages.map(|age| age.map(|age| age + 1).filter(|age| *age <= oldest));
     }
@@ -280,7 +300,7 @@ fn line(memory: &mut [u8], n: u32, new: (bool, bool)) -> Result<(), Refusal> {
         work(&mut table);
     }
     table.ports[at].relined(new);
-    finish(table, memory);
+    finish(n, table, memory);
     Ok(())
 }
 
@@ -322,7 +342,7 @@ fn set(memory: &mut [u8], n: u32, new: &Settings) -> Result<(), Refusal> {
     if breakage::is(Breakage::DefaultAppliedAtOnce) && port.actor_state.has(State::DEFAULTED) {
         port.partner = new.default;
     }
-    finish(table, memory);
+    finish(n, table, memory);
     Ok(())
 }
 

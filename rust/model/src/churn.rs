@@ -59,6 +59,9 @@ impl Monitor {
     /// The machine until no step applies: the open arrow of a disabled port first.
     fn run(&mut self, enabled: bool, in_sync: bool) {
         if enabled || in_sync && breakage::is(Breakage::SynchronizationBeforeDisabled) {
+            if self.state == ChurnState::Churn && breakage::is(Breakage::ChurnCountedAtEveryRun) {
+                self.count = counted(self.count);
+            }
             while let Some(next) = self.step(in_sync) {
                 self.enter(next);
             }

@@ -352,7 +352,9 @@ impl Reader<'_> {
     }
 
     fn churn_state(&mut self) -> Option<ChurnState> {
-        ChurnState::IN_MEMORY.get(usize::from(self.octet()?)).copied()
+        let code = self.octet()?;
+        let code = if breakage::is(Breakage::ChurnStateOf3Accepted) && code == 3 { 2 } else { code };
+        ChurnState::IN_MEMORY.get(usize::from(code)).copied()
     }
 
     fn churn_timer(&mut self) -> Option<u16> {

@@ -35,7 +35,9 @@ impl Table {
             self.steps_three_to_six();
         } else {
             self.steps_three_to_six();
-            self.watch();
+            if !breakage::is(Breakage::MonitorsRunAtTicksAlone) {
+                self.watch();
+            }
         }
     }
 
