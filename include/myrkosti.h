@@ -178,6 +178,7 @@ enum {
 /*
  * Churn states, one of the actor and one of the partner (43.4.17). A link that is up should bring both into Synchronization, and one that has not done so
  * for 600 ticks, a minute, churns: it does not settle by itself, and somebody should look. What usually causes it: docs/GUIDE-SUPPORT.md.
+ * Beside a refusal the zeros of a record say NO_CHURN, with nothing counted.
  */
 enum {
     MYRKOSTI_NO_CHURN = 0,      /* in Synchronization, and the link is up */

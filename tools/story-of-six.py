@@ -5,8 +5,8 @@ The upper part models document 01 over IEEE Std 802.3ad-2000, Clause 43: a recor
 standard's names, the eight calls. Where the papers leave a choice it takes the reading that was
 recommended for the project, which docs/DECISIONS.md gives in its own words; its author saw neither that file nor the code;
 the memory is laid out as the design fixes it. The lower part performs the calls of the story and prints its lines.
-Nothing here is taken from the code that is compared with these lines. (Churn detection, of which no line tells, was added
-by one who had seen its code.)
+Nothing here is taken from the code that is compared with these lines. Churn detection is there so that the memory is laid out
+as in the library; no line of the story tells of it, and it is no second witness: its author knew the code.
 """
 from collections import namedtuple
 from enum import IntEnum
