@@ -3,6 +3,7 @@
 use crate::cabling::{all_ports, Port, Switch};
 use crate::network::{End, Look, State, Trunk};
 use crate::story::{Churning, Story};
+use crate::timeline::seconds;
 use std::rc::Rc;
 
 /// What became of the trunk from the event at this place to the next.
@@ -100,11 +101,17 @@ fn churning_words(ports: &[String], Told { end, since, over }: &Told) -> String 
         End::This => "this end",
         End::Far => "the far end",
     };
-    match (ports.join(", "), over) {
-        (who, Some(over)) => format!("{who} churned from tick {since} to tick {over}: {end} was out of sync."),
-        (who, None) if ports.len() == 1 => format!("{who} churns since tick {since}: {end} is out of sync."),
-        (who, None) => format!("{who} churn since tick {since}: {end} is out of sync."),
+    let (who, since) = (ports.join(", "), at(*since));
+    match over {
+        Some(over) => format!("{who} churned from {since} to {}: {end} was out of sync.", at(*over)),
+        None if ports.len() == 1 => format!("{who} churns since {since}: {end} is out of sync."),
+        None => format!("{who} churn since {since}: {end} is out of sync."),
     }
+}
+
+/// `tick 600 (60 s)`.
+fn at(tick: usize) -> String {
+    format!("tick {tick} ({} s)", seconds(tick))
 }
 
 /// A port without link forgets its partner when another port hears that partner.

@@ -35,11 +35,11 @@ fn a_link_that_never_settles() {
     let story = story(include_str!("../stories/never-settles.txt"));
     let (text, said) = (text(&story), words(&text(&story)));
     assert!(said.contains("[B2 deaf; link 1, link 2 up]"));
-    assert!(said.contains("A2, B2 churn since tick 600: the far end is out of sync."), "{said}");
-    assert!(said.contains("A2, B2 churned from tick 600 to tick 650: the far end was out of sync."));
-    assert!(said.contains("A2, B2 churn since tick 1270: the far end is out of sync."));
-    assert!(said.contains("A2 churned from tick 1270 to tick 1331: the far end was out of sync."));
-    assert!(said.contains("B2 churned from tick 1270 to tick 1311: the far end was out of sync."));
+    assert!(said.contains("A2, B2 churn since tick 600 (60 s): the far end is out of sync."), "{said}");
+    assert!(said.contains("A2, B2 churned from tick 600 (60 s) to tick 650 (65 s): the far end was out of sync."));
+    assert!(said.contains("A2, B2 churn since tick 1270 (127 s): the far end is out of sync."));
+    assert!(said.contains("A2 churned from tick 1270 (127 s) to tick 1331 (133.1 s): the far end was out of sync."));
+    assert!(said.contains("B2 churned from tick 1270 (127 s) to tick 1311 (131.1 s): the far end was out of sync."));
     let columns = row(&text, "A2 churn").char_indices().filter(|(_, shown)| *shown != ' ');
     assert_eq!(columns.map(|(at, _)| at).collect::<Vec<_>>(), [31, 32, 64, 65, 66]);
     assert!(!text.contains("A1 churn") && row(&text, "width A").ends_with("222"));
@@ -52,7 +52,7 @@ fn both_ends_churn_where_a_key_is_changed_again_and_again() {
     let story = story(&format!("switches 1\nup 1\n{}tick 40", "key A 1 2\ntick 10\nkey A 1 1\ntick 10\n".repeat(32)));
     let text = text(&story);
     assert!(row(&text, "A1 churn").contains('b') && row(&text, "B1 churn").contains('b'), "{text}");
-    assert!(words(&text).contains("A1, B1 churn since tick 600: this end is out of sync."), "{text}");
+    assert!(words(&text).contains("A1, B1 churn since tick 600 (60 s): this end is out of sync."), "{text}");
     assert_eq!(stripes(&svg(&story)), 2 + 4);
 }
 

@@ -54,6 +54,60 @@ pub struct Churn {
     pub partner: ChurnMonitor,
 }
 
+/// The churn of a port that is read again and again, and since when either end churns, which a record does not tell. Prints in words.
+///
+/// ```
+/// # use myrkosti::{Block, ChurnSince, Refusal, Settings, SystemId, Table};
+/// # fn main() -> Result<(), Refusal> {
+/// # let settings = Settings { address: [0; 6], key: 1, port_priority: 1, activity: true, short_timeout: true,
+/// #     aggregation: true, default_partner: Block::default() };
+/// # let mut table = Table::start(1, SystemId::default(), 0, &settings)?;
+/// let mut since = ChurnSince::new(table.port(1)?.churn, 0);
+/// table.line(1, true, true)?;
+/// for tick in 1..1000 {
+///     table.tick()?; // and nobody answers
+///     since.read(table.port(1)?.churn, tick);
+/// }
+/// assert_eq!(since.partner(), Some(600));
+/// assert_eq!(since.to_string(), "this end settled; far end churning since tick 600, churned once");
+/// # Ok(())
+/// # }
+/// ```
+#[derive(Clone, Copy, Debug, PartialEq, Eq, Hash)]
+pub struct ChurnSince {
+    churn: Churn,
+    actor: Option<u64>,
+    partner: Option<u64>,
+}
+
+impl ChurnSince {
+    /// The port's churn as it is read first, at this tick. The caller counts the ticks.
+    pub fn new(churn: Churn, tick: u64) -> ChurnSince {
+        let since = |monitor: ChurnMonitor| monitor.churns().then_some(tick);
+        ChurnSince { churn, actor: since(churn.actor), partner: since(churn.partner) }
+    }
+
+    /// The same as it is read at a later tick. Read it after every tick, and the times are exact.
+    pub fn read(&mut self, churn: Churn, tick: u64) {
+        let since = |old: ChurnMonitor, new: ChurnMonitor, since: Option<u64>| {
+            new.churns().then(|| since.filter(|_| old.count == new.count).unwrap_or(tick))
+        };
+        self.actor = since(self.churn.actor, churn.actor, self.actor);
+        self.partner = since(self.churn.partner, churn.partner, self.partner);
+        self.churn = churn;
+    }
+
+    /// The tick at which this end was first read as churning, if it churns. It was out of sync for 600 ticks then.
+    pub fn actor(self) -> Option<u64> {
+        self.actor
+    }
+
+    /// The tick at which the far end was first read as churning, if it churns.
+    pub fn partner(self) -> Option<u64> {
+        self.partner
+    }
+}
+
 impl ChurnMonitor {
     /// Whether that end churns.
     pub fn churns(self) -> bool {
@@ -92,27 +146,42 @@ fn churn_state(octet: u8) -> Option<ChurnState> {
     })
 }
 
+impl ChurnMonitor {
+    /// In words, with the tick since when that end churns if it is known.
+    fn words(self, since: Option<u64>) -> String {
+        let state = match (self.state, since) {
+            (ChurnState::NoChurn, _) => "settled".to_string(),
+            (ChurnState::Monitor, _) if self.ticks_left == 1 => "watched, 1 tick left".to_string(),
+            (ChurnState::Monitor, _) => format!("watched, {} ticks left", self.ticks_left),
+            (ChurnState::Churn, Some(tick)) => format!("churning since tick {tick}"),
+            (ChurnState::Churn, None) => {
+                format!("churning, out of sync for {} ticks or more", crate::CHURN_DETECTION_TIME)
+            }
+        };
+        match self.count {
+            0 => state,
+            1 => format!("{state}, churned once"),
+            count => format!("{state}, churned {count} times"),
+        }
+    }
+}
+
 impl fmt::Display for ChurnMonitor {
     fn fmt(&self, f: &mut fmt::Formatter<'_>) -> fmt::Result {
-        match self.state {
-            ChurnState::NoChurn => write!(f, "settled")?,
-            ChurnState::Monitor if self.ticks_left == 1 => write!(f, "watched, 1 tick left")?,
-            ChurnState::Monitor => write!(f, "watched, {} ticks left", self.ticks_left)?,
-            ChurnState::Churn => {
-                write!(f, "churning, out of sync for {} ticks or more", crate::CHURN_DETECTION_TIME)?;
-            }
-        }
-        match self.count {
-            0 => Ok(()),
-            1 => write!(f, ", churned once"),
-            count => write!(f, ", churned {count} times"),
-        }
+        f.write_str(&self.words(None))
     }
 }
 
 impl fmt::Display for Churn {
     fn fmt(&self, f: &mut fmt::Formatter<'_>) -> fmt::Result {
         write!(f, "this end {}; far end {}", self.actor, self.partner)
+    }
+}
+
+impl fmt::Display for ChurnSince {
+    fn fmt(&self, f: &mut fmt::Formatter<'_>) -> fmt::Result {
+        let [actor, partner] = [self.churn.actor.words(self.actor), self.churn.partner.words(self.partner)];
+        write!(f, "this end {actor}; far end {partner}")
     }
 }
 
@@ -131,6 +200,29 @@ mod tests {
             words(ChurnState::Churn, 0, u32::MAX),
             "churning, out of sync for 600 ticks or more, churned 4294967295 times"
         );
+    }
+
+    #[test]
+    fn since_when() {
+        let settled = ChurnMonitor { state: ChurnState::NoChurn, ticks_left: 0, count: 0 };
+        let churning = |count| ChurnMonitor { state: ChurnState::Churn, ticks_left: 0, count };
+        let of = |actor, partner| Churn { actor, partner };
+        let mut since = ChurnSince::new(of(settled, churning(3)), 7);
+        assert_eq!((since.actor(), since.partner()), (None, Some(7)));
+        since.read(of(churning(1), churning(3)), 8);
+        since.read(of(churning(1), churning(3)), 9);
+        assert_eq!((since.actor(), since.partner()), (Some(8), Some(7)));
+        assert_eq!(
+            since.to_string(),
+            "this end churning since tick 8, churned once; far end churning since tick 7, churned 3 times"
+        );
+        // what came and went between two looks is told by the count
+        since.read(of(churning(1), churning(4)), 2000);
+        assert_eq!((since.actor(), since.partner()), (Some(8), Some(2000)));
+        since.read(of(settled, churning(4)), 2001);
+        assert_eq!((since.actor(), since.partner()), (None, Some(2000)));
+        since.read(of(churning(2), settled), 3000);
+        assert_eq!(since.to_string(), "this end churning since tick 3000, churned 2 times; far end settled");
     }
 
     #[test]

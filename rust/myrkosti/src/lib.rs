@@ -56,7 +56,7 @@ mod table;
 pub use answer::{Answer, Refusal};
 #[doc(inline)]
 pub use calls::BLOCK;
-pub use churn::{Churn, ChurnMonitor, ChurnState};
+pub use churn::{Churn, ChurnMonitor, ChurnSince, ChurnState};
 pub use record::{Block, MuxState, PeriodicState, PortState, ReceiveState, Record, Settings, SystemId};
 pub use table::{AggregatorReport, PortSet, Received, Table, TableRef};
 
