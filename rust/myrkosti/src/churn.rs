@@ -9,7 +9,7 @@ pub enum ChurnState {
     NoChurn,
     /// MONITOR: it is not, and is watched; or the link is down, and the watch has yet to begin.
     Monitor,
-    /// CHURN: the link was up for [`CHURN_DETECTION_TIME`](crate::CHURN_DETECTION_TIME) and more, and that end never in sync.
+    /// CHURN: the link is up, and that end has not been in sync for [`CHURN_DETECTION_TIME`](crate::CHURN_DETECTION_TIME) or longer.
     Churn,
 }
 
