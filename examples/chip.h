@@ -36,4 +36,7 @@ void chip_collect(uint32_t ports);
 /* Traffic of this trunk goes out on these ports alone. */
 void chip_distribute(uint32_t trunk, uint32_t ports);
 
+/* The links of these ports are up and have not settled for a minute: somebody should look. */
+void chip_unsettled(uint32_t ports);
+
 #endif

@@ -77,16 +77,24 @@ static void send_what_is_due(void)
     }
 }
 
+/* Our end or the other has been out of Synchronization for a minute. */
+static bool churns(const uint8_t *record)
+{
+    return record[MYRKOSTI_AT_ACTOR_CHURN] == MYRKOSTI_CHURN || record[MYRKOSTI_AT_PARTNER_CHURN] == MYRKOSTI_CHURN;
+}
+
 /* Step 5, once a turn. First what the LACPDUs will say, then the LACPDUs, then what the neighbours allow. */
 static void program_and_send(void)
 {
-    uint32_t collect = 0, distribute[CHIP_PORTS + 1];
+    uint32_t collect = 0, unsettled = 0, distribute[CHIP_PORTS + 1];
     for (uint32_t i = 1; i <= CHIP_PORTS; i++) {
         uint8_t record[MYRKOSTI_RECORD];
         uint32_t holding, attached, count, lowest;
         myrkosti_port(table, sizeof table, i, record, sizeof record);
         if ((record[MYRKOSTI_AT_ACTOR_STATE] & MYRKOSTI_COLLECTING) != 0)
             collect |= bit(i);
+        if (churns(record))
+            unsettled |= bit(i);
         myrkosti_aggregator(table, sizeof table, i, &holding, &attached, &distribute[i], &count, &lowest);
     }
     chip_collect(collecting | collect);
@@ -96,6 +104,7 @@ static void program_and_send(void)
     for (uint32_t trunk = 1; trunk <= CHIP_PORTS; trunk++)
         chip_distribute(trunk, distributing[trunk] = distribute[trunk]);
     chip_collect(collecting = collect);
+    chip_unsettled(unsettled);
 }
 
 /* So that every neighbour stops at once: another key, one for each port. */

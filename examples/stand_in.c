@@ -1,7 +1,7 @@
 /*
- * A chip made of memory, for loop.c: four ports, of which the first three are joined to a neighbour that is a second table of the library. Time is
- * turns of 20 ms. What happens is in `happen`; what the chip is told goes to the standard output. It ends the program with 1 if an LACPDU says
- * what is not so: that a port collects or has stopped distributing before the chip was told.
+ * A chip made of memory, for loop.c: four ports, joined to a neighbour that is a second table of the library. The cable of the last one carries to us
+ * alone: that neighbour never hears what it sends. Time is turns of 20 ms. What happens is in `happen`; what the chip is told goes to the standard
+ * output. It ends the program with 1 if an LACPDU says what is not so: that a port collects or has stopped distributing before the chip was told.
  */
 #include "chip.h"
 #include "myrkosti.h"
@@ -10,7 +10,7 @@
 #include <stdlib.h>
 #include <string.h>
 
-enum { TURNS_A_TICK = 5, TICKS = 160, QUEUE = 8, ACTOR_STATE_AT = 32 };
+enum { TURNS_A_TICK = 5, TICKS = 800, QUEUE = 8, ACTOR_STATE_AT = 32, ONE_WAY = CHIP_PORTS };
 
 struct queue {
     uint8_t frames[QUEUE][MYRKOSTI_FRAME];
@@ -20,7 +20,7 @@ struct queue {
 static unsigned turns, ticked;
 static bool links[CHIP_PORTS + 1], blocked;
 static struct queue in[CHIP_PORTS + 1];
-static uint32_t collecting, distributing[CHIP_PORTS + 1];
+static uint32_t collecting, distributing[CHIP_PORTS + 1], unsettled;
 static uint8_t neighbour[MYRKOSTI_TABLE(CHIP_PORTS)];
 
 static void show(const char *what, uint32_t ports)
@@ -75,6 +75,8 @@ static void happen(unsigned tick)
         link(2, tick == 90);
     if (tick == 100)
         link(3, true);
+    if (tick == 110 || tick == 750)
+        link(ONE_WAY, tick == 110);
 }
 
 /* ---- what loop.c asks for ---- */
@@ -144,7 +146,8 @@ bool chip_send(uint32_t port, const uint8_t *frame)
         exit(1);
     if (blocked || !links[port])
         return false;
-    myrkosti_receive(neighbour, sizeof neighbour, port, frame, MYRKOSTI_FRAME, out, sizeof out, &sent);
+    if (port != ONE_WAY)
+        myrkosti_receive(neighbour, sizeof neighbour, port, frame, MYRKOSTI_FRAME, out, sizeof out, &sent);
     neighbour_speaks();
     return true;
 }
@@ -163,4 +166,11 @@ void chip_distribute(uint32_t trunk, uint32_t ports)
     if (ports != distributing[trunk])
         show(what, ports);
     distributing[trunk] = ports;
+}
+
+void chip_unsettled(uint32_t ports)
+{
+    if (ports != unsettled)
+        show("does not settle:", ports);
+    unsettled = ports;
 }

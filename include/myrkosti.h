@@ -32,11 +32,11 @@ extern "C" {
  * The version of this interface. Its high octet changes where a program that was compiled with the header of before no longer fits; its low octet
  * where something is added: a call, an answer, fields behind the others of a record. Ask myrkosti_fits at start.
  */
-#define MYRKOSTI_VERSION 0x0100
+#define MYRKOSTI_VERSION 0x0101
 
 #define MYRKOSTI_PORTS 32  /* the most ports that a table has */
 #define MYRKOSTI_HEADER 11 /* octets before the first record of a table */
-#define MYRKOSTI_RECORD 57 /* octets of a port's record; later versions append fields and move none */
+#define MYRKOSTI_RECORD 71 /* octets of a port's record; later versions append fields and move none */
 #define MYRKOSTI_FRAME 124 /* octets of every frame that the library writes, without FCS; an outgoing buffer has at least as many */
 #define MYRKOSTI_BLOCK 15  /* octets of an information block */
 
@@ -62,10 +62,11 @@ enum {
 };
 
 /*
- * ---- the record of a port, MYRKOSTI_RECORD octets, as it lies in the table and as myrkosti_port gives it ----
+ * ---- the record of a port, MYRKOSTI_RECORD octets, as myrkosti_port gives it ----
  *
- * Record i (from 0, of port i + 1) begins at octet 11 + 57 * i of a table of this version. Numbers of two octets are high octet first:
- * myrkosti_number reads one.
+ * Read it by that call. In the table's memory the record of a port lies in two places: octets 0 to 56 of every port first, port by port, and behind the
+ * last of them octets 57 to 70 of every port (docs/TABLE.md says where). Numbers are high octet first: myrkosti_number reads one of two octets,
+ * myrkosti_long_number one of four.
  *
  *    0       receive state
  *    1       periodic state
@@ -85,6 +86,12 @@ enum {
  *   25-26    port priority
  *   27-41    default partner block
  *   42-56    partner information in force, a block
+ *   57       churn state of the actor: whether our own Synchronization settles
+ *   58       churn state of the partner: whether its Synchronization does
+ *   59-60    churn timer of the actor, in ticks: how long it has left
+ *   61-62    churn timer of the partner
+ *   63-66    churn count of the actor: how often it has churned since the start; after 4294967295 comes 0
+ *   67-70    churn count of the partner
  */
 enum {
     MYRKOSTI_AT_RECEIVE = 0,
@@ -104,7 +111,13 @@ enum {
     MYRKOSTI_AT_KEY = 23,
     MYRKOSTI_AT_PRIORITY = 25,
     MYRKOSTI_AT_DEFAULT = 27,
-    MYRKOSTI_AT_PARTNER = 42
+    MYRKOSTI_AT_PARTNER = 42,
+    MYRKOSTI_AT_ACTOR_CHURN = 57,
+    MYRKOSTI_AT_PARTNER_CHURN = 58,
+    MYRKOSTI_AT_ACTOR_CHURN_TIMER = 59,
+    MYRKOSTI_AT_PARTNER_CHURN_TIMER = 61,
+    MYRKOSTI_AT_ACTOR_CHURN_COUNT = 63,
+    MYRKOSTI_AT_PARTNER_CHURN_COUNT = 67
 };
 
 /* the octets of an information block */
@@ -160,6 +173,17 @@ enum {
 enum {
     MYRKOSTI_UNSELECTED = 0,
     MYRKOSTI_SELECTED = 1
+};
+
+/*
+ * Churn states, one of the actor and one of the partner (43.4.17). A link that is up should bring both into Synchronization, and one that has not done so
+ * for 600 ticks, a minute, churns: it does not settle by itself, and somebody should look. What usually causes it: docs/GUIDE-SUPPORT.md.
+ * Beside a refusal the zeros of a record say NO_CHURN, with nothing counted.
+ */
+enum {
+    MYRKOSTI_NO_CHURN = 0,      /* in Synchronization, and the link is up */
+    MYRKOSTI_CHURN_MONITOR = 1, /* not in Synchronization, for less than a minute so far; or the link is down, where the minute has not begun */
+    MYRKOSTI_CHURN = 2          /* not in Synchronization for a minute or longer */
 };
 
 /* ---- calls ---- */
@@ -326,6 +350,15 @@ static inline bool myrkosti_fits(void)
 static inline uint16_t myrkosti_number(const uint8_t *octets)
 {
     return (octets[0] << 8 | octets[1]) & 0xffff;
+}
+
+/* The number of four octets that begins here, as a count at record + MYRKOSTI_AT_PARTNER_CHURN_COUNT. */
+static inline uint32_t myrkosti_long_number(const uint8_t *octets)
+{
+    uint32_t number = 0;
+    for (size_t i = 0; i < 4; i++)
+        number = number << 8 | octets[i];
+    return number;
 }
 
 /* Writes a number of two octets here, as a port into a block + MYRKOSTI_BLOCK_PORT. */

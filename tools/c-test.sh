@@ -5,8 +5,10 @@ cd "$(dirname "$0")/.."
 [ -f target/staticlib/libmyrkosti.a ] || rt staticlib myrkosti
 . tools/x86.sh
 
-compile tests/c/calls.c target/c/calls
-"${run[@]}" target/c/calls
+for test in calls churn; do
+    compile tests/c/$test.c target/c/$test
+    "${run[@]}" target/c/$test
+done
 
 # The header in each language, with every warning that the compiler has for one of them and that says something of it.
 warnings=(-Wshadow -Wconversion -Wsign-conversion -Wcast-qual -Wcast-align=strict -Wundef -Wredundant-decls -Wlogical-op -Wduplicated-cond

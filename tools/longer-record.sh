@@ -1,6 +1,6 @@
 #!/usr/bin/env bash
 # longer-record.sh: what a program of today does with a library of tomorrow. Builds the library with four octets more behind each record and the next
-# version, without its proofs, and runs tests/c/longer.c with it under valgrind: it reads its 57 octets and nothing is touched beyond what was lent. Then
+# version, without its proofs, and runs tests/c/longer.c with it under valgrind: it reads its 71 octets and nothing is touched beyond what was lent. Then
 # two trials that must be seen: memory that is shorter than the program says, and headers of which the library has not all.
 set -eu
 cd "$(dirname "$0")/.."
@@ -21,11 +21,11 @@ path = pathlib.Path(file)
 path.write_text(path.read_text().replace(old, new))
 END
 }
-change table/src/layout.rt 'RECORD: usize = 57;' 'RECORD: usize = 61;'
-change table/src/record.rt 'partner.write(&mut out[42..RECORD]);' \
-    'partner.write(&mut out[42..57]); out[57] = 0xe1; out[58] = 0xe2; out[59] = 0xe3; out[60] = 0xe4;'
-change table/src/record.rt 'Block::read(&s[42..RECORD])' 'Block::read(&s[42..57])'
-change myrkosti/src/lib.rt '    0x0100' '    0x0101'
+change churn/src/group.rt 'GROUP: usize = 14;' 'GROUP: usize = 18;'
+change churn/src/group.rt '    put_long(out, 10, partner.count);' \
+    '    put_long(out, 10, partner.count); octets::put(out, 14, &[0xe1, 0xe2, 0xe3, 0xe4]);'
+change whole/src/lib.rt 'WHOLE_RECORD: usize = 71;' 'WHOLE_RECORD: usize = 75;'
+change myrkosti/src/lib.rt '    0x0101' '    0x0102'
 tools/bench/native.sh "$work/crates" "$work/native"
 
 # build HEADERS SOURCE PROGRAM
@@ -46,7 +46,7 @@ fits() {
     build "$work/$1" "$work/fits.c" "$work/fits"
     "$work/fits"
 }
-if ! fits 0x0100 || ! fits 0x0101 || fits 0x0102 || fits 0x0001 || fits 0x0200; then
+if ! fits 0x0100 || ! fits 0x0101 || ! fits 0x0102 || fits 0x0103 || fits 0x0002 || fits 0x0200; then
     echo 'failed: what fits' && exit 1
 fi
 echo 'a longer record: memory that is too short is seen, and so are headers that do not fit'

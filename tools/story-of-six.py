@@ -5,7 +5,8 @@ The upper part models document 01 over IEEE Std 802.3ad-2000, Clause 43: a recor
 standard's names, the eight calls. Where the papers leave a choice it takes the reading that was
 recommended for the project, which docs/DECISIONS.md gives in its own words; its author saw neither that file nor the code;
 the memory is laid out as the design fixes it. The lower part performs the calls of the story and prints its lines.
-Nothing here is taken from the code that is compared with these lines.
+Nothing here is taken from the code that is compared with these lines. Churn detection is there so that the memory is laid out
+as in the library; no line of the story tells of it, and it is no second witness: its author knew the code.
 """
 from collections import namedtuple
 from enum import IntEnum
@@ -16,12 +17,14 @@ from types import SimpleNamespace
 Receive = IntEnum('Receive', 'INITIALIZE PORT_DISABLED EXPIRED LACP_DISABLED DEFAULTED CURRENT', start=0)   # 43.4.12
 Periodic = IntEnum('Periodic', 'NO_PERIODIC FAST_PERIODIC SLOW_PERIODIC PERIODIC_TX', start=0)              # 43.4.13
 Mux = IntEnum('Mux', 'DETACHED WAITING ATTACHED COLLECTING DISTRIBUTING', start=0)                          # 43.4.15
+Churn = IntEnum('Churn', 'NO_CHURN MONITOR CHURN', start=0)                                                 # 43.4.17
 
 # The state octet, bit 0 upward (43.4.2.2).
 ACTIVITY, TIMEOUT, AGGREGATION, SYNCHRONIZATION, COLLECTING, DISTRIBUTING, DEFAULTED, EXPIRED = 1, 2, 4, 8, 16, 32, 64, 128
 
 # Times of 43.4.4 in ticks of a tenth of a second.
 FAST_PERIODIC_TIME, SLOW_PERIODIC_TIME, SHORT_TIMEOUT_TIME, LONG_TIMEOUT_TIME, AGGREGATE_WAIT_TIME = 10, 300, 30, 900, 20
+CHURN_DETECTION_TIME = 600
 
 FRAME = 124                                 # octets of a sent frame, without FCS
 SLOW_PROTOCOLS = bytes.fromhex('0180C2000002')
@@ -29,6 +32,7 @@ NO_SEND = 255                               # a free place among the ages of sen
 OLDEST_AGE = 10                             # of a send that counts, in ticks (request M-101)
 
 HEADER, RECORD, BLOCK = Struct('>BH6sH'), Struct('>9B2HB3B6s2H15s15s'), Struct('>H6sHHHB')      # 11, 57, 15 octets
+MONITORS = Struct('>2B2H2I')                # 14 octets: states, timers and counts, the actor's before the partner's
 
 def with_bits(state, bits, value): return state | bits if value else state & ~bits
 
@@ -46,9 +50,15 @@ Settings = namedtuple('Settings', 'address key port_priority own_bits default')
 
 # ------------------------------------------------ the record, and the table in memory
 # A record's fields stand in the order of the memory. LACP_Enabled is 'full', that is full duplex (43.4.8); the own bits
-# of the settings are bits 0 to 2 of actor_state.
+# of the settings are bits 0 to 2 of actor_state. The monitors (M-105) lie behind the records of all ports.
 FIELDS = ('receive periodic mux selected aggregator ntt link full actor_state current_while periodic_timer wait_while '
           'ages address key port_priority default partner').split()
+
+class Monitor(namedtuple('Monitor', 'state timer count')):
+    """What a churn detection machine keeps."""
+    def entered(self, state):
+        timer = CHURN_DETECTION_TIME if state == Churn.MONITOR else 0
+        return Monitor(state, timer, (self.count + (state == Churn.CHURN)) % 2**32)
 
 class Port(SimpleNamespace):
     """What is kept for a port."""
@@ -60,6 +70,8 @@ class Port(SimpleNamespace):
         *numbers, ages, address, key, priority, default, partner = (getattr(self, name) for name in FIELDS)
         return RECORD.pack(*numbers, *ages, address, key, priority, default.octets(), partner.octets())
 
+    def monitors(self): return MONITORS.pack(*(x for pair in zip(self.actor_churn, self.partner_churn) for x in pair))
+
 class Table(namedtuple('Table', 'system_priority system collector_max_delay ports')):
     def numbered(self): return enumerate(self.ports, 1)
 
@@ -68,29 +80,36 @@ class Table(namedtuple('Table', 'system_priority system collector_max_delay port
         p = self.ports[n - 1]
         return Info(self.system_priority, self.system, p.key, p.port_priority, n, p.actor_state)
 
-def table_size(count): return HEADER.size + RECORD.size * count if 1 <= count <= 32 else 0
+def table_size(count): return HEADER.size + (RECORD.size + MONITORS.size) * count if 1 <= count <= 32 else 0
 
-def in_range(octets, count):
+def in_range(octets, monitors, count):
     v = RECORD.unpack(octets)
     highest = 5, 3, 4, 1, count, 1, 1, 1, 255, 900, 300, 20
-    return v[4] >= 1 and all(x <= h for x, h in zip(v, highest)) and all(age <= OLDEST_AGE or age == NO_SEND for age in v[12:15])
+    watched = all(x <= h for x, h in zip(MONITORS.unpack(monitors), (2, 2, CHURN_DETECTION_TIME, CHURN_DETECTION_TIME)))
+    return v[4] >= 1 and all(x <= h for x, h in zip(v, highest)) and all(age <= OLDEST_AGE or age == NO_SEND for age in v[12:15]) and watched
 
-def port_of(octets):
-    v = RECORD.unpack(octets)
+def port_of(octets, monitors):
+    v, w = RECORD.unpack(octets), MONITORS.unpack(monitors)
     states, blocks = (Receive(v[0]), Periodic(v[1]), Mux(v[2])), (info_of(v[18]), info_of(v[19]))
-    return Port(**dict(zip(FIELDS, (*states, *v[3:12], list(v[12:15]), *v[15:18], *blocks))))
+    return Port(**dict(zip(FIELDS, (*states, *v[3:12], list(v[12:15]), *v[15:18], *blocks))),
+                actor_churn=Monitor(Churn(w[0]), *w[2::2]), partner_churn=Monitor(Churn(w[1]), *w[3::2]))
+
+BLANK = bytes(RECORD.size), bytes(MONITORS.size)
 
 def table_of(memory):
     """The table in the memory, or None: answer 1. The size is exact for the stored count."""
     if len(memory) < HEADER.size or len(memory) != table_size(memory[0]):
         return None
     count, priority, system, delay = HEADER.unpack(memory[:HEADER.size])
-    records = [memory[at:at + RECORD.size] for at in range(HEADER.size, len(memory), RECORD.size)]
-    if all(in_range(r, count) for r in records):
-        return Table(priority, system, delay, [port_of(r) for r in records])
+    behind = HEADER.size + RECORD.size * count
+    records = [memory[at:at + RECORD.size] for at in range(HEADER.size, behind, RECORD.size)]
+    monitors = [memory[at:at + MONITORS.size] for at in range(behind, len(memory), MONITORS.size)]
+    if all(in_range(*r, count) for r in zip(records, monitors)):
+        return Table(priority, system, delay, [port_of(*r) for r in zip(records, monitors)])
 
 def store(table, memory):
-    memory[:] = HEADER.pack(len(table.ports), *table[:3]) + b''.join(p.octets() for p in table.ports)
+    records, monitors = (b''.join(parts) for parts in zip(*((p.octets(), p.monitors()) for p in table.ports)))
+    memory[:] = HEADER.pack(len(table.ports), *table[:3]) + records + monitors
 
 # ------------------------------------------------ functions of 43.4.9
 def six_fields_agree(a, b):
@@ -265,11 +284,28 @@ def settle(table):
         if ntt_is_cleared(p):
             p.ntt = False
 
+# ------------------------------------------------ Churn detection, 43.4.17, Figures 43-15 and 43-16 (M-105)
+def churn_machine(m, link, in_sync):
+    """One step, after which none applies. Only a link that is down disables; Synchronization goes before the timer."""
+    if not link:
+        return m.entered(Churn.MONITOR)
+    if in_sync:
+        return m if m.state == Churn.NO_CHURN else m.entered(Churn.NO_CHURN)
+    if m.state == Churn.NO_CHURN:
+        return m.entered(Churn.MONITOR)
+    return m.entered(Churn.CHURN) if m.state == Churn.MONITOR and m.timer == 0 else m
+
+def watch(p):
+    p.actor_churn = churn_machine(p.actor_churn, p.link, p.actor_state & SYNCHRONIZATION)
+    p.partner_churn = churn_machine(p.partner_churn, p.link, p.partner.state & SYNCHRONIZATION)
+
 def finish(table, memory):
-    """The end of an accepted call that changes something: periodic machines, then steps 3 to 6."""
+    """The end of an accepted call that changes something: periodic machines, steps 3 to 6, then churn detection."""
     for p in table.ports:
         periodic_machine(p)
     settle(table)
+    for p in table.ports:
+        watch(p)
     store(table, memory)
     return 0
 
@@ -311,10 +347,11 @@ def start(memory, count, system_priority, system, delay, s):
         return 1
     if wrong_default(s):
         return 4
-    table = Table(system_priority, system, delay, [port_of(bytes(RECORD.size)) for _ in range(count)])
+    table = Table(system_priority, system, delay, [port_of(*BLANK) for _ in range(count)])
     for p in table.ports:
         p.address, p.key, p.port_priority, p.actor_state, p.default = s
         p.full, p.ntt, p.ages = True, True, [NO_SEND] * 3
+        p.actor_churn, p.partner_churn = p.actor_churn.entered(Churn.MONITOR), p.partner_churn.entered(Churn.MONITOR)
         initialize(p)
     return finish(table, memory)                                          # links are down: NO_PERIODIC stays
 
@@ -342,6 +379,7 @@ def tick(memory):
         p.current_while = max(p.current_while - 1, 0)
         p.periodic_timer = max(p.periodic_timer - 1, 0)
         p.wait_while = max(p.wait_while - 1, 0)
+        p.actor_churn, p.partner_churn = (m._replace(timer=max(m.timer - 1, 0)) for m in (p.actor_churn, p.partner_churn))
         p.ages = [age + 1 if age < OLDEST_AGE else NO_SEND for age in p.ages]
         receive_machine(p)
     return finish(table, memory)
@@ -384,7 +422,7 @@ def fetch(memory, n, out):
 
 def report_port(memory, n):
     no, _, p = opened(memory, n)
-    return no, port_of(bytes(RECORD.size)) if no else p
+    return no, port_of(*BLANK) if no else p
 
 def report_aggregator(memory, k):
     """The answer; ports that hold it, are attached and distribute (bit 0 is port 1); how many distribute; the lowest."""

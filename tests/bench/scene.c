@@ -10,9 +10,10 @@ static const uint8_t NOBODY[MYRKOSTI_BLOCK] = {0, 0, 0, 0, 0, 0, 0, 0, 0, 0, 0, 
 /* the state of a port that carries traffic; ticks after which every port does; the last octet of a neighbour's address */
 enum { CARRYING = 0x3f, TICKS = 45, NEIGHBOUR = 50 };
 
+/* the octets of a record that lie before all monitors */
 static uint8_t *record_of(uint8_t *table, uint32_t port)
 {
-    return table + MYRKOSTI_HEADER + MYRKOSTI_RECORD * (port - 1);
+    return table + MYRKOSTI_HEADER + MYRKOSTI_AT_ACTOR_CHURN * (port - 1);
 }
 
 /* ---- frames ---- */

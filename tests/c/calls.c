@@ -2,6 +2,7 @@
 #include "myrkosti.h"
 
 #include "check.h"
+#include "monitors.h"
 #include "neighbour.h"
 
 #include <stdio.h>
@@ -44,13 +45,14 @@ static void write_lacpdu(uint8_t frame[MYRKOSTI_FRAME], uint16_t port, uint8_t s
     put_lacpdu(frame, theirs, ours);
 }
 
-/* a port's record, and that a refused report gives zeros */
+/* an octet of a port's record, which is what lies in the table */
 static uint8_t field(const uint8_t *table, uint32_t port, unsigned at)
 {
-    uint8_t record[MYRKOSTI_RECORD];
+    uint8_t record[MYRKOSTI_RECORD], there[MYRKOSTI_RECORD];
     memset(record, 0xff, sizeof record);
     IS(myrkosti_port(table, SIZE, port, record, sizeof record), MYRKOSTI_DONE);
-    IS(memcmp(record, table + MYRKOSTI_HEADER + MYRKOSTI_RECORD * (port - 1), sizeof record), 0);
+    gather(table, PORTS, port, there);
+    IS(memcmp(record, there, sizeof record), 0);
     return record[at];
 }
 
@@ -63,10 +65,12 @@ static void refuse_tables(void)
     memset(table, 0xa5, sizeof table);
     memcpy(before, table, sizeof table);
     IS(myrkosti_table_size(0), 0);
-    IS(myrkosti_table_size(1), 68);
-    IS(myrkosti_table_size(32), 1835);
+    IS(myrkosti_table_size(1), 82);
+    IS(myrkosti_table_size(32), 2283);
     IS(myrkosti_table_size(33), 0);
     IS(start(table, SIZE + 1, PORTS, NOBODY), MYRKOSTI_TABLE_WRONG);
+    IS(start(table, SIZE - 1, PORTS, NOBODY), MYRKOSTI_TABLE_WRONG);
+    IS(start(table, place(PORTS, 1, FRONT), PORTS, NOBODY), MYRKOSTI_TABLE_WRONG);
     IS(start(table, SIZE, 0, NOBODY), MYRKOSTI_TABLE_WRONG);
     IS(start(table, SIZE, PORTS, wrong), MYRKOSTI_DEFAULT_WRONG);
     IS(myrkosti_tick(table, SIZE), MYRKOSTI_TABLE_WRONG);
@@ -222,8 +226,8 @@ static void range_ages(void)
 {
     uint8_t table[SIZE], before[SIZE], record[MYRKOSTI_RECORD];
     IS(start(table, SIZE, PORTS, NOBODY), MYRKOSTI_DONE);
-    for (unsigned place = 0; place < 3; place++) {
-        uint8_t *stored = table + MYRKOSTI_HEADER + MYRKOSTI_RECORD + MYRKOSTI_AT_AGES + place;
+    for (unsigned age_of = 0; age_of < 3; age_of++) {
+        uint8_t *stored = table + place(PORTS, 2, MYRKOSTI_AT_AGES + age_of);
         for (unsigned age = 0; age < 256; age++) {
             *stored = (uint8_t)age;
             IS(myrkosti_port(table, SIZE, 1, record, sizeof record), age <= 10 || age == 255 ? MYRKOSTI_DONE : MYRKOSTI_TABLE_WRONG);
@@ -332,7 +336,7 @@ static void put_change(uint8_t *record, struct line line, const struct change *c
     put_block(record + MYRKOSTI_AT_PARTNER, change->system, 1, change->partner_state);
 }
 
-/* from each of the four values to each: every octet of the table, and the answer to a fetch */
+/* from each of the four values to each: every octet of the table, the monitors' after the others, and the answer to a fetch */
 static void change_lines(void)
 {
     for (unsigned from = 0; from < 4; from++) {
@@ -343,6 +347,7 @@ static void change_lines(void)
             memcpy(expected, table, SIZE);
             if (from != to) {
                 put_change(expected + MYRKOSTI_HEADER, LINES[to], change);
+                watch_all(expected, PORTS, false);
             }
             IS(set_line(table, LINES[to]), MYRKOSTI_DONE);
             char what[64];
@@ -395,17 +400,22 @@ static void fall_at_once_or_by_way_of_half_duplex(void)
     IS(field(twice, 1, MYRKOSTI_AT_MUX), MYRKOSTI_MUX_WAITING);
 }
 
-/* values as they are change nothing, also in a table that no run makes: a down port that distributes, for which steps 2 to 6 have work */
+/*
+ * Values as they are change nothing, also in a table that no run makes: a down port that distributes and churns, for which steps 2 to 6 and the monitors
+ * have work.
+ */
 static void repeat_a_line(void)
 {
     uint8_t table[SIZE], before[SIZE];
     IS(start(table, SIZE, PORTS, NOBODY), MYRKOSTI_DONE);
-    table[MYRKOSTI_HEADER + MYRKOSTI_AT_MUX] = MYRKOSTI_MUX_DISTRIBUTING;
+    table[place(PORTS, 1, MYRKOSTI_AT_MUX)] = MYRKOSTI_MUX_DISTRIBUTING;
+    table[place(PORTS, 1, MYRKOSTI_AT_PARTNER_CHURN)] = MYRKOSTI_CHURN;
     memcpy(before, table, SIZE);
     IS(myrkosti_line(table, SIZE, 1, false, true), MYRKOSTI_DONE);
     IS(memcmp(table, before, SIZE), 0);
     IS(myrkosti_line(table, SIZE, 2, true, true), MYRKOSTI_DONE);
     IS(field(table, 1, MYRKOSTI_AT_MUX), MYRKOSTI_MUX_ATTACHED);
+    IS(field(table, 1, MYRKOSTI_AT_PARTNER_CHURN), MYRKOSTI_CHURN_MONITOR);
 }
 
 /* ---- what is due ---- */
@@ -460,6 +470,7 @@ static const struct {
     {MYRKOSTI_AT_AGGREGATOR, 0}, {MYRKOSTI_AT_AGGREGATOR, PORTS + 1}, {MYRKOSTI_AT_NTT, 2}, {MYRKOSTI_AT_LINK, 2},
     {MYRKOSTI_AT_DUPLEX, 2}, {MYRKOSTI_AT_CURRENT_WHILE, 4}, {MYRKOSTI_AT_PERIODIC_TIMER, 2}, {MYRKOSTI_AT_WAIT_TIMER, 21},
     {MYRKOSTI_AT_AGES, 11}, {MYRKOSTI_AT_AGES + 1, 11}, {MYRKOSTI_AT_AGES + 2, 254},
+    {MYRKOSTI_AT_ACTOR_CHURN, 3}, {MYRKOSTI_AT_PARTNER_CHURN, 3}, {MYRKOSTI_AT_ACTOR_CHURN_TIMER, 3}, {MYRKOSTI_AT_PARTNER_CHURN_TIMER, 3},
 };
 
 /* no table, no set, though both ports had something to send: another size, another port count, and each field of each port */
@@ -473,6 +484,8 @@ static void refuse_to_say_what_is_due(void)
     refuse_due(table, 0);
     refuse_due(table, MYRKOSTI_HEADER - 1);
     refuse_due(table, MYRKOSTI_TABLE(1));
+    refuse_due(table, place(PORTS, 1, FRONT));
+    refuse_due(table, place(PORTS, 2, FRONT));
     refuse_due(table, SIZE - 1);
     refuse_due(table, SIZE + 1);
     for (unsigned count = 0; count < 256; count++) {
@@ -483,9 +496,9 @@ static void refuse_to_say_what_is_due(void)
         }
     }
     for (unsigned i = 0; i < sizeof OUT_OF_RANGE / sizeof OUT_OF_RANGE[0]; i++) {
-        for (unsigned port = 0; port < PORTS; port++) {
+        for (uint32_t port = 1; port <= PORTS; port++) {
             memcpy(broken, table, SIZE);
-            broken[MYRKOSTI_HEADER + MYRKOSTI_RECORD * port + OUT_OF_RANGE[i].at] = OUT_OF_RANGE[i].octet;
+            broken[place(PORTS, port, OUT_OF_RANGE[i].at)] = OUT_OF_RANGE[i].octet;
             refuse_due(broken, SIZE);
         }
     }
@@ -538,11 +551,11 @@ static void say_what_is_due_in_any_table(void)
     IS(start(table, SIZE, PORTS, NOBODY), MYRKOSTI_DONE);
     for (unsigned both = 0; both < 64 * 64; both++) {
         uint32_t expected = 0;
-        for (unsigned port = 0; port < PORTS; port++) {
-            unsigned bits = port == 0 ? both % 64 : both / 64;
-            put_what_due_looks_at(table + MYRKOSTI_HEADER + MYRKOSTI_RECORD * port, bits);
+        for (uint32_t port = 1; port <= PORTS; port++) {
+            unsigned bits = port == 1 ? both % 64 : both / 64;
+            put_what_due_looks_at(table + place(PORTS, port, 0), bits);
             if (bits % 8 == 7 && bits / 8 != 7) {
-                expected |= 1u << port;
+                expected |= 1u << (port - 1);
             }
         }
         IS(due(table, PORTS), expected);
@@ -583,13 +596,19 @@ static void lend(const uint8_t *table, uint32_t port, size_t length, uint32_t an
 static void lend_any_length(void)
 {
     static const uint8_t zeros[MYRKOSTI_RECORD];
-    uint8_t table[SIZE], broken[SIZE];
+    uint8_t table[SIZE], broken[SIZE], first[MYRKOSTI_RECORD], second[MYRKOSTI_RECORD];
     arrive(table, LINES[0]);
+    for (size_t at = MYRKOSTI_AT_ACTOR_CHURN_COUNT; at < MYRKOSTI_RECORD; at++) {
+        table[place(PORTS, 1, at)] = (uint8_t)(0x10 + at); /* so that no two ports and no two octets of a count are alike */
+        table[place(PORTS, 2, at)] = (uint8_t)(0x80 + at);
+    }
+    gather(table, PORTS, 1, first);
+    gather(table, PORTS, 2, second);
     memcpy(broken, table, SIZE);
-    broken[MYRKOSTI_HEADER + MYRKOSTI_AT_MUX] = MYRKOSTI_MUX_DISTRIBUTING + 1;
+    broken[place(PORTS, 1, MYRKOSTI_AT_MUX)] = MYRKOSTI_MUX_DISTRIBUTING + 1;
     for (size_t length = 0; length <= 2 * MYRKOSTI_RECORD; length++) {
-        lend(table, 1, length, MYRKOSTI_DONE, table + MYRKOSTI_HEADER);
-        lend(table, 2, length, MYRKOSTI_DONE, table + MYRKOSTI_HEADER + MYRKOSTI_RECORD);
+        lend(table, 1, length, MYRKOSTI_DONE, first);
+        lend(table, 2, length, MYRKOSTI_DONE, second);
         lend(table, 3, length, MYRKOSTI_NO_SUCH_PORT, zeros);
         lend(broken, 1, length, MYRKOSTI_TABLE_WRONG, zeros);
     }

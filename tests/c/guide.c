@@ -1,6 +1,6 @@
 /*
- * What docs/GUIDE-FIRMWARE.md says of the choices of a driver, each shown by a run: two switches A and B, whose ports are joined, port i to port i.
- * Prints one line for each check that fails, and how many passed.
+ * What docs/GUIDE-FIRMWARE.md says of the choices of a driver, and docs/GUIDE-SUPPORT.md of links that never settle, each shown by a run: two switches A
+ * and B, whose ports are joined, port i to port i. Prints one line for each check that fails, and how many passed.
  */
 #define _DEFAULT_SOURCE
 
@@ -339,6 +339,7 @@ static void start_values(void)
     /* the usual default block: without LACP at the other end the port carries nothing, and speaks every second */
     nobody_there(0x02);
     IS(carrying(A), 0);
+    IS(field(A, 1, MYRKOSTI_AT_PARTNER_CHURN), MYRKOSTI_CHURN);
     IS(field(A, 1, MYRKOSTI_AT_MUX), MYRKOSTI_MUX_ATTACHED);
     IS(field(A, 1, MYRKOSTI_AT_PERIODIC), MYRKOSTI_PERIODIC_FAST);
     /* a block of zeros: it speaks every 30 seconds, which is how long a recovery then takes */
@@ -347,6 +348,7 @@ static void start_values(void)
     /* in sync and collecting: it carries on the administrator's word alone */
     nobody_there(0x1a);
     IS(carrying(A), 1);
+    IS(field(A, 1, MYRKOSTI_AT_PARTNER_CHURN), MYRKOSTI_NO_CHURN);
     /* another key for another data rate: never in one trunk, though the neighbour is one */
     begin(A, true);
     begin(B, true);
@@ -473,6 +475,149 @@ static void number_of_a_trunk(void)
     IS(trunk_of(A, PORTS, 3), 0);
 }
 
+/* ---- links that never settle ---- */
+
+enum { MINUTE = 600 };
+
+static uint8_t partner_state(const uint8_t *table, uint32_t port)
+{
+    return field(table, port, MYRKOSTI_AT_PARTNER + MYRKOSTI_BLOCK_STATE);
+}
+
+/* whether our end churns, and the other; a port that churns carries nothing */
+static void churns(const uint8_t *table, uint32_t port, bool actor, bool partner)
+{
+    IS(field(table, port, MYRKOSTI_AT_ACTOR_CHURN) == MYRKOSTI_CHURN, actor);
+    IS(field(table, port, MYRKOSTI_AT_PARTNER_CHURN) == MYRKOSTI_CHURN, partner);
+    check(!(actor || partner) || (carrying(table) >> (port - 1) & 1) == 0, "a port that churns carries nothing");
+}
+
+/* on a port of A: a port of the neighbour whose address ends so says this state of itself, and heard us or somebody else */
+static void hear_from(uint32_t port, uint8_t system, uint8_t far_port, uint8_t says, bool heard_us)
+{
+    const struct myrkosti_system here = named(A);
+    uint8_t frame[MYRKOSTI_FRAME], theirs[MYRKOSTI_BLOCK] = {0}, ours[MYRKOSTI_BLOCK], record[MYRKOSTI_RECORD];
+    IS(myrkosti_port(A, SIZE, port, record, sizeof record), MYRKOSTI_DONE);
+    put_ours(ours, &here, (uint16_t)(heard_us ? port : 99), record);
+    theirs[MYRKOSTI_BLOCK_SYSTEM + 5] = system;
+    theirs[MYRKOSTI_BLOCK_KEY + 1] = 1;
+    theirs[MYRKOSTI_BLOCK_PORT + 1] = far_port;
+    theirs[MYRKOSTI_BLOCK_STATE] = says;
+    put_lacpdu(frame, theirs, ours);
+    deliver(A, port, frame);
+}
+
+/* B never hears A: at A the partner's end churns after a minute, and B says of itself that it hears nobody; at B it is the same end, and B knows of nobody */
+static void neighbour_does_not_hear_us(void)
+{
+    begin(A, true);
+    begin(B, true);
+    plug(1);
+    for (int ticks = 0; ticks < MINUTE; ticks++) {
+        churns(A, 1, false, false);
+        churns(B, 1, false, false);
+        tick(A);
+        tick(B);
+        say(B, A);
+    }
+    churns(A, 1, false, true);
+    churns(B, 1, false, true);
+    IS(field(A, 1, MYRKOSTI_AT_RECEIVE), MYRKOSTI_RECEIVE_CURRENT);
+    IS(field(A, 1, MYRKOSTI_AT_ACTOR_STATE) & MYRKOSTI_DEFAULTED, 0);
+    IS(partner_state(A, 1) & (MYRKOSTI_DEFAULTED | MYRKOSTI_SYNCHRONIZATION), MYRKOSTI_DEFAULTED);
+    IS(field(B, 1, MYRKOSTI_AT_ACTOR_STATE) & MYRKOSTI_DEFAULTED, MYRKOSTI_DEFAULTED);
+    say(A, B); /* the cable is mended */
+    talk();
+    pass(20);
+    churns(A, 1, false, false);
+    churns(B, 1, false, false);
+    IS(carrying(A), 1);
+    IS(carrying(B), 1);
+}
+
+/* a neighbour that hears us and does not take the link, and one that takes it but for a link to somebody else: the partner's end, and it hears someone */
+static void neighbour_keeps_the_link_out(void)
+{
+    for (int crossed = 0; crossed < 2; crossed++) {
+        begin(A, true);
+        IS(line(A, 1, true), MYRKOSTI_DONE);
+        for (int ticks = 0; ticks < MINUTE; ticks++) {
+            churns(A, 1, false, false);
+            if (ticks % 10 == 0)
+                hear_from(1, 7, 1, crossed == 1 ? 0x3f : 0x07, crossed == 0);
+            tick(A);
+        }
+        churns(A, 1, false, true);
+        IS(field(A, 1, MYRKOSTI_AT_MUX), MYRKOSTI_MUX_ATTACHED);
+        IS(partner_state(A, 1) & (MYRKOSTI_DEFAULTED | MYRKOSTI_EXPIRED | MYRKOSTI_SYNCHRONIZATION), 0);
+        IS(field(A, 1, MYRKOSTI_AT_PARTNER + MYRKOSTI_BLOCK_SYSTEM + 5), 7);
+    }
+}
+
+/* two neighbours behind one cable, each of which is in order by itself: our own port is selected anew every half second, and never attaches */
+static void two_neighbours_behind_one_cable(void)
+{
+    begin(A, true);
+    IS(line(A, 1, true), MYRKOSTI_DONE);
+    for (int ticks = 0; ticks < MINUTE; ticks++) {
+        churns(A, 1, false, false);
+        if (ticks % 5 == 0)
+            hear_from(1, ticks % 10 == 0 ? 7 : 8, 1, 0x3f, true);
+        tick(A);
+    }
+    churns(A, 1, true, false);
+    IS(field(A, 1, MYRKOSTI_AT_MUX), MYRKOSTI_MUX_WAITING);
+}
+
+/* two ports of one neighbour behind the cable of port 1: it waits again and again, and port 2 of the same aggregator, where all is well, with it */
+static void held_back_by_another(void)
+{
+    begin(A, true);
+    IS(line(A, 1, true), MYRKOSTI_DONE);
+    IS(line(A, 2, true), MYRKOSTI_DONE);
+    for (int ticks = 0; ticks < MINUTE; ticks++) {
+        if (ticks % 5 == 0)
+            hear_from(1, 7, ticks % 10 == 0 ? 1 : 3, 0x3f, true);
+        if (ticks % 10 == 0)
+            hear_from(2, 7, 2, 0x3f, true);
+        tick(A);
+    }
+    churns(A, 1, true, false);
+    churns(A, 2, true, false);
+    IS(aggregator_of(A, 2), aggregator_of(A, 1));
+    IS(field(A, 2, MYRKOSTI_AT_WAIT_TIMER), 0);
+}
+
+/* a link that falls every half minute has no minute in which to settle: it never churns */
+static void flapping_link(void)
+{
+    begin(A, true);
+    for (int ticks = 0; ticks < 3 * MINUTE; ticks++) {
+        if (ticks % 300 == 0) {
+            IS(line(A, 1, false), MYRKOSTI_DONE);
+            IS(line(A, 1, true), MYRKOSTI_DONE);
+        }
+        tick(A);
+        churns(A, 1, false, false);
+    }
+    IS(field(A, 1, MYRKOSTI_AT_PARTNER_CHURN), MYRKOSTI_CHURN_MONITOR);
+}
+
+/* a partner in sync that never collects: the link carries nothing, and nobody churns */
+static void collects_never(void)
+{
+    begin(A, true);
+    IS(line(A, 1, true), MYRKOSTI_DONE);
+    for (int ticks = 0; ticks < 2 * MINUTE; ticks++) {
+        if (ticks % 10 == 0)
+            hear_from(1, 7, 1, 0x0f, true);
+        tick(A);
+        churns(A, 1, false, false);
+    }
+    IS(field(A, 1, MYRKOSTI_AT_MUX), MYRKOSTI_MUX_COLLECTING);
+    IS(carrying(A), 0);
+}
+
 /* ---- the end, and going on ---- */
 
 /* the ticks after which B has stopped sending to A, which ends with a word or without */
@@ -575,6 +720,12 @@ int main(void)
     wake_up();
     late_tick();
     number_of_a_trunk();
+    neighbour_does_not_hear_us();
+    neighbour_keeps_the_link_out();
+    two_neighbours_behind_one_cable();
+    held_back_by_another();
+    flapping_link();
+    collects_never();
     leave();
     killed();
     return finish("what the guide says");

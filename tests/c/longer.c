@@ -19,6 +19,13 @@ static const struct myrkosti_system THEM = {{0, 0, 0, 0, 0, 5}, 1, 0};
 static size_t size, longer; /* the octets of the library's table and record */
 static uint8_t *table;
 
+/* an octet of a record of the library's, where it lies: what this header calls the group is longer there */
+static uint8_t lies(uint32_t port, size_t at)
+{
+    const size_t front = MYRKOSTI_AT_ACTOR_CHURN, behind = MYRKOSTI_HEADER + front * PORTS;
+    return table[at < front ? MYRKOSTI_HEADER + front * (port - 1) + at : behind + (longer - front) * (port - 1) + at - front];
+}
+
 static void *lend(size_t length)
 {
     void *memory = malloc(length);
@@ -32,7 +39,9 @@ static uint8_t *look(uint32_t port)
 {
     uint8_t *record = lend(MYRKOSTI_RECORD);
     IS(myrkosti_port(table, size, port, record, MYRKOSTI_RECORD), MYRKOSTI_DONE);
-    IS(memcmp(record, table + MYRKOSTI_HEADER + longer * (port - 1), MYRKOSTI_RECORD), 0);
+    for (size_t i = 0; i < MYRKOSTI_RECORD; i++) {
+        IS(record[i], lies(port, i));
+    }
     return record;
 }
 
@@ -44,18 +53,30 @@ static uint8_t field(uint32_t port, unsigned at)
     return octet;
 }
 
-/* what the library appended is there for a program that lends more, and nothing is written behind it */
-static void look_at_the_whole(void)
+/* octets of a record, as many as fit: those that this header knows and those that the library appended, or zeros */
+static uint8_t expected(size_t at, size_t length, bool done)
 {
     static const uint8_t BEHIND[4] = {0xe1, 0xe2, 0xe3, 0xe4};
-    for (size_t length = 0; length < longer + 9; length++) {
-        uint8_t *record = lend(length + 1);
-        memset(record, 0xa5, length + 1);
-        IS(myrkosti_port(table, size, 1, record, length), MYRKOSTI_DONE);
-        for (size_t i = 0; i < length + 1; i++) {
-            IS(record[i], i >= length || i >= longer ? 0xa5 : i < MYRKOSTI_RECORD ? table[MYRKOSTI_HEADER + i] : BEHIND[i - MYRKOSTI_RECORD]);
+    if (at >= length || at >= longer)
+        return 0xa5;
+    if (!done)
+        return 0;
+    return at < MYRKOSTI_RECORD ? lies(1, at) : BEHIND[at - MYRKOSTI_RECORD];
+}
+
+/* what the library appended is there for a program that lends more, and nothing is written behind it; beside a refusal too */
+static void look_at_the_whole(void)
+{
+    for (uint32_t port = 0; port < 2; port++) {
+        for (size_t length = 0; length < longer + 9; length++) {
+            uint8_t *record = lend(length + 1);
+            memset(record, 0xa5, length + 1);
+            IS(myrkosti_port(table, size, port, record, length), port == 1 ? MYRKOSTI_DONE : MYRKOSTI_NO_SUCH_PORT);
+            for (size_t i = 0; i < length + 1; i++) {
+                IS(record[i], expected(i, length, port == 1));
+            }
+            free(record);
         }
-        free(record);
     }
 }
 
@@ -84,9 +105,11 @@ static void carry(void)
     hear();
     for (int ticks = 0; ticks < 20; ticks++) {
         IS(field(HEARD, MYRKOSTI_AT_MUX), MYRKOSTI_MUX_WAITING);
+        IS(field(HEARD, MYRKOSTI_AT_ACTOR_CHURN), MYRKOSTI_CHURN_MONITOR);
         IS(myrkosti_tick(table, size), MYRKOSTI_DONE);
     }
     IS(field(HEARD, MYRKOSTI_AT_MUX), MYRKOSTI_MUX_DISTRIBUTING);
+    IS(field(HEARD, MYRKOSTI_AT_ACTOR_CHURN), MYRKOSTI_NO_CHURN);
     IS(field(HEARD, MYRKOSTI_AT_PARTNER + MYRKOSTI_BLOCK_SYSTEM + 5), 5);
     IS(myrkosti_due(table, size, &ports), MYRKOSTI_DONE);
     IS(ports, 2);

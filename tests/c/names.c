@@ -2,6 +2,7 @@
 #include "myrkosti.h"
 
 #include "check.h"
+#include "layout.h"
 #include "neighbour.h"
 
 #include <string.h>
@@ -45,7 +46,8 @@ static void versions_and_sizes(void)
     IS(myrkosti_table_size(MYRKOSTI_PORTS), MYRKOSTI_TABLE(MYRKOSTI_PORTS));
     IS(myrkosti_table_size(MYRKOSTI_PORTS + 1), 0);
     IS(MYRKOSTI_BLOCK_STATE + 1, MYRKOSTI_BLOCK);
-    IS(MYRKOSTI_AT_PARTNER + MYRKOSTI_BLOCK, MYRKOSTI_RECORD);
+    IS(MYRKOSTI_AT_PARTNER + MYRKOSTI_BLOCK, MYRKOSTI_AT_ACTOR_CHURN);
+    IS(MYRKOSTI_AT_PARTNER_CHURN_COUNT + 4, MYRKOSTI_RECORD);
     IS(myrkosti_fetch(table, SIZE, 1, out, sizeof out - 1), MYRKOSTI_BUFFER_SHORT);
     IS(myrkosti_fetch(table, SIZE, 1, out, sizeof out), MYRKOSTI_NOTHING_TO_SEND);
 }
@@ -61,6 +63,20 @@ static void numbers(void)
         IS(octets[3], 0xa5);
         IS(myrkosti_number(octets + 1), n);
     }
+}
+
+/* each octet weighs what its place says, and the highest bit is one like the others */
+static void long_numbers(void)
+{
+    for (unsigned which = 0; which < 4; which++) {
+        uint8_t octets[6] = {0xa5, 0, 0, 0, 0, 0xa5};
+        for (uint32_t n = 0; n < 256; n++) {
+            octets[1 + which] = n & 0xff;
+            IS(myrkosti_long_number(octets + 1), n << (24 - 8 * which));
+        }
+    }
+    const uint8_t octets[4] = {0x89, 0xab, 0xcd, 0xef};
+    IS(myrkosti_long_number(octets), 0x89abcdef);
 }
 
 /* ---- settings and system, each value another one ---- */
@@ -178,6 +194,8 @@ static void states_beside_a_refusal(void)
     IS(record[MYRKOSTI_AT_SELECTED], MYRKOSTI_UNSELECTED);
     IS(record[MYRKOSTI_AT_AGGREGATOR], 0);
     IS(record[MYRKOSTI_AT_DUPLEX], 0);
+    IS(record[MYRKOSTI_AT_ACTOR_CHURN], MYRKOSTI_NO_CHURN);
+    IS(record[MYRKOSTI_AT_PARTNER_CHURN], MYRKOSTI_NO_CHURN);
 }
 
 /* the receive machine, with the bits and timers that tell of it */
@@ -253,6 +271,52 @@ static void mux_states(void)
     IS(holding == 1 && attached == 1 && distributing == 1 && count == 1 && lowest == 1, true);
 }
 
+/* one octet of the group of port 1 in the table, and so one of its record and no other */
+static void put_octet(unsigned at, uint8_t octet)
+{
+    table[place(PORTS, 1, at)] = octet;
+}
+
+/* both monitors by what leads to their states: we attach after two seconds, and the partner is never heard */
+static void churn_states(void)
+{
+    start();
+    IS(seen(MYRKOSTI_AT_ACTOR_CHURN), MYRKOSTI_CHURN_MONITOR);
+    IS(myrkosti_line(table, SIZE, 1, true, true), MYRKOSTI_DONE);
+    pass(20);
+    IS(seen(MYRKOSTI_AT_ACTOR_CHURN), MYRKOSTI_NO_CHURN);
+    IS(record[MYRKOSTI_AT_PARTNER_CHURN], MYRKOSTI_CHURN_MONITOR);
+    IS(myrkosti_number(record + MYRKOSTI_AT_ACTOR_CHURN_TIMER), 0);
+    IS(myrkosti_number(record + MYRKOSTI_AT_PARTNER_CHURN_TIMER), 580);
+    pass(579);
+    IS(seen(MYRKOSTI_AT_PARTNER_CHURN), MYRKOSTI_CHURN_MONITOR);
+    IS(myrkosti_long_number(record + MYRKOSTI_AT_PARTNER_CHURN_COUNT), 0);
+    pass(1);
+    IS(seen(MYRKOSTI_AT_PARTNER_CHURN), MYRKOSTI_CHURN);
+    IS(record[MYRKOSTI_AT_ACTOR_CHURN], MYRKOSTI_NO_CHURN);
+    IS(myrkosti_long_number(record + MYRKOSTI_AT_ACTOR_CHURN_COUNT), 0);
+    IS(myrkosti_long_number(record + MYRKOSTI_AT_PARTNER_CHURN_COUNT), 1);
+}
+
+/* each octet of both monitors another one, read by its name, and the first state that is none */
+static void churn_octets(void)
+{
+    static const uint8_t OCTETS[GROUP] = {MYRKOSTI_CHURN, MYRKOSTI_CHURN_MONITOR, 1, 0x11, 2, 0x22, 3, 0x33, 4, 0x44, 0xf5, 0x55, 0xf6, 0x66};
+    start();
+    for (unsigned i = 0; i < GROUP; i++) {
+        put_octet(FRONT + i, OCTETS[i]);
+    }
+    look();
+    IS(record[MYRKOSTI_AT_ACTOR_CHURN], MYRKOSTI_CHURN);
+    IS(record[MYRKOSTI_AT_PARTNER_CHURN], MYRKOSTI_CHURN_MONITOR);
+    IS(myrkosti_number(record + MYRKOSTI_AT_ACTOR_CHURN_TIMER), 0x0111);
+    IS(myrkosti_number(record + MYRKOSTI_AT_PARTNER_CHURN_TIMER), 0x0222);
+    IS(myrkosti_long_number(record + MYRKOSTI_AT_ACTOR_CHURN_COUNT), 0x03330444);
+    IS(myrkosti_long_number(record + MYRKOSTI_AT_PARTNER_CHURN_COUNT), 0xf555f666);
+    put_octet(MYRKOSTI_AT_PARTNER_CHURN, MYRKOSTI_CHURN + 1);
+    IS(myrkosti_port(table, SIZE, 1, record, sizeof record), MYRKOSTI_TABLE_WRONG);
+}
+
 /* ---- answers ---- */
 
 static uint32_t answer_to(const uint8_t *frame, size_t length)
@@ -297,12 +361,15 @@ int main(void)
     start();
     versions_and_sizes();
     numbers();
+    long_numbers();
     usual_settings();
     start_and_set();
     states_beside_a_refusal();
     receive_states();
     periodic_states();
     mux_states();
+    churn_states();
+    churn_octets();
     answers();
     return finish("names of the header");
 }

@@ -9,8 +9,8 @@ Then the first part runs again with a switch that never sends. It must fail: the
 import tempfile
 
 from neighbour import KEY, MEMBERS, SYSTEM, SYSTEM_PRIORITY, Neighbour
-from switch import (CURRENT, DEFAULTED, DONE, EXPIRED, LACP_OFF, NOBODY, SLOW_ADDRESS, Aggregator, Block, Checks, Settings, Switch, System,
-                    bit, run)
+from switch import (CHURN, CHURN_MONITOR, CURRENT, DEFAULTED, DONE, EXPIRED, LACP_OFF, NO_CHURN, NOBODY, SLOW_ADDRESS, Aggregator, Block,
+                    Checks, Settings, Switch, System, bit, run)
 
 # Two ports of four; the other two have no cable.
 FIRST, SECOND, PORTS = 2, 4, 4
@@ -19,7 +19,7 @@ OURS = System(0x4321, bytes.fromhex("020000000009"), 7)
 SETTINGS = Settings(bytes.fromhex("02005e102030"), 0x0099, 0x0088, True, True, True, NOBODY._replace(state=bit("timeout")))
 
 # In ticks.
-FAST, SLOW, SHORT, LONG, WAIT = 10, 300, 30, 900, 20
+FAST, SLOW, SHORT, LONG, WAIT, MINUTE = 10, 300, 30, 900, 20, 600
 # In this time two ends that can hear each other have a trunk: one of them sends, and then Ready is waited for.
 SOON = FAST + WAIT
 
@@ -134,6 +134,16 @@ class World:
         """A check: the receive state of a port."""
         return lambda: self.equal(f"receive state of port {port}", self.switch.port(port).receive, state)
 
+    def monitors(self, port, since, counted):
+        """A check: the partner's monitor of a port has run since that tick, or waits for a link, and it churns after a minute; ours never does."""
+        def check():
+            record = self.switch.port(port)
+            ran = self.now - since if record.link else 0
+            found = record.partner_churn, record.partner_churn_timer, record.partner_churn_count
+            self.equal(f"partner's monitor of port {port}", found, (CHURN_MONITOR, MINUTE - ran, counted) if ran < MINUTE else (CHURN, 0, counted + 1))
+            self.equal(f"our monitor of port {port} churns", (record.actor_churn == CHURN, record.actor_churn_count), (False, 0))
+        return check
+
     def status(self, port, word):
         """A check: what the neighbour says of its member at a port's link."""
         return lambda: self.equal(f"neighbour's status of port {port}", self.neighbour.members()[self.cables[port]].status.split()[0], word)
@@ -152,6 +162,8 @@ def missing(world):
             yield f"{name} holds {member.partner}, but port {port} is {world.switch.actor(port)}"
         if record.partner != Block(SYSTEM_PRIORITY, SYSTEM, KEY, MEMBERS[name][1], MEMBERS[name][0], 0x3f):
             yield f"port {port} holds {record.partner}"
+        if (record.actor_churn, record.partner_churn) != (NO_CHURN, NO_CHURN):
+            yield f"port {port} has churn states {record.actor_churn}, {record.partner_churn}"
     report = world.switch.aggregator(FIRST)
     if report != Aggregator(BOTH, BOTH, BOTH, 2, FIRST):
         yield f"aggregator {FIRST}: {report}"
@@ -243,6 +255,27 @@ def unheard(world):
     return comes_back(world)
 
 
+def never_hears(world):
+    """The neighbour gives us up on the second link and never hears us again: a minute later the partner's monitor churns, and once. The link falls,
+    which ends that and holds the minute; it comes up, still unheard, and a minute later the monitor churns once more."""
+    name, counted = world.cables[SECOND], world.switch.port(SECOND).partner_churn_count
+    alone = world.ours_is({FIRST: {FIRST}})
+    world.lost = {SECOND}
+    since = world.said[SECOND] + 2 * SHORT
+    world.until(since - 1, world.ours_is({FIRST: BOTH}))
+    world.until(since + MINUTE + SOON, world.monitors(SECOND, since, counted), alone)
+    world.switch.line(SECOND, up=False, full=True)
+    world.neighbour.up(name, False)
+    world.until(world.now + SOON, world.monitors(SECOND, world.now, counted + 1), alone)
+    world.switch.line(SECOND, up=True, full=True)
+    world.neighbour.up(name, True)
+    world.until(world.now + MINUTE + SOON, world.monitors(SECOND, world.now, counted + 1), alone)
+    world.lost = set()
+    ticks = comes_back(world)
+    world.equal("what was counted", world.switch.port(SECOND).partner_churn_count, counted + 2)
+    return ticks
+
+
 def long_timeout(world):
     """Our second port takes the long Timeout: the neighbour sends every 30 seconds, and silence counts from 90."""
     world.switch.set(SECOND, SETTINGS._replace(timeout=False))
@@ -311,6 +344,7 @@ PARTS = (
     ("the second link is silent", silence_on_second),
     ("the first link is silent", silence_on_first),
     ("the neighbour hears nothing on the second link", unheard),
+    ("the neighbour never hears us on the second link", never_hears),
     ("the second port has the long Timeout", long_timeout),
     ("our ports are passive", passive),
     ("the cables are swapped", swapped),

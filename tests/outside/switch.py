@@ -14,6 +14,8 @@ DONE, LACP_OFF, FOREIGN, UNKNOWN, ILLEGAL, NOT_COLLECTING, NOTHING_TO_SEND, TOO_
 # Receive and mux states.
 PORT_DISABLED, EXPIRED, LACP_DISABLED, DEFAULTED, CURRENT = 1, 2, 3, 4, 5
 DETACHED, WAITING, ATTACHED, COLLECTING, DISTRIBUTING = range(5)
+# Churn states.
+NO_CHURN, CHURN_MONITOR, CHURN = range(3)
 # The bits of a state octet, from bit 0.
 BITS = ("activity", "timeout", "aggregation", "synchronization", "collecting", "distributing", "defaulted", "expired")
 
@@ -97,14 +99,20 @@ class Record(NamedTuple):
     port_priority: int
     default: Block
     partner: Block
+    actor_churn: int
+    partner_churn: int
+    actor_churn_timer: int
+    partner_churn_timer: int
+    actor_churn_count: int
+    partner_churn_count: int
 
-    LAYOUT = struct.Struct(">9BHHB3s6sHH15s15s")
+    LAYOUT = struct.Struct(">9BHHB3s6sHH15s15sBBHHII")
 
     @classmethod
     def read(cls, octets):
-        """The record that these 57 octets are."""
-        *fields, default, partner = cls.LAYOUT.unpack(octets)
-        return cls(*fields, Block.read(default), Block.read(partner))
+        """The record that these 71 octets are."""
+        record = cls(*cls.LAYOUT.unpack(octets))
+        return record._replace(default=Block.read(record.default), partner=Block.read(record.partner))
 
 
 class Aggregator(NamedTuple):

@@ -1,5 +1,5 @@
 -- The calls on a table with its monitors: each is the call on the table without them, and where that did steps 3 to 6, the machines of 43.4.17 then run on
--- what stands. So with the monitors dropped it is that call (law `base-call`).
+-- what stands. So with the monitors dropped it is that call (promises: `base-calls`).
 use Prim.Native.Nat.{ℕ, _-_}
 use mathlib.Core.Bool.{Bool, false, cond, not, _&&_}
 use mathlib.Core.List.{List, _++_}

@@ -1,7 +1,7 @@
 //! What differs between two replies, field by field.
 
 use crate::memory::FIELDS;
-use crate::world::{HEADER, RECORD};
+use crate::world::{place, BASE, CHURN, HEADER};
 use calls::{Call, Reply, Report, Request};
 use std::fmt::Write;
 
@@ -26,9 +26,13 @@ fn tables(text: &mut String, before: &[u8], model: &[u8], library: &[u8]) {
         let _ =
             writeln!(text, "  header: before {}, model {}, library {}", header(before), header(model), header(library));
     }
-    for port in 0..32 {
+    if let Some(first) = model.iter().zip(library).position(|(model, library)| model != library) {
+        let _ = writeln!(text, "  octet {first} of the table is the first that differs");
+    }
+    let ports = model.first().copied().map_or(0, usize::from);
+    for port in 0..ports {
         for (name, at, length, _) in FIELDS {
-            let start = HEADER + RECORD * port + at;
+            let start = place(ports, port, at);
             let field = |table: &[u8]| table.get(start..start + length).map(hex).unwrap_or_default();
             if field(model) != field(library) {
                 let _ = writeln!(
@@ -59,8 +63,10 @@ pub fn describe(request: &Request, model: &Reply, library: &Reply) -> String {
     let _ = writeln!(text, "table before ({} octets):", request.table.len());
     let (header, records) = request.table.split_at(request.table.len().min(HEADER));
     let _ = writeln!(text, "  {}", hex(header));
-    for record in records.chunks(RECORD) {
-        let _ = writeln!(text, "  {}", hex(record));
+    let ports = header.first().copied().map_or(0, usize::from);
+    let (records, groups) = records.split_at(records.len().min(BASE * ports));
+    for octets in records.chunks(BASE).chain(groups.chunks(CHURN)) {
+        let _ = writeln!(text, "  {}", hex(octets));
     }
     text.push_str("differences:\n");
     line(&mut text, "answer", &model.outcome.answer, &library.outcome.answer);

@@ -115,7 +115,7 @@ impl Comparison {
     fn catch_up(&mut self) -> Result<Option<Difference>, Unreachable> {
         let replies = raw::perform_all(&self.requests)?;
         for ((request, pending), library) in self.requests.drain(..).zip(self.pending.drain(..)).zip(replies) {
-            self.tally.count(&request, &library);
+            self.tally.count(pending.kind, &request, &library);
             let wrong = self.said.hold(&request, &library);
             if pending.reply != library || wrong.is_some() {
                 return Ok(Some(Difference {
@@ -229,6 +229,7 @@ mod tests {
         assert!(difference.unwrap().is_none());
         assert!(comparison.tally.least_line() > 0, "{}", comparison.tally);
         assert!(comparison.tally.least_lent() > 0, "{}", comparison.tally);
+        assert!(comparison.tally.least_churn() > 0, "{}", comparison.tally);
         assert!(comparison.said.sent.min(comparison.said.refused) > 100, "{}", comparison.said);
     }
 
@@ -305,6 +306,10 @@ mod tests {
         fn ages(&self) -> &[u8] {
             &self.0[world::HEADER + 14..][..3]
         }
+
+        fn churn(&self) -> &[u8] {
+            &self.0[world::HEADER + world::BASE..]
+        }
     }
 
     fn settings(address: u8) -> SettingsArguments {
@@ -355,6 +360,56 @@ mod tests {
             let fetched = both.fetch();
             assert!(fetched == 10 || up && full);
             both.ticks(31);
+        }
+    }
+
+    #[test]
+    fn a_link_that_never_settles_churns_at_the_six_hundredth_tick() {
+        let mut both = Both::start(settings(0));
+        assert_eq!(both.call(Call::Line { port: 1, up: true, full: true }), 0);
+        assert_eq!(both.churn(), [1, 1, 2, 88, 2, 88, 0, 0, 0, 0, 0, 0, 0, 0]);
+        both.ticks(599);
+        assert_eq!(both.churn(), [0, 1, 0, 0, 0, 1, 0, 0, 0, 0, 0, 0, 0, 0]);
+        both.ticks(1);
+        assert_eq!(both.churn(), [0, 2, 0, 0, 0, 0, 0, 0, 0, 0, 0, 0, 0, 1]);
+        both.ticks(700);
+        assert_eq!(both.churn(), [0, 2, 0, 0, 0, 0, 0, 0, 0, 0, 0, 0, 0, 1]);
+        assert_eq!(both.call(Call::Line { port: 1, up: false, full: true }), 0);
+        both.ticks(700);
+        assert_eq!(both.churn(), [1, 1, 2, 88, 2, 88, 0, 0, 0, 0, 0, 0, 0, 1]);
+    }
+
+    /// A table in which the port's link is up or down, either end in sync or not, and the machines stand in these states with this
+    /// timer and count.
+    fn watched(bits: u8, states: [u8; 2], timer: u16, count: u32) -> Both {
+        let mut both = Both::start(settings(0));
+        let bit = |at: u8| bits >> at & 1;
+        both.0[world::HEADER + 6] = bit(0);
+        both.0[world::HEADER + 8] = 0x41 | bit(1) << 3;
+        both.0[world::HEADER + 56] = bit(2) << 3;
+        let ([t1, t0], [a, b, c, d]) = (timer.to_be_bytes(), count.to_be_bytes());
+        let churn = [states[0], states[1], t1, t0, t1, t0, a, b, c, d, a, b, c, d];
+        both.0[world::HEADER + world::BASE..].copy_from_slice(&churn);
+        both
+    }
+
+    #[test]
+    fn every_state_of_both_monitors_in_any_memory() {
+        let states = (0..=3).flat_map(|actor| (0..=3).map(move |partner| [actor, partner]));
+        for (states, timer) in states.flat_map(|states| [0, 1, 17, 600, 601].map(|timer| (states, timer))) {
+            for (bits, count) in (0..8).flat_map(|bits| [0, 0xFFFF, u32::MAX].map(|count| (bits, count))) {
+                let both = watched(bits, states, timer, count);
+                let wrong = u32::from(states.iter().any(|state| *state > 2) || timer > 600);
+                let same = Call::Line { port: 1, up: bits & 1 == 1, full: true };
+                for call in [same, Call::Settings { port: 1, settings: settings(0) }, Report::Port { port: 1 }.into()] {
+                    let reply = both.reply(call);
+                    assert_eq!((reply.outcome.answer, reply.table), (wrong, both.0.clone()));
+                }
+                let other = Call::Settings { port: 1, settings: settings(1) };
+                for call in [Call::Tick, other, Call::Line { port: 1, up: bits & 1 == 0, full: true }] {
+                    assert_eq!(both.reply(call).outcome.answer, wrong);
+                }
+            }
         }
     }
 

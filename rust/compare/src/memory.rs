@@ -1,10 +1,10 @@
 //! Any memory for a table.
 
 use crate::random::Random;
-use crate::world::{HEADER, RECORD};
+use crate::world::{place, BASE, CHURN, HEADER, RECORD};
 
 /// The fields of a record by name, place and length; and what each may hold, if that is less than its octets can.
-pub const FIELDS: [(&str, usize, usize, Option<u32>); 26] = [
+pub const FIELDS: [(&str, usize, usize, Option<u32>); 32] = [
     ("receive state", 0, 1, Some(5)),
     ("periodic state", 1, 1, Some(3)),
     ("mux state", 2, 1, Some(4)),
@@ -31,6 +31,12 @@ pub const FIELDS: [(&str, usize, usize, Option<u32>); 26] = [
     ("partner key", 50, 2, None),
     ("partner port priority and port", 52, 4, None),
     ("partner state", 56, 1, None),
+    ("actor's churn state", 57, 1, Some(2)),
+    ("partner's churn state", 58, 1, Some(2)),
+    ("actor's churn timer", 59, 2, Some(600)),
+    ("partner's churn timer", 61, 2, Some(600)),
+    ("actor's churn count", 63, 4, None),
+    ("partner's churn count", 67, 4, None),
 ];
 
 /// Changes the table, mostly so that it stays in range; true if a tick should come next.
@@ -38,11 +44,12 @@ pub fn change(random: &mut Random, table: &mut Vec<u8>, count: u32) -> bool {
     match random.below(100) {
         0..=11 => change_octets(random, table),
         12..=14 => exceed_field(random, table, count),
-        15..=69 => {
+        15..=62 => {
             for _ in 0..random.between(1, 6) {
                 change_field(random, table, count);
             }
         }
+        63..=69 => monitor_all(random, table, count),
         70..=87 => {
             for port in 0..count {
                 for field in 0..FIELDS.len() {
@@ -52,17 +59,18 @@ pub fn change(random: &mut Random, table: &mut Vec<u8>, count: u32) -> bool {
         }
         88..=91 => table.fill_with(|| random.octet()),
         92..=94 => {
-            let length = table.len().saturating_sub(random.of(&[1, 1, 11, 57, 60]));
+            let groups = CHURN * count as usize;
+            let length = table.len().saturating_sub(random.of(&[1, 1, 11, CHURN, BASE, RECORD, groups, groups]));
             table.truncate(length);
         }
-        95..=96 => table.resize(table.len() + random.of(&[1, 2, 57, 58, 1000]), 0),
+        95..=96 => table.resize(table.len() + random.of(&[1, 2, CHURN, BASE, RECORD, 1000]), 0),
         97 => {
             if let Some(first) = table.first_mut() {
                 *first = random.of(&[0, 33, 255, *first ^ 1, first.wrapping_add(1)]);
             }
         }
         _ => {
-            let length = random.below(2000) as usize;
+            let length = random.below(2400) as usize;
             table.clear();
             table.resize_with(length, || random.octet());
             if let (Some(first), true) = (table.first_mut(), random.flag()) {
@@ -90,8 +98,7 @@ fn change_octets(random: &mut Random, table: &mut [u8]) {
 
 /// A field of a port, one above its range: so one of the ages becomes 11.
 fn exceed_field(random: &mut Random, table: &mut [u8], count: u32) {
-    let (_, at, length, highest) = FIELDS[random.place(13)];
-    let Some(highest) = highest else {
+    let (_, at, length, Some(highest)) = FIELDS[ranged(random)] else {
         return;
     };
     let (at, length, highest) = match at {
@@ -99,22 +106,53 @@ fn exceed_field(random: &mut Random, table: &mut [u8], count: u32) {
         14 => (at + random.place(3), 1, highest),
         _ => (at, length, highest),
     };
-    let start = HEADER + RECORD * random.below(count) as usize + at;
+    let start = place(count as usize, random.below(count) as usize, at);
     if let Some(place) = table.get_mut(start..start + length) {
         place.copy_from_slice(&(highest + 1).to_be_bytes()[4 - length..]);
+    }
+}
+
+/// The place of a field that may hold less than its octets can.
+fn ranged(random: &mut Random) -> usize {
+    loop {
+        let field = random.place(FIELDS.len());
+        if FIELDS[field].3.is_some() {
+            return field;
+        }
     }
 }
 
 /// A field of a port, in range.
 fn change_field(random: &mut Random, table: &mut [u8], count: u32) {
     let port = random.below(count);
-    let field = if random.percent(60) { random.place(13) } else { random.place(FIELDS.len()) };
+    let field = if random.percent(60) { ranged(random) } else { random.place(FIELDS.len()) };
     put_field(random, table, count, port, field);
+}
+
+/// Every port is watched at both ends, and a watch ends soon; all else stays. So what counts churn is tried on tables that runs make.
+fn monitor_all(random: &mut Random, table: &mut [u8], count: u32) {
+    for (port, end) in (0..count).flat_map(|port| [(port, 0), (port, 1)]) {
+        let mut put = |at: usize, octets: &[u8]| {
+            let start = place(count as usize, port as usize, at);
+            if let Some(place) = table.get_mut(start..start + octets.len()) {
+                place.copy_from_slice(octets);
+            }
+        };
+        put(BASE + end, &[1]);
+        put(BASE + 2 + 2 * end, &u16::to_be_bytes(random.of(&[0, 1, 1, 2, 5, 20, 600])));
+        put(BASE + 6 + 4 * end, &churn_count(random).to_be_bytes());
+    }
+}
+
+/// A churn count, often one that carries.
+fn churn_count(random: &mut Random) -> u32 {
+    let any = random.bits() as u32;
+    random.of(&[0, 1, 0xFF, 0xFFFF, 0x00FF_FFFF, u32::MAX, u32::MAX, any])
 }
 
 fn put_field(random: &mut Random, table: &mut [u8], count: u32, port: u32, field: usize) {
     let (_, at, length, highest) = FIELDS[field];
-    let start = HEADER + RECORD * port as usize + at;
+    let start = place(count as usize, port as usize, at);
     let Some(place) = table.get_mut(start..start + length) else {
         return;
     };
@@ -127,6 +165,7 @@ fn put_field(random: &mut Random, table: &mut [u8], count: u32, port: u32, field
             place.copy_from_slice(&number.to_be_bytes()[4 - length..]);
         }
         (8 | 41 | 56, None) => place[0] = random.octet(),
+        (63 | 67, None) => place.copy_from_slice(&churn_count(random).to_be_bytes()),
         (_, None) => {
             place.fill(0);
             place[random.of(&[0, length - 1, length - 1])] = random.of(&[0, 1, 1, 5, 6, 9]);

@@ -32,6 +32,10 @@ enum Plan {
     Hear(u32),
     /// The far end is in sync, and collects or does not; it says so.
     HearCollecting(u32, bool),
+    /// The far end is out of sync, and says so.
+    HearUnsettled(u32),
+    /// The far end has another port number, and says so: our port waits anew.
+    HearRenumbered(u32),
     /// The link alone: the duplex is as it was.
     Link(u32, bool),
     /// The duplex alone: the link is as it was.
@@ -58,6 +62,8 @@ enum Action {
     Tick,
     Ticks,
     Silence,
+    Unsettled,
+    Restless,
     LiveOn,
     Hear,
     HearAll,
@@ -87,6 +93,8 @@ const REALISTIC: &[(u32, Action)] = &[
     (160, Action::Tick),
     (30, Action::Ticks),
     (2, Action::Silence),
+    (1, Action::Unsettled),
+    (1, Action::Restless),
     (12, Action::LiveOn),
     (200, Action::Hear),
     (30, Action::HearAll),
@@ -131,6 +139,7 @@ const BALANCED: &[(u32, Action)] = &[
     (8, Action::Due),
     (1, Action::MoveCable),
     (2, Action::FarEnd),
+    (1, Action::Restart),
     (1, Action::Refused),
     (1, Action::Damaged),
 ];
@@ -188,7 +197,7 @@ impl Scenario {
         let length = match call {
             Call::Receive { .. } | Call::Fetch { .. } => FRAME + random.of(&[0, 0, 0, 1, 7, 60]),
             Call::Report(Report::Port { .. }) => {
-                let any = random.place(81);
+                let any = random.place(91);
                 random.of(&[0, 1, RECORD - 1, RECORD, RECORD, RECORD, RECORD + 1, any, any, any, 10 * any])
             }
             _ => 0,
@@ -208,6 +217,14 @@ impl Scenario {
             Plan::Hear(port) => Call::Receive { port, frame: self.world.lacpdu(random, &self.table, port).into() },
             Plan::HearCollecting(port, collecting) => {
                 self.world.set_collecting(port, collecting);
+                Call::Receive { port, frame: self.world.lacpdu(random, &self.table, port).into() }
+            }
+            Plan::HearUnsettled(port) => {
+                self.world.unsettle(port);
+                Call::Receive { port, frame: self.world.lacpdu(random, &self.table, port).into() }
+            }
+            Plan::HearRenumbered(port) => {
+                self.world.renumber(port);
                 Call::Receive { port, frame: self.world.lacpdu(random, &self.table, port).into() }
             }
             Plan::Link(port, up) => Call::Line { port, up, full: world::line_of(&self.table, port).1 },
@@ -231,6 +248,29 @@ impl Scenario {
         self.plans.extend((0..count).map(|_| Plan::Tick));
     }
 
+    /// A link does not settle for about the time after which it churns, because of what is heard every so many ticks; then it settles,
+    /// or something else ends it, or nothing.
+    fn never_settle(&mut self, random: &mut Random, port: u32, often: u32, heard: Plan) {
+        let before = self.plans.len();
+        self.plans.push_back(Plan::Link(port, true));
+        let mut ticks = random.of(&[560, 580, 599, 600, 601, 640]);
+        while ticks > 0 {
+            self.plans.push_back(heard);
+            let some = random.between(1, often).min(ticks);
+            self.ticks(some);
+            ticks -= some;
+        }
+        match random.below(6) {
+            0 => self.plans.push_back(Plan::HearCollecting(port, true)),
+            1 => self.plans.push_back(Plan::Link(port, false)),
+            2 => self.plans.push_back(Plan::Duplex(port, false)),
+            3 => self.plans.push_back(Plan::Settings(port)),
+            _ => {}
+        }
+        self.ticks(random.of(&[1, 20, 21]));
+        self.left += (self.plans.len() - before) as u32;
+    }
+
     fn hear_all(&mut self) {
         self.plans.extend((1..=self.world.count).map(Plan::Hear));
     }
@@ -247,6 +287,8 @@ impl Scenario {
                 self.left += ticks;
                 self.ticks(ticks);
             }
+            Action::Unsettled => self.never_settle(random, port, 29, Plan::HearUnsettled(port)),
+            Action::Restless => self.never_settle(random, port, 19, Plan::HearRenumbered(port)),
             Action::LiveOn => {
                 for _ in 0..random.between(1, 6) {
                     self.ticks(random.between(1, 12));

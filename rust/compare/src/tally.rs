@@ -1,6 +1,7 @@
 //! How many calls of each kind and each answer were compared.
 
-use crate::world::{self, RECORD};
+use crate::scenario::Kind;
+use crate::world::{self, BASE, HEADER, RECORD};
 use calls::{Call, Reply, Report, Request, NAMES};
 use std::collections::BTreeMap;
 use std::fmt;
@@ -16,6 +17,8 @@ pub struct Tally {
     lines: [[u64; 4]; 4],
     /// Reports of a port, done and refused, by the octets lent for the record.
     lent: [[u64; 4]; 2],
+    /// Churn states entered: in tables that runs make or in any memory, by the actor's machine or the partner's.
+    churn: [[[u64; 3]; 2]; 2],
 }
 
 const LINES: [(&str, (bool, bool)); 4] = [
@@ -26,11 +29,12 @@ const LINES: [(&str, (bool, bool)); 4] = [
 ];
 
 /// Octets lent for a record.
-const LENT: [&str; 4] = ["0", "1 to 56", "57", "more"];
+const LENT: [&str; 4] = ["0", "1 to 70", "71", "more"];
+const CHURN_STATES: [&str; 3] = ["NO_CHURN", "MONITOR", "CHURN"];
 
 impl Tally {
-    /// Counts a call that was compared.
-    pub fn count(&mut self, request: &Request, reply: &Reply) {
+    /// Counts a call that was compared, of a run of that kind.
+    pub fn count(&mut self, kind: Kind, request: &Request, reply: &Reply) {
         let no_answer = matches!(request.call, Call::Report(Report::TableSize { .. } | Report::Version));
         let answer = if no_answer { 0 } else { reply.outcome.answer };
         *self.counts.entry((request.call.number(), answer)).or_default() += 1;
@@ -43,17 +47,35 @@ impl Tally {
             self.lent[usize::from(answer != 0)][column] += 1;
         }
         if reply.outcome.answer == 0 {
-            for record in reply.table.get(11..).unwrap_or_default().chunks_exact(57) {
-                let raise = |counts: &mut [u64], state: u8| {
-                    if let Some(count) = counts.get_mut(usize::from(state)) {
-                        *count += 1;
-                    }
-                };
-                raise(&mut self.receive, record[0]);
-                raise(&mut self.periodic, record[1]);
-                raise(&mut self.mux, record[2]);
+            self.count_states(&reply.table);
+            if !matches!(request.call, Call::Start { .. }) {
+                self.count_churn(kind, &request.table, &reply.table);
             }
         }
+    }
+
+    fn count_states(&mut self, table: &[u8]) {
+        let ports = table.first().copied().map_or(0, usize::from);
+        for record in table.get(HEADER..).unwrap_or_default().chunks_exact(BASE).take(ports) {
+            raise(&mut self.receive, record[0]);
+            raise(&mut self.periodic, record[1]);
+            raise(&mut self.mux, record[2]);
+        }
+    }
+
+    fn count_churn(&mut self, kind: Kind, before: &[u8], after: &[u8]) {
+        let counts = &mut self.churn[usize::from(kind == Kind::AnyMemory)];
+        for (before, after) in world::churn_states(before).zip(world::churn_states(after)) {
+            for end in [0, 1].into_iter().filter(|end| before[*end] != after[*end]) {
+                raise(&mut counts[end], after[end]);
+            }
+        }
+    }
+
+    /// The least of the churn states entered, by either machine, in either kind of memory.
+    #[cfg(test)]
+    pub fn least_churn(&self) -> u64 {
+        self.churn.iter().flatten().flatten().copied().min().unwrap_or(0)
     }
 
     /// The least of the sixteen pairs of old and new link and duplex.
@@ -74,8 +96,14 @@ impl Tally {
     }
 }
 
-/// A name, and four columns.
-fn row<T: fmt::Display>(f: &mut fmt::Formatter<'_>, name: &str, columns: [T; 4]) -> fmt::Result {
+fn raise(counts: &mut [u64], state: u8) {
+    if let Some(count) = counts.get_mut(usize::from(state)) {
+        *count += 1;
+    }
+}
+
+/// A name, and columns.
+fn row<T: fmt::Display, const N: usize>(f: &mut fmt::Formatter<'_>, name: &str, columns: [T; N]) -> fmt::Result {
     write!(f, "{name:<11}")?;
     for column in columns {
         write!(f, "{column:>14}")?;
@@ -107,6 +135,12 @@ impl fmt::Display for Tally {
         row(f, "port, lent", LENT)?;
         for (name, counts) in ["  done", "  refused"].iter().zip(self.lent) {
             row(f, name, counts)?;
+        }
+        for (name, counts) in ["churn, made", "churn, any"].iter().zip(self.churn) {
+            row(f, name, CHURN_STATES.map(|state| format!("to {state}")))?;
+            for (name, counts) in ["  actor", "  partner"].iter().zip(counts) {
+                row(f, name, counts)?;
+            }
         }
         writeln!(f, "records after an answer 0, by receive state 0 to 5: {:?}", self.receive)?;
         writeln!(f, "  by periodic state 0 to 3: {:?}, by mux state 0 to 4: {:?}", self.periodic, self.mux)?;

@@ -7,8 +7,12 @@ use calls::{Call, SettingsArguments};
 pub const BLOCK: usize = 15;
 /// Octets before the first record of a table.
 pub const HEADER: usize = 11;
-/// Octets of a record.
-pub const RECORD: usize = 57;
+/// Octets of a record up to its partner, which stand together in a table.
+pub const BASE: usize = 57;
+/// Octets of a record's churn. In a table these groups stand behind the last port's `BASE`.
+pub const CHURN: usize = 14;
+/// Octets of a record, as a report gives it.
+pub const RECORD: usize = BASE + CHURN;
 /// Octets of a sent frame.
 pub const FRAME: usize = 124;
 
@@ -60,16 +64,35 @@ fn block(priority: u16, system: [u8; 6], key: u16, port_priority: u16, port: u16
     block
 }
 
+/// Where an octet of the record of a port, both from 0, stands in a table of that many ports.
+pub fn place(ports: usize, port: usize, at: usize) -> usize {
+    match at.checked_sub(BASE) {
+        None => HEADER + BASE * port + at,
+        Some(at) => HEADER + BASE * ports + CHURN * port + at,
+    }
+}
+
+/// The record of a port up to its partner, if there is such a port.
+fn base_of(table: &[u8], port: u32) -> Option<&[u8]> {
+    let at = place(0, (port as usize).saturating_sub(1), 0);
+    table.get(at..at + BASE)
+}
+
 /// Whether the link of a port is up and its duplex full, as the table has it; both where there is no such port.
 pub fn line_of(table: &[u8], port: u32) -> (bool, bool) {
-    let at = HEADER + RECORD * (port as usize).saturating_sub(1);
-    table.get(at..at + RECORD).map_or((true, true), |record| (record[6] == 1, record[7] == 1))
+    base_of(table, port).map_or((true, true), |record| (record[6] == 1, record[7] == 1))
+}
+
+/// The states of both Churn Detection machines of each port of a table, the actor's first.
+pub fn churn_states(table: &[u8]) -> impl Iterator<Item = [u8; 2]> + '_ {
+    let ports = table.first().copied().map_or(0, usize::from);
+    let groups = table.get(place(ports, 0, BASE)..).unwrap_or_default();
+    groups.chunks_exact(CHURN).map(|group| [group[0], group[1]])
 }
 
 /// The actor block of a port, as the table has it; zeros where there is no such port.
 pub fn says_of_itself(table: &[u8], port: u32) -> [u8; BLOCK] {
-    let at = HEADER + RECORD * (port as usize).saturating_sub(1);
-    let (Some(header), Some(record)) = (table.get(..HEADER), table.get(at..at + RECORD)) else {
+    let (Some(header), Some(record)) = (table.get(..HEADER), base_of(table, port)) else {
         return [0; BLOCK];
     };
     let mut block = [0; BLOCK];
@@ -137,8 +160,7 @@ impl World {
 
     /// The settings of a port, one of them changed or none.
     pub fn next_settings(&self, random: &mut Random, table: &[u8], port: u32) -> SettingsArguments {
-        let at = HEADER + RECORD * (port as usize).saturating_sub(1);
-        let Some(record) = table.get(at..at + RECORD) else {
+        let Some(record) = base_of(table, port) else {
             return self.settings(random);
         };
         let number = |at: usize| u16::from_be_bytes([record[at], record[at + 1]]);
@@ -224,6 +246,16 @@ impl World {
         if !collecting {
             *state &= !COLLECTING;
         }
+    }
+
+    /// The far end at our port is out of sync.
+    pub fn unsettle(&mut self, port: u32) {
+        self.far_end(port).actor[14] &= !SYNCHRONIZATION;
+    }
+
+    /// The far end at our port has another port number, of two.
+    pub fn renumber(&mut self, port: u32) {
+        self.far_end(port).actor[13] ^= 1;
     }
 
     /// What the far end at our port says now: mostly what it is and what we say, sometimes stale, sometimes wrong.

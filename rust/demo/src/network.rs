@@ -20,12 +20,42 @@ pub enum State {
     Lost,
 }
 
+/// An end of a port's link.
+#[derive(Clone, Copy, Debug, PartialEq, Eq)]
+pub enum End {
+    This,
+    Far,
+}
+
+impl End {
+    pub const BOTH: [End; 2] = [End::This, End::Far];
+}
+
 /// A port as its report shows it.
 #[derive(Clone, Copy, PartialEq, Eq)]
 pub struct PortLook {
     pub state: State,
+    /// Whether its link churns at this end, and at the far end.
+    churns: [bool; 2],
     /// The partner that it learned: system and port. None if it goes by the default.
     pub partner: Option<(SystemId, u16)>,
+}
+
+impl PortLook {
+    fn of(record: &Record) -> PortLook {
+        let partner = (record.partner.system, record.partner.port);
+        let learned = !record.actor_state.has(PortState::DEFAULTED);
+        PortLook {
+            state: state_of(record),
+            churns: [record.churn.actor.churns(), record.churn.partner.churns()],
+            partner: learned.then_some(partner),
+        }
+    }
+
+    /// Whether that end of its link churns.
+    pub fn churns(&self, end: End) -> bool {
+        self.churns[end as usize]
+    }
 }
 
 /// An aggregator that carries traffic, and its ports that distribute.
@@ -57,7 +87,8 @@ impl Look {
 pub struct Network {
     tables: [Table; 2],
     cabling: Cabling,
-    silent: Vec<bool>,
+    /// The ports to which frames are lost.
+    deaf: [Vec<bool>; 2],
     ports: u32,
 }
 
@@ -65,7 +96,8 @@ impl Network {
     /// Two switches of that many ports, joined port by port, every link down.
     pub fn start(ports: u32) -> Result<Network, Refusal> {
         let tables = [start_switch(ports, 0x0A)?, start_switch(ports, 0x0B)?];
-        Ok(Network { tables, cabling: Cabling::straight(ports), silent: vec![false; ports as usize], ports })
+        let deaf = [vec![false; ports as usize], vec![false; ports as usize]];
+        Ok(Network { tables, cabling: Cabling::straight(ports), deaf, ports })
     }
 
     /// A tick passes at both switches, and what is due goes over the cables.
@@ -80,6 +112,7 @@ impl Network {
     pub fn perform(&mut self, command: &Command) -> Result<(), Refusal> {
         match command {
             Command::Link(change, link) => self.change_link(*change, Port::a(*link))?,
+            Command::Deaf(port) => self.set_deaf(*port, true),
             Command::Set(setting, port) => self.set(*setting, *port)?,
             Command::Move(port, to) => self.move_cable(port.cable_to(*to))?,
             Command::Tick(_) | Command::Note(_) => return Ok(()),
@@ -92,10 +125,7 @@ impl Network {
         let mut look = Look::default();
         for port in all_ports(self.ports) {
             let record = self.table(port).port(port.number)?;
-            let partner = (record.partner.system, record.partner.port);
-            let learned = !record.actor_state.has(PortState::DEFAULTED);
-            let looks = PortLook { state: state_of(&record), partner: learned.then_some(partner) };
-            look.ports[port.switch.index()].push(looks);
+            look.ports[port.switch.index()].push(PortLook::of(&record));
             let report = self.table(port).aggregator(port.number)?;
             if report.count > 0 {
                 let ports = report.distributing.iter().collect();
@@ -126,11 +156,13 @@ impl Network {
         &mut self.tables[port.switch.index()]
     }
 
-    /// Where a frame of this port arrives; none without a cable or on a silent link.
+    /// Where a frame of this port arrives; none without a cable, or where it is lost.
     fn way_from(&self, port: Port) -> Option<Port> {
-        let far = self.cabling.far(port)?;
-        let (a, _) = port.cable_to(far.number);
-        (!self.silent[a.index()]).then_some(far)
+        self.cabling.far(port).filter(|far| !self.deaf[far.switch.index()][far.index()])
+    }
+
+    fn set_deaf(&mut self, port: Port, deaf: bool) {
+        self.deaf[port.switch.index()][port.index()] = deaf;
     }
 
     /// Every port that has something to send is fetched once; then the frames arrive.
@@ -156,12 +188,12 @@ impl Network {
     }
 
     fn change_link(&mut self, change: LinkChange, port: Port) -> Result<(), Refusal> {
-        match change {
-            LinkChange::Silence | LinkChange::Speak => self.silent[port.index()] = change == LinkChange::Silence,
-            LinkChange::Up | LinkChange::Down => {
-                for end in [Some(port), self.cabling.far(port)].into_iter().flatten() {
-                    self.set_link(end, change == LinkChange::Up)?;
-                }
+        for end in [Some(port), self.cabling.far(port)].into_iter().flatten() {
+            match change {
+                LinkChange::Up => self.set_link(end, true)?,
+                LinkChange::Down => self.set_link(end, false)?,
+                LinkChange::Silence => self.set_deaf(end, true),
+                LinkChange::Speak => self.set_deaf(end, false),
             }
         }
         Ok(())
@@ -191,7 +223,7 @@ impl Network {
             self.set_link(end, false)?;
         }
         self.cabling.join(a, b);
-        self.silent[a.index()] = false;
+        self.change_link(LinkChange::Speak, a)?;
         self.change_link(LinkChange::Up, a)
     }
 }

@@ -1,8 +1,9 @@
 //! What became of the trunk, in words, from the reports.
 
 use crate::cabling::{all_ports, Port, Switch};
-use crate::network::{Look, State, Trunk};
-use crate::story::Story;
+use crate::network::{End, Look, State, Trunk};
+use crate::story::{Churning, Story};
+use crate::timeline::seconds;
 use std::rc::Rc;
 
 /// What became of the trunk from the event at this place to the next.
@@ -13,6 +14,7 @@ pub fn outcome(story: &Story, event: usize) -> String {
     let mut sentences = vec![if a == b { format!("A and B: {a}.") } else { format!("A: {a}; B: {b}.") }];
     sentences.extend(standstill(span));
     sentences.extend(lost(story.ports, span));
+    sentences.extend(churning(story, event));
     sentences.extend(displaced(story.ports, span, before));
     sentences.join(" ")
 }
@@ -67,6 +69,49 @@ fn lost(ports: u32, span: &[Rc<Look>]) -> Option<String> {
     let losing = all_ports(ports).map(|port| (port, count(port))).filter(|(_, count)| *count > 0);
     let words: Vec<String> = losing.map(|(port, count)| format!("{} on {port}", ticks(count))).collect();
     (!words.is_empty()).then(|| format!("Traffic sent and lost: {}.", words.join(", ")))
+}
+
+/// Whose link churns at the end of the span, at which end and since when, and whose did up to a tick of it.
+fn churning(story: &Story, event: usize) -> Vec<String> {
+    let from = story.events[event].tick;
+    let to = from + story.span(event).len();
+    let here = |one: &&Churning| one.ticks.start < to && one.ticks.end >= from;
+    let mut told: Vec<(Told, Vec<String>)> = Vec::new();
+    for churning in story.churning.iter().filter(here) {
+        let over = Some(churning.ticks.end).filter(|over| *over < to);
+        let alike = Told { end: churning.end, since: churning.ticks.start, over };
+        match told.iter_mut().find(|(other, _)| *other == alike) {
+            Some((_, ports)) => ports.push(churning.port.to_string()),
+            None => told.push((alike, vec![churning.port.to_string()])),
+        }
+    }
+    told.iter().map(|(told, ports)| churning_words(ports, told)).collect()
+}
+
+/// What is told of churn: of which end, since which tick and, if it is over, up to which.
+#[derive(PartialEq, Eq)]
+struct Told {
+    end: End,
+    since: usize,
+    over: Option<usize>,
+}
+
+fn churning_words(ports: &[String], Told { end, since, over }: &Told) -> String {
+    let end = match end {
+        End::This => "this end",
+        End::Far => "the far end",
+    };
+    let (who, since) = (ports.join(", "), at(*since));
+    match over {
+        Some(over) => format!("{who} churned from {since} to {}: {end} was out of sync.", at(*over)),
+        None if ports.len() == 1 => format!("{who} churns since {since}: {end} is out of sync."),
+        None => format!("{who} churn since {since}: {end} is out of sync."),
+    }
+}
+
+/// `tick 600 (60 s)`.
+fn at(tick: usize) -> String {
+    format!("tick {tick} ({} s)", seconds(tick))
 }
 
 /// A port without link forgets its partner when another port hears that partner.

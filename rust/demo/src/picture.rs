@@ -1,7 +1,7 @@
 //! The story as an SVG picture.
 
 use crate::cabling::{all_ports, Port, Switch};
-use crate::network::State;
+use crate::network::{End, State};
 use crate::outcome::outcome;
 use crate::story::Story;
 use crate::timeline::{character, round_step, seconds, wrap, LEGEND};
@@ -11,9 +11,12 @@ const LEFT: usize = 80;
 const PLOT: usize = WIDTH - LEFT - 30;
 const ROW: usize = 24;
 const BAR: usize = 18;
-/// Where the columns of the legend begin.
+/// The stripe in the bar of a port whose link churns: for this end at its top, for the far end at its bottom.
+const STRIPE: usize = 4;
+/// Where the columns of the legend begin, and the height of its rows.
 const LEGEND_AT: [usize; 4] = [20, 280, 600, 890];
-/// Where the numbers of the events begin, and the height of a line of them.
+const LEGEND_ROW: usize = 26;
+/// Where the numbers of the events begin below the first rows of the legend, and the height of a line of them.
 const LANES: usize = 122;
 const LANE: usize = 24;
 const CHART: usize = 48;
@@ -28,10 +31,10 @@ const END: &str = "text-anchor='end'";
 
 /// The picture.
 pub fn svg(story: &Story) -> String {
-    let mut canvas = Canvas { story, shapes: String::new() };
+    let mut canvas = Canvas { story, lanes_at: LANES, shapes: String::new() };
     canvas.legend();
     let lanes = canvas.lanes();
-    let top = LANES + LANE * lanes.iter().max().map_or(0, |most| most + 1);
+    let top = canvas.lanes_at + LANE * lanes.iter().max().map_or(0, |most| most + 1);
     let charts = canvas.bars(top) + 14;
     let axis = canvas.widths(charts);
     canvas.axis(axis);
@@ -61,6 +64,8 @@ fn colours(state: State) -> (&'static str, &'static str) {
 
 struct Canvas<'a> {
     story: &'a Story,
+    /// Where the numbers of the events begin.
+    lanes_at: usize,
     shapes: String,
 }
 
@@ -88,6 +93,17 @@ impl Canvas<'_> {
         }
     }
 
+    /// The stripe over a piece of a bar whose link churns at that end.
+    fn stripe(&mut self, x: usize, y: usize, width: usize, end: End) {
+        let y = match end {
+            End::This => y,
+            End::Far => y + BAR - STRIPE,
+        };
+        self.draw(&format!(
+            "<rect x='{x}' y='{y}' width='{width}' height='{STRIPE}' fill='black' stroke='white' stroke-width='0.5'/>"
+        ));
+    }
+
     fn number(&mut self, x: usize, y: usize, number: usize) {
         self.draw(&format!("<circle cx='{x}' cy='{y}' r='10' fill='black'/>"));
         self.write(x, y + 4, &format!("{MIDDLE} fill='white' font-size='12' font-weight='bold'"), &number.to_string());
@@ -101,9 +117,24 @@ impl Canvas<'_> {
         self.write(20, 34, "font-size='20' font-weight='bold'", "Two switches and their trunk");
         self.write(WIDTH - 30, 34, &format!("{END} fill='#444444'"), SUBTITLE);
         for (at, (state, _, words)) in LEGEND.into_iter().enumerate() {
-            let (x, y) = (LEGEND_AT[at % 4], 52 + at / 4 * 26);
+            let (x, y) = (LEGEND_AT[at % 4], 52 + at / 4 * LEGEND_ROW);
             self.piece(x, y, 20, state);
             self.write(x + 28, y + 14, "", words);
+        }
+        if !self.story.churning.is_empty() {
+            self.churn_legend(52 + LEGEND.len().div_ceil(4) * LEGEND_ROW);
+            self.lanes_at += LEGEND_ROW;
+        }
+    }
+
+    /// A row of the legend that only a story with churn has.
+    fn churn_legend(&mut self, y: usize) {
+        let words =
+            ["this end", "the far end"].map(|end| format!("churns: {end} is out of sync for a minute and more"));
+        for ((x, end), words) in [LEGEND_AT[0], LEGEND_AT[2]].into_iter().zip(End::BOTH).zip(words) {
+            self.piece(x, y, 20, State::Attached);
+            self.stripe(x, y, 20, end);
+            self.write(x + 28, y + 14, "", &words);
         }
     }
 
@@ -122,11 +153,11 @@ impl Canvas<'_> {
 
     fn markers(&mut self, lanes: &[usize], bottom: usize) {
         for (at, lane) in lanes.iter().enumerate() {
-            let (x, y) = (self.x(self.story.events[at].tick), LANES + LANE * lane);
+            let (x, y) = (self.x(self.story.events[at].tick), self.lanes_at + LANE * lane);
             self.line((x, y), (x, bottom), "'black' stroke-dasharray='2 3'");
         }
         for (at, lane) in lanes.iter().enumerate() {
-            self.number(self.x(self.story.events[at].tick), LANES + LANE * lane, at + 1);
+            self.number(self.x(self.story.events[at].tick), self.lanes_at + LANE * lane, at + 1);
         }
     }
 
@@ -149,6 +180,10 @@ impl Canvas<'_> {
             let x = self.x(tick);
             tick += run.len();
             self.piece(x, y, self.x(tick) - x, run[0]);
+        }
+        for churning in self.story.churning.iter().filter(|churning| churning.port == port) {
+            let x = self.x(churning.ticks.start);
+            self.stripe(x, y, self.x(churning.ticks.end) - x, churning.end);
         }
     }
 

@@ -13,7 +13,7 @@ const PORTS: RangeInclusive<u32> = 1..=8;
 const TICKS: RangeInclusive<u32> = 1..=100_000;
 const KEYS: RangeInclusive<u32> = 0..=65_535;
 const COMMANDS: &str =
-    "switches, tick, up, down, silence, speak, half, full, key, move, long, short, passive, active or note";
+    "switches, tick, up, down, silence, deaf, speak, half, full, key, move, long, short, passive, active or note";
 
 /// A list of events that has been read.
 #[derive(Clone, Debug, PartialEq, Eq)]
@@ -28,6 +28,8 @@ pub enum Command {
     Tick(u32),
     /// A change of the link at that port of switch A.
     Link(LinkChange, u32),
+    /// Frames to that port are lost.
+    Deaf(Port),
     Set(Setting, Port),
     /// The cable of a port now ends at that port of the other switch.
     Move(Port, u32),
@@ -105,6 +107,9 @@ impl Reader {
             Command::Link(_, link) if self.cabling.far(Port::a(*link)).is_none() => {
                 return Err(format!("'{name}' wants a link with a cable, and port {link} of switch A has none now"));
             }
+            Command::Deaf(port) if self.cabling.far(*port).is_none() => {
+                return Err(format!("'{name}' wants a port with a cable, and {port} has none now"));
+            }
             Command::Move(port, to) => {
                 let (a, b) = port.cable_to(*to);
                 self.cabling.join(a, b);
@@ -130,6 +135,7 @@ impl Line<'_> {
             "down" => Command::Link(LinkChange::Down, self.link()?),
             "silence" => Command::Link(LinkChange::Silence, self.link()?),
             "speak" => Command::Link(LinkChange::Speak, self.link()?),
+            "deaf" => Command::Deaf(self.port()?),
             "half" | "full" => Command::Set(Setting::FullDuplex(self.name == "full"), self.port()?),
             "long" | "short" => Command::Set(Setting::ShortTimeout(self.name == "short"), self.port()?),
             "passive" | "active" => Command::Set(Setting::Active(self.name == "active"), self.port()?),
@@ -189,14 +195,16 @@ mod tests {
     #[test]
     fn every_command_is_read() {
         let text = "\u{feff}# all\r\nswitches 5\n\nup 1 # one\ndown 2\nsilence 3\nspeak 3\nhalf A 1\nfull B 5\nkey B 2 65535\n\
-                    move A 4 5\nlong A 1\nshort A 1\npassive B 1\nactive B 1\nnote  all  is well # so far\ntick 100000";
+                    move A 4 5\ndeaf B 5\nlong A 1\nshort A 1\npassive B 1\nactive B 1\nnote  all  is well # so far\ntick 100000";
         let script = parse(text).unwrap();
-        assert_eq!((script.ports, script.commands.len()), (5, 14));
+        assert_eq!((script.ports, script.commands.len()), (5, 15));
         assert_eq!(script.commands[6], Command::Set(Setting::Key(65_535), Port::b(2)));
         assert_eq!(script.commands[7], Command::Move(Port::a(4), 5));
-        assert_eq!(script.commands[12], Command::Note("all is well".into()));
+        assert_eq!(script.commands[8], Command::Deaf(Port::b(5)));
+        assert_eq!(script.commands[13], Command::Note("all is well".into()));
         assert_eq!(parse("").unwrap(), Script { ports: 4, commands: vec![] });
         assert!(parse(BUILT_IN).is_ok() && parse(include_str!("../stories/silent-first-link.txt")).is_ok());
+        assert!(parse(include_str!("../stories/never-settles.txt")).is_ok());
     }
 
     #[test]
@@ -227,5 +235,7 @@ mod tests {
         let bare = "'up' wants a link with a cable, and port 2 of switch A has none now";
         assert_eq!(message("move A 1 2\nup 2"), format!("line 2: {bare}"));
         assert!(parse("move A 1 2\nmove A 2 1\nup 2").is_ok());
+        assert_eq!(message("move A 1 2\ndeaf B 1"), "line 2: 'deaf' wants a port with a cable, and B1 has none now");
+        assert!(parse("move A 1 2\ndeaf B 2").is_ok());
     }
 }

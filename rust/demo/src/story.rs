@@ -1,8 +1,10 @@
 //! A script as it was played: what the reports showed in every tick, and the events.
 
-use crate::network::{Look, Network};
+use crate::cabling::{all_ports, Port};
+use crate::network::{End, Look, Network};
 use crate::script::{Command, LinkChange, Script, Setting};
 use myrkosti::Refusal;
+use std::ops::Range;
 use std::rc::Rc;
 
 /// A script that was played.
@@ -11,6 +13,16 @@ pub struct Story {
     /// What the reports showed after tick n and the events that came with it, n from 0.
     pub(crate) looks: Vec<Rc<Look>>,
     pub(crate) events: Vec<Event>,
+    /// When links churned, in the order of the ports.
+    pub(crate) churning: Vec<Churning>,
+}
+
+/// A time during which a port's link churned at one end.
+pub struct Churning {
+    pub port: Port,
+    pub end: End,
+    /// The ticks in which the reports showed it.
+    pub ticks: Range<usize>,
 }
 
 /// What happened between two ticks.
@@ -29,7 +41,7 @@ pub struct Event {
 /// What the library refuses. It has no reason to, unless it cannot be reached.
 pub fn play(script: &Script) -> Result<Story, Refusal> {
     let mut network = Network::start(script.ports)?;
-    let mut story = Story { ports: script.ports, looks: Vec::new(), events: Vec::new() };
+    let mut story = Story { ports: script.ports, looks: Vec::new(), events: Vec::new(), churning: Vec::new() };
     for command in &script.commands {
         if let Command::Tick(ticks) = command {
             for _ in 0..*ticks {
@@ -43,6 +55,9 @@ pub fn play(script: &Script) -> Result<Story, Refusal> {
     }
     if !matches!(script.commands.last(), Some(Command::Tick(_))) {
         story.keep(network.look()?);
+    }
+    for port in all_ports(script.ports) {
+        End::BOTH.into_iter().for_each(|end| story.keep_churning(port, end));
     }
     Ok(story)
 }
@@ -58,6 +73,17 @@ impl Story {
     fn keep(&mut self, look: Look) {
         let same = self.looks.last().filter(|last| ***last == look).cloned();
         self.looks.push(same.unwrap_or_else(|| Rc::new(look)));
+    }
+
+    /// Remembers when that end churned, which a report does not tell.
+    fn keep_churning(&mut self, port: Port, end: End) {
+        let churns: Vec<bool> = self.looks.iter().map(|look| look.port(port).churns(end)).collect();
+        let mut from = 0;
+        for run in churns.chunk_by(|one, next| one == next) {
+            let ticks = from..from + run.len();
+            from = ticks.end;
+            self.churning.extend(run[0].then_some(Churning { port, end, ticks }));
+        }
     }
 
     fn event_now(&mut self) -> &mut Event {
@@ -76,6 +102,7 @@ impl Event {
             Command::Tick(_) => return,
             Command::Note(text) => return self.notes.push(text.clone()),
             Command::Link(change, link) => (format!("link {link}"), change_words(*change).into()),
+            Command::Deaf(port) => (port.to_string(), "deaf".into()),
             Command::Set(setting, port) => (port.to_string(), setting_words(*setting)),
             Command::Move(port, to) => (format!("cable of {port}"), format!("now ends at {}", port.opposite(*to))),
         };

@@ -1,7 +1,7 @@
 //! The story as text.
 
 use crate::cabling::{all_ports, Port, Switch};
-use crate::network::State;
+use crate::network::{End, State};
 use crate::outcome::{outcome, ticks};
 use crate::story::Story;
 
@@ -24,14 +24,21 @@ pub const LEGEND: [(State, char, &str); 8] = [
     (State::Down, '.', "link down"),
 ];
 
+/// What the row under a port that churns shows.
+const CHURN: &str = "t f b  the link churns: for a minute and more t this end, f the far end, b both are out of sync";
+
 /// The legend, the timeline, and the events with what became of the trunk.
 pub fn text(story: &Story) -> String {
     let step = round_step(|step| story.looks.len().div_ceil(step) <= COLUMNS);
-    let mut lines = introduction(story.ports, step);
+    let mut lines = introduction(story, step);
     lines.extend(markers(story, step));
     for port in all_ports(story.ports) {
         lines.extend((port == Port::b(1)).then(String::new));
         lines.push(row(&port.to_string(), story, step, |tick| character(story.looks[tick].port(port).state)));
+        if story.churning.iter().any(|churning| churning.port == port) {
+            let churns = |tick: usize| churning(End::BOTH.map(|end| story.looks[tick].port(port).churns(end)));
+            lines.push(row(&format!("{port} churn"), story, step, churns));
+        }
     }
     lines.push(String::new());
     for switch in Switch::BOTH {
@@ -51,6 +58,16 @@ pub fn text(story: &Story) -> String {
 /// The character of a state.
 pub fn character(state: State) -> char {
     LEGEND.iter().find(|(one, _, _)| *one == state).map_or(' ', |(_, character, _)| *character)
+}
+
+/// The character of the ends that churn, this one and the far one.
+fn churning(ends: [bool; 2]) -> char {
+    match ends {
+        [false, false] => ' ',
+        [true, false] => 't',
+        [false, true] => 'f',
+        [true, true] => 'b',
+    }
 }
 
 /// The least of 1, 2, 5, 10, 20, 50 and so on that fits.
@@ -86,17 +103,19 @@ fn pieces(word: &str, width: usize) -> Vec<String> {
     word.chars().collect::<Vec<_>>().chunks(width).map(|piece| piece.iter().collect()).collect()
 }
 
-fn introduction(ports: u32, step: usize) -> Vec<String> {
+fn introduction(story: &Story, step: usize) -> Vec<String> {
     let about = format!(
-        "Two switches, A and B, of {ports} ports each. A tick is a tenth of a second. A column is {} and shows how a port \
+        "Two switches, A and B, of {} ports each. A tick is a tenth of a second. A column is {} and shows how a port \
          stands in the last of them; the numbers above are the events, told below. The width is the number of ports on which \
          the trunk carries traffic at that end.",
+        story.ports,
         ticks(step)
     );
     let entry = |(_, character, words): &(_, char, &str)| format!("{character} {words:<43}");
     let legend = LEGEND.chunks(2).map(|pair| format!("    {}", pair.iter().map(entry).collect::<String>()));
+    let churn = (!story.churning.is_empty()).then(|| format!("    {CHURN}"));
     let blank = || [String::new()];
-    wrap(&about, LINE).into_iter().chain(blank()).chain(legend).chain(blank()).collect()
+    wrap(&about, LINE).into_iter().chain(blank()).chain(legend).chain(churn).chain(blank()).collect()
 }
 
 fn row(label: &str, story: &Story, step: usize, shown: impl Fn(usize) -> char) -> String {

@@ -20,6 +20,59 @@ fn the_trunk_is_whole_and_broken() {
     assert!(text.lines().all(|line| line.chars().count() <= LINE));
 }
 
+/// A text without its line breaks.
+fn words(text: &str) -> String {
+    text.split_whitespace().collect::<Vec<_>>().join(" ")
+}
+
+/// Stripes of a picture.
+fn stripes(svg: &str) -> usize {
+    svg.matches("fill='black' stroke='white'").count()
+}
+
+#[test]
+fn a_link_that_never_settles() {
+    let story = story(include_str!("../stories/never-settles.txt"));
+    let (text, said) = (text(&story), words(&text(&story)));
+    assert!(said.contains("[B2 deaf; link 1, link 2 up]"));
+    assert!(said.contains("A2, B2 churn since tick 600 (60 s): the far end is out of sync."), "{said}");
+    assert!(said.contains("A2, B2 churned from tick 600 (60 s) to tick 650 (65 s): the far end was out of sync."));
+    assert!(said.contains("A2, B2 churn since tick 1270 (127 s): the far end is out of sync."));
+    assert!(said.contains("A2 churned from tick 1270 (127 s) to tick 1331 (133.1 s): the far end was out of sync."));
+    assert!(said.contains("B2 churned from tick 1270 (127 s) to tick 1311 (131.1 s): the far end was out of sync."));
+    let columns = row(&text, "A2 churn").char_indices().filter(|(_, shown)| *shown != ' ');
+    assert_eq!(columns.map(|(at, _)| at).collect::<Vec<_>>(), [31, 32, 64, 65, 66]);
+    assert!(!text.contains("A1 churn") && row(&text, "width A").ends_with("222"));
+    assert!(text.lines().all(|line| line.chars().count() <= LINE));
+    assert_eq!(stripes(&svg(&story)), 2 + 4);
+}
+
+#[test]
+fn both_ends_churn_where_a_key_is_changed_again_and_again() {
+    let story = story(&format!("switches 1\nup 1\n{}tick 40", "key A 1 2\ntick 10\nkey A 1 1\ntick 10\n".repeat(32)));
+    let text = text(&story);
+    assert!(row(&text, "A1 churn").contains('b') && row(&text, "B1 churn").contains('b'), "{text}");
+    assert!(words(&text).contains("A1, B1 churn since tick 600 (60 s): this end is out of sync."), "{text}");
+    assert_eq!(stripes(&svg(&story)), 2 + 4);
+}
+
+#[test]
+fn what_settles_shows_nothing_of_churn() {
+    for script in [BUILT_IN, include_str!("../stories/silent-first-link.txt")] {
+        let story = story(script);
+        assert!(!text(&story).contains("churn") && !svg(&story).contains("churn"));
+        assert_eq!(stripes(&svg(&story)), 0);
+    }
+}
+
+#[test]
+fn a_deaf_port_is_heard() {
+    let text = text(&story("switches 1\nup 1\ntick 40\ndeaf A 1\ntick 80\nspeak 1\ntick 40"));
+    let last = |label| row(&text, label).trim_end().to_string();
+    assert!(last("A1").contains('?') && !last("B1").contains('?'), "{text}");
+    assert!(last("A1").ends_with('#') && last("B1").ends_with('#'));
+}
+
 #[test]
 fn two_runs_show_the_same() {
     let [one, other] = [story(BUILT_IN), story(BUILT_IN)];
@@ -30,7 +83,9 @@ fn two_runs_show_the_same() {
 #[test]
 fn odd_scripts_are_shown_too() {
     let many = "switches 8\nup 8\ntick 1\nkey A 8 2\nmove B 8 1\ntick 201\nlong A 1\npassive B 8\ndown 1";
-    for script in ["", "note <&>", &format!("note {}", "long".repeat(99)), many, &"note x\ntick 1\n".repeat(120)] {
+    let silent = "switches 8\nup 1\nup 8\nsilence 1\nsilence 8\nnote x\ntick 700\nmove A 1 8\nhalf B 8\ntick 5000";
+    let notes = "note x\ntick 1\n".repeat(120);
+    for script in ["", "note <&>", &format!("note {}", "long".repeat(99)), many, silent, &notes] {
         let story = story(script);
         assert!(text(&story).lines().all(|line| line.chars().count() <= LINE), "{}", text(&story));
         assert!(!svg(&story).contains("<&"));

@@ -64,11 +64,57 @@ pub enum Breakage {
     ZerosBehindRecord,
     /// Memory that is too short for a whole record is left as it is.
     ShortRecordUnwritten,
+    /// A port at half duplex is disabled to the Churn Detection machines.
+    HalfDuplexDisables,
+    /// A change of duplex on an up port is seen as a link that falls, and restarts the Churn Detection machines.
+    DuplexRestartsMonitors,
+    /// A port without a link that is in sync has no churn instead of being in MONITOR.
+    SynchronizationBeforeDisabled,
+    /// A churn timer runs while the link is down.
+    MonitorRunsWhileDown,
+    /// A link that falls takes the churn counts with it.
+    LinkFallForgetsCount,
+    /// So does a displaced port that begins anew.
+    DisplacementForgetsCount,
+    /// A start keeps the churn counts of the table that was in its memory.
+    StartKeepsCounts,
+    /// A churn timer that ran out is taken before Synchronization.
+    ExpiryBeforeSynchronization,
+    /// NO_CHURN leaves the churn timer running.
+    MonitorTimerLeftRunning,
+    /// A Churn Detection machine that stays in NO_CHURN or CHURN clears its timer.
+    IdleMonitorClearsTimer,
+    /// Churn is told after Short_Timeout_Time, as the text of 43.4.17 has it.
+    ChurnAfterShortTimeout,
+    /// CHURN is counted by every run of its machine, and not only where it is entered.
+    ChurnCountedAtEveryRun,
+    /// A churn count stays at its highest value.
+    ChurnCountSaturates,
+    /// A churn count wraps at 16 bits.
+    ChurnCountOfSixteenBits,
+    /// The partner's Churn Detection machine looks at our Synchronization.
+    PartnerMonitorSeesOurs,
+    /// The Churn Detection machines run on what stands before step 3.
+    MonitorsBeforeStepThree,
+    /// They run in a tick alone.
+    MonitorsRunAtTicksAlone,
+    /// A call on one port runs those of that port alone.
+    MonitorsOfNamedPortAlone,
+    /// The churn timers fall when a tick has done all else.
+    ChurnTimersFallLast,
+    /// Link and duplex as they were run the Churn Detection machines.
+    RepeatedLineRunsMonitors,
+    /// Settings as they were run them.
+    RepeatedSettingsRunMonitors,
+    /// A stored churn state of 3 is in range, and taken for CHURN.
+    ChurnStateOf3Accepted,
+    /// A stored churn timer of 601 is in range.
+    ChurnTimerOf601Accepted,
 }
 
 impl Breakage {
     /// Every breakage, with the name by which it is asked for.
-    pub const ALL: [(&'static str, Breakage); 29] = [
+    pub const ALL: [(&'static str, Breakage); 52] = [
         ("partners-timeout", Breakage::PartnersTimeout),
         ("compares-after-recording", Breakage::ComparesAfterRecording),
         ("expired-records-default", Breakage::ExpiredRecordsDefault),
@@ -98,6 +144,29 @@ impl Breakage {
         ("due-beyond-three-sends", Breakage::DueBeyondThreeSends),
         ("zeros-behind-record", Breakage::ZerosBehindRecord),
         ("short-record-unwritten", Breakage::ShortRecordUnwritten),
+        ("half-duplex-disables", Breakage::HalfDuplexDisables),
+        ("duplex-restarts-monitors", Breakage::DuplexRestartsMonitors),
+        ("synchronization-before-disabled", Breakage::SynchronizationBeforeDisabled),
+        ("monitor-runs-while-down", Breakage::MonitorRunsWhileDown),
+        ("link-fall-forgets-count", Breakage::LinkFallForgetsCount),
+        ("displacement-forgets-count", Breakage::DisplacementForgetsCount),
+        ("start-keeps-counts", Breakage::StartKeepsCounts),
+        ("expiry-before-synchronization", Breakage::ExpiryBeforeSynchronization),
+        ("monitor-timer-left-running", Breakage::MonitorTimerLeftRunning),
+        ("idle-monitor-clears-timer", Breakage::IdleMonitorClearsTimer),
+        ("churn-after-short-timeout", Breakage::ChurnAfterShortTimeout),
+        ("churn-counted-at-every-run", Breakage::ChurnCountedAtEveryRun),
+        ("churn-count-saturates", Breakage::ChurnCountSaturates),
+        ("churn-count-of-sixteen-bits", Breakage::ChurnCountOfSixteenBits),
+        ("partner-monitor-sees-ours", Breakage::PartnerMonitorSeesOurs),
+        ("monitors-before-step-three", Breakage::MonitorsBeforeStepThree),
+        ("monitors-run-at-ticks-alone", Breakage::MonitorsRunAtTicksAlone),
+        ("monitors-of-named-port-alone", Breakage::MonitorsOfNamedPortAlone),
+        ("churn-timers-fall-last", Breakage::ChurnTimersFallLast),
+        ("repeated-line-runs-monitors", Breakage::RepeatedLineRunsMonitors),
+        ("repeated-settings-run-monitors", Breakage::RepeatedSettingsRunMonitors),
+        ("churn-state-of-3-accepted", Breakage::ChurnStateOf3Accepted),
+        ("churn-timer-of-601-accepted", Breakage::ChurnTimerOf601Accepted),
     ];
 
     /// The breakage of that name.

@@ -2,13 +2,16 @@
 //! steps of R4. Each answers its number (R2).
 
 use crate::breakage::{self, Breakage};
+use crate::churn::Churn;
 use crate::receive::displace;
-use crate::record::{self, Mux, Periodic, Port, Receive, Settings, Table, HEADER, OLDEST_AGE, OWN_BITS, RECORD};
+use crate::record::{
+    self, Mux, Periodic, Port, Receive, Settings, Table, BASE, CHURN, HEADER, OLDEST_AGE, OWN_BITS, RECORD,
+};
 use crate::wire::{self, Block, Frame, State, FRAME};
 use ::calls::{Call, Outcome, Report, SettingsArguments};
 
 /// The version of the interface that the model performs.
-const VERSION: u32 = 0x0100;
+const VERSION: u32 = 0x0101;
 
 /// Why a call was refused; the discriminants are the answer numbers.
 #[derive(Clone, Copy, Debug, PartialEq, Eq)]
@@ -128,12 +131,18 @@ fn own(given: &SettingsArguments) -> Settings {
     }
 }
 
-/// The end of an accepted call that changes something: periodic machines, then steps 3 to 6, over all ports.
-fn finish(mut table: Table, memory: &mut [u8]) {
+/// The end of an accepted call on port `n` that changes something.
+fn finish(n: u32, mut table: Table, memory: &mut [u8]) {
+    let before = breakage::is(Breakage::MonitorsOfNamedPortAlone).then(|| table.clone());
     work(&mut table);
+    let others = before.iter().flat_map(|before| &before.ports).zip(&mut table.ports).zip(1..);
+    for ((before, port), _) in others.filter(|(_, other)| *other != n) {
+        port.churn = before.churn;
+    }
     table.write(memory);
 }
 
+/// What follows on a change: periodic machines, steps 3 to 6, Churn Detection machines, over all ports.
 fn work(table: &mut Table) {
     for port in &mut table.ports {
         port.periodic_machine();
@@ -147,7 +156,14 @@ fn begun(memory: &[u8], ports: u32, settings: &Settings) -> Result<Vec<Port>, Re
         return Err(Refusal::TableWrong);
     }
     right_default(settings)?;
-    Ok(vec![begun_port(settings); ports as usize])
+    let mut begun = vec![begun_port(settings); ports as usize];
+    let old = if breakage::is(Breakage::StartKeepsCounts) { Table::read(memory) } else { None };
+    if let Some(old) = old {
+        for (port, old) in begun.iter_mut().zip(old.ports) {
+            (port.churn.actor.count, port.churn.partner.count) = (old.churn.actor.count, old.churn.partner.count);
+        }
+    }
+    Ok(begun)
 }
 
 /// Starts a table.
@@ -177,6 +193,7 @@ fn begun_port(settings: &Settings) -> Port {
         port_priority: settings.port_priority,
         default: settings.default,
         partner: settings.default,
+        churn: Churn::begun(),
     };
     port.initialize();
     port
@@ -196,7 +213,7 @@ fn receive(memory: &mut [u8], n: u32, frame: &[u8], out: &mut [u8]) -> Result<u3
         Frame::Lacpdu { actor, partner } => {
             port.current(&actor_of_n, &actor, &partner);
             displace(&mut table, n, &actor);
-            finish(table, memory);
+            finish(n, table, memory);
             Ok(0)
         }
         Frame::Marker(_) if !port.mux.collects() => Err(Refusal::NotCollecting),
@@ -215,8 +232,20 @@ fn tick(memory: &mut [u8]) -> Result<(), Refusal> {
         port.ticked();
         port.receive_machine();
     }
-    finish(table, memory);
+    work(&mut table);
+    late(&mut table);
+    table.write(memory);
     Ok(())
+}
+
+/// What a tick does last: nothing, but in the breakages.
+fn late(table: &mut Table) {
+    if breakage::is(Breakage::MonitorsRunAtTicksAlone) {
+        table.watch();
+    }
+    if breakage::is(Breakage::ChurnTimersFallLast) {
+        table.ports.iter_mut().for_each(|port| port.churn.ticked());
+    }
 }
 
 impl Port {
@@ -232,6 +261,9 @@ impl Port {
         if !stand || self.mux == Mux::Waiting {
             self.wait_while = self.wait_while.saturating_sub(1);
         }
+        if !breakage::is(Breakage::ChurnTimersFallLast) {
+            self.churn.ticked();
+        }
         let oldest = if breakage::is(Breakage::AgeForgottenAtTen) { OLDEST_AGE - 1 } else { OLDEST_AGE };
         self.ages = self.ages.map(|age| age.map(|age| age + 1).filter(|age| *age <= oldest));
     }
@@ -245,6 +277,9 @@ impl Port {
     fn relined(&mut self, new: (bool, bool)) {
         self.link = false;
         self.receive_machine();
+        if breakage::is(Breakage::DuplexRestartsMonitors) {
+            self.churn_machines();
+        }
         (self.link, self.full_duplex) = new;
         self.receive_machine();
     }
@@ -257,6 +292,7 @@ fn line(memory: &mut [u8], n: u32, new: (bool, bool)) -> Result<(), Refusal> {
     let at = n as usize - 1;
     let old = table.ports[at].line();
     if old == new {
+        unchanged(table, memory, Breakage::RepeatedLineRunsMonitors);
         return Ok(());
     }
     if let Some(way) = by_way_of(old, new).filter(|way| *way != old && *way != new) {
@@ -264,8 +300,16 @@ fn line(memory: &mut [u8], n: u32, new: (bool, bool)) -> Result<(), Refusal> {
         work(&mut table);
     }
     table.ports[at].relined(new);
-    finish(table, memory);
+    finish(n, table, memory);
     Ok(())
+}
+
+/// The end of an accepted call in which nothing changes: the memory stays as it is, but in that breakage.
+fn unchanged(mut table: Table, memory: &mut [u8], runs: Breakage) {
+    if breakage::is(runs) {
+        table.watch();
+        table.write(memory);
+    }
 }
 
 /// What two calls would stop at on the way: nothing, but in the breakages.
@@ -286,6 +330,7 @@ fn set(memory: &mut [u8], n: u32, new: &Settings) -> Result<(), Refusal> {
     let port = &mut table.ports[n as usize - 1];
     let old = port.settings();
     if old == *new {
+        unchanged(table, memory, Breakage::RepeatedSettingsRunMonitors);
         return Ok(());
     }
     let aggregation = (old.own_bits ^ new.own_bits) & State::AGGREGATION != 0;
@@ -297,7 +342,7 @@ fn set(memory: &mut [u8], n: u32, new: &Settings) -> Result<(), Refusal> {
     if breakage::is(Breakage::DefaultAppliedAtOnce) && port.actor_state.has(State::DEFAULTED) {
         port.partner = new.default;
     }
-    finish(table, memory);
+    finish(n, table, memory);
     Ok(())
 }
 
@@ -319,12 +364,14 @@ fn fetch(memory: &mut [u8], n: u32, out: &mut [u8]) -> Result<(), Refusal> {
     Ok(())
 }
 
-/// The record of a port.
+/// The record of a port, from its two places.
 fn record_of(memory: &[u8], n: u32) -> Result<[u8; RECORD], Refusal> {
-    open(memory, n)?;
+    let count = open(memory, n)?.ports.len();
+    let before = n as usize - 1;
+    let (base, churn) = (HEADER + BASE * before, HEADER + BASE * count + CHURN * before);
     let mut record = [0; RECORD];
-    let at = HEADER + RECORD * (n as usize - 1);
-    record.copy_from_slice(&memory[at..at + RECORD]);
+    record[..BASE].copy_from_slice(&memory[base..base + BASE]);
+    record[BASE..].copy_from_slice(&memory[churn..churn + CHURN]);
     Ok(record)
 }
 

@@ -11,7 +11,8 @@
 //! | [`receive`] | Receive machine and the functions of 43.4.9; displaced ports |
 //! | [`periodic`] | Periodic Transmission machine |
 //! | [`mux`] | Mux machine, independent control |
-//! | [`select`] | the selection rule, Ready, steps 3 to 6 of the order of work |
+//! | [`churn`] | Churn Detection machines |
+//! | [`select`] | the selection rule, Ready, steps 3 to 6 of the order of work, and what runs behind them |
 //! | [`calls`] | the calls, their refusals in document 01's order |
 //! | [`breakage`] | deliberate errors, to see that a comparison catches them |
 
@@ -19,6 +20,7 @@
 
 pub mod breakage;
 pub mod calls;
+pub mod churn;
 pub mod mux;
 pub mod periodic;
 pub mod receive;

@@ -1,6 +1,7 @@
 //! Receive machine (43.4.12, Figure 43-10), the functions of 43.4.9, and displaced ports (port_moved, 43.4.8).
 
 use crate::breakage::{self, Breakage};
+use crate::churn::Churn;
 use crate::record::{Port, Receive, Table, LONG_TIMEOUT_TIME, SHORT_TIMEOUT_TIME};
 use crate::wire::{Block, State};
 
@@ -145,6 +146,9 @@ pub fn displace(table: &mut Table, receiver: u32, actor: &Block) {
         let moved = port.partner.system == actor.system && same_port;
         if n != receiver && port.receive == Receive::PortDisabled && moved {
             port.initialize();
+            if breakage::is(Breakage::DisplacementForgetsCount) {
+                port.churn = Churn::begun();
+            }
         }
     }
 }

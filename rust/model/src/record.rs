@@ -1,12 +1,17 @@
 //! A port's record, the table in memory, and the ranges of its fields.
 
 use crate::breakage::{self, Breakage};
+use crate::churn::{Churn, ChurnState, Monitor};
 use crate::wire::{Block, State, BLOCK};
 
 /// Octets before the first record.
 pub const HEADER: usize = 11;
-/// Octets of a record.
-pub const RECORD: usize = 57;
+/// Octets of a port from its receive state to its partner, which stand together in a table.
+pub const BASE: usize = 57;
+/// Octets of a port's churn; in a table these groups stand behind the last port's `BASE`.
+pub const CHURN: usize = 14;
+/// Octets of a port's record, as it is reported: one behind the other.
+pub const RECORD: usize = BASE + CHURN;
 /// The most ports that a table has.
 pub const PORTS: u32 = 32;
 
@@ -18,6 +23,8 @@ pub const SLOW_PERIODIC_TIME: u16 = 300;
 pub const SHORT_TIMEOUT_TIME: u16 = 30;
 /// Long_Timeout_Time in ticks.
 pub const LONG_TIMEOUT_TIME: u16 = 900;
+/// Churn_Detection_Time in ticks.
+pub const CHURN_DETECTION_TIME: u16 = 600;
 /// Aggregate_Wait_Time in ticks.
 pub const AGGREGATE_WAIT_TIME: u8 = 20;
 /// The oldest age in ticks of a send that is remembered.
@@ -72,6 +79,10 @@ impl Receive {
 impl Periodic {
     const IN_MEMORY: [Periodic; 4] =
         [Periodic::NoPeriodic, Periodic::FastPeriodic, Periodic::SlowPeriodic, Periodic::PeriodicTx];
+}
+
+impl ChurnState {
+    const IN_MEMORY: [ChurnState; 3] = [ChurnState::NoChurn, ChurnState::Monitor, ChurnState::Churn];
 }
 
 impl Mux {
@@ -150,6 +161,8 @@ pub struct Port {
     pub default: Block,
     /// Partner information in force.
     pub partner: Block,
+    /// The Churn Detection machines.
+    pub churn: Churn,
 }
 
 impl Port {
@@ -174,8 +187,8 @@ impl Port {
     }
 
     /// The record in these octets, if every field is in its range for a table of `count` ports.
-    fn read(octets: &[u8; RECORD], count: u8) -> Option<Port> {
-        let mut reader = Reader(octets);
+    fn read(base: &[u8], churn: &[u8], count: u8) -> Option<Port> {
+        let mut reader = Reader(base);
         let port = Port {
             receive: *Receive::IN_MEMORY.get(usize::from(reader.octet()?))?,
             periodic: *Periodic::IN_MEMORY.get(usize::from(reader.octet()?))?,
@@ -195,6 +208,7 @@ impl Port {
             port_priority: reader.number()?,
             default: Block::read(&reader.octets::<BLOCK>()?),
             partner: Block::read(&reader.octets::<BLOCK>()?),
+            churn: Churn::read(churn)?,
         };
         let in_range = (1..=count).contains(&port.aggregator)
             && port.current_while <= LONG_TIMEOUT_TIME
@@ -203,6 +217,7 @@ impl Port {
         in_range.then_some(port)
     }
 
+    /// All but the churn.
     fn write(&self, to: &mut Vec<u8>) {
         to.push(self.receive as u8);
         to.push(self.periodic as u8);
@@ -222,6 +237,25 @@ impl Port {
         to.extend(self.port_priority.to_be_bytes());
         to.extend(self.default.octets());
         to.extend(self.partner.octets());
+    }
+}
+
+impl Churn {
+    /// The churn in these octets, if every field is in its range: states, timers, counts, the actor's first each time.
+    fn read(octets: &[u8]) -> Option<Churn> {
+        let mut reader = Reader(octets);
+        let states = [reader.churn_state()?, reader.churn_state()?];
+        let timers = [reader.churn_timer()?, reader.churn_timer()?];
+        let counts = [reader.count()?, reader.count()?];
+        let [actor, partner] = [0, 1].map(|at| Monitor { state: states[at], timer: timers[at], count: counts[at] });
+        Some(Churn { actor, partner })
+    }
+
+    fn write(&self, to: &mut Vec<u8>) {
+        let both = [self.actor, self.partner];
+        to.extend(both.map(|monitor| monitor.state as u8));
+        both.iter().for_each(|monitor| to.extend(monitor.timer.to_be_bytes()));
+        both.iter().for_each(|monitor| to.extend(monitor.count.to_be_bytes()));
     }
 }
 
@@ -246,7 +280,7 @@ pub fn size(ports: u32) -> Option<usize> {
 impl Table {
     /// The table in this memory; none is answer 1.
     pub fn read(memory: &[u8]) -> Option<Table> {
-        let (header, mut rest) = memory.split_first_chunk::<HEADER>()?;
+        let (header, rest) = memory.split_first_chunk::<HEADER>()?;
         let mut reader = Reader(header);
         let count = reader.octet()?;
         if memory.len() != size(u32::from(count))? {
@@ -258,9 +292,9 @@ impl Table {
             collector_max_delay: reader.number()?,
             ports: Vec::with_capacity(usize::from(count)),
         };
-        while let Some((record, after)) = rest.split_first_chunk::<RECORD>() {
-            table.ports.push(Port::read(record, count)?);
-            rest = after;
+        let (records, groups) = rest.split_at_checked(BASE * usize::from(count))?;
+        for (base, churn) in records.chunks_exact(BASE).zip(groups.chunks_exact(CHURN)) {
+            table.ports.push(Port::read(base, churn, count)?);
         }
         Some(table)
     }
@@ -274,6 +308,9 @@ impl Table {
         octets.extend(self.collector_max_delay.to_be_bytes());
         for port in &self.ports {
             port.write(&mut octets);
+        }
+        for port in &self.ports {
+            port.churn.write(&mut octets);
         }
         memory.copy_from_slice(&octets);
     }
@@ -308,6 +345,21 @@ impl Reader<'_> {
 
     fn number(&mut self) -> Option<u16> {
         self.octets().map(u16::from_be_bytes)
+    }
+
+    fn count(&mut self) -> Option<u32> {
+        self.octets().map(u32::from_be_bytes)
+    }
+
+    fn churn_state(&mut self) -> Option<ChurnState> {
+        let code = self.octet()?;
+        let code = if breakage::is(Breakage::ChurnStateOf3Accepted) && code == 3 { 2 } else { code };
+        ChurnState::IN_MEMORY.get(usize::from(code)).copied()
+    }
+
+    fn churn_timer(&mut self) -> Option<u16> {
+        let beyond = u16::from(breakage::is(Breakage::ChurnTimerOf601Accepted));
+        self.number().filter(|ticks| *ticks <= CHURN_DETECTION_TIME + beyond)
     }
 
     fn flag(&mut self) -> Option<bool> {

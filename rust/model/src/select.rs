@@ -1,4 +1,5 @@
-//! The selection rule (43.4.14 and document 01), Ready (43.4.8), and steps 3 to 6 of the order of work.
+//! The selection rule (43.4.14 and document 01), Ready (43.4.8), and steps 3 to 6 of the order of work with the Churn Detection
+//! machines behind them.
 
 use crate::breakage::{self, Breakage};
 use crate::record::{Mux, Periodic, Port, Table};
@@ -27,8 +28,25 @@ impl Table {
         (0..self.ports.len()).map(|own| lowest(own) as u8 + 1).collect()
     }
 
-    /// Steps 3 to 6.
+    /// Steps 3 to 6, and then the Churn Detection machines of all ports.
     pub fn settle(&mut self) {
+        if breakage::is(Breakage::MonitorsBeforeStepThree) {
+            self.watch();
+            self.steps_three_to_six();
+        } else {
+            self.steps_three_to_six();
+            if !breakage::is(Breakage::MonitorsRunAtTicksAlone) {
+                self.watch();
+            }
+        }
+    }
+
+    /// The Churn Detection machines of all ports.
+    pub fn watch(&mut self) {
+        self.ports.iter_mut().for_each(Port::churn_machines);
+    }
+
+    fn steps_three_to_six(&mut self) {
         let rule = self.rule();
         self.detach(&rule);
         self.take(&rule);

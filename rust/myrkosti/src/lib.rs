@@ -48,6 +48,7 @@
 //! [`raw`] has the calls as in `include/myrkosti.h`, with numbers and lent octets, and a way to perform many at once.
 
 mod answer;
+mod churn;
 pub mod raw;
 mod record;
 mod table;
@@ -55,15 +56,18 @@ mod table;
 pub use answer::{Answer, Refusal};
 #[doc(inline)]
 pub use calls::BLOCK;
+pub use churn::{Churn, ChurnMonitor, ChurnSince, ChurnState};
 pub use record::{Block, MuxState, PeriodicState, PortState, ReceiveState, Record, Settings, SystemId};
 pub use table::{AggregatorReport, PortSet, Received, Table, TableRef};
 
 /// The version of the library's interface that this crate was written for.
-pub const VERSION: u32 = 0x0100;
+pub const VERSION: u32 = 0x0101;
 /// The most ports that a table has.
 pub const PORTS: u32 = 32;
 /// Octets of a port's record.
-pub const RECORD: usize = 57;
+pub const RECORD: usize = 71;
+/// Ticks for which a link is watched before it is said to churn (Churn_Detection_Time, 43.4.4).
+pub const CHURN_DETECTION_TIME: u16 = 600;
 /// Octets of every frame that the library writes, without FCS; an outgoing buffer has at least as many.
 pub const FRAME: usize = 124;
 

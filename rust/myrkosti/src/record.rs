@@ -1,5 +1,6 @@
 //! Settings, information blocks, and a port's record, decoded.
 
+use crate::churn::Churn;
 use crate::{BLOCK, RECORD};
 use std::fmt;
 
@@ -222,6 +223,8 @@ pub struct Record {
     pub settings: Settings,
     /// Partner information in force.
     pub partner: Block,
+    /// Whether the link has settled at either end. It prints in words.
+    pub churn: Churn,
 }
 
 impl Record {
@@ -254,6 +257,7 @@ impl Record {
                 default_partner: Block::from_octets(&fields.octets()?),
             },
             partner: Block::from_octets(&fields.octets()?),
+            churn: Churn::from_octets(&fields.octets()?)?,
         })
     }
 }
@@ -316,12 +320,14 @@ impl Fields<'_> {
 #[cfg(test)]
 mod tests {
     use super::*;
+    use crate::churn::{ChurnMonitor, ChurnState};
 
     #[test]
     fn a_record_of_any_octets() {
         let mut octets: [u8; RECORD] = std::array::from_fn(|at| at as u8);
         octets[..9].copy_from_slice(&[5, 2, 4, 1, 7, 0, 1, 1, 0x3D]);
         octets[15] = 255;
+        octets[57..59].copy_from_slice(&[1, 2]);
         let record = Record::from_octets(&octets).unwrap();
         assert_eq!((record.receive, record.mux), (ReceiveState::Current, MuxState::Distributing));
         assert_eq!((record.current_while, record.periodic_timer, record.wait_while), (0x090A, 0x0B0C, 13));
@@ -329,7 +335,15 @@ mod tests {
         assert_eq!((record.settings.key, record.settings.port_priority), (0x1718, 0x191A));
         assert_eq!(record.settings.address, [17, 18, 19, 20, 21, 22]);
         assert_eq!(record.settings.default_partner.to_octets(), octets[27..42]);
-        assert_eq!(record.partner.to_octets(), octets[42..]);
+        assert_eq!(record.partner.to_octets(), octets[42..57]);
+        assert_eq!(
+            record.churn.actor,
+            ChurnMonitor { state: ChurnState::Monitor, ticks_left: 0x3B3C, count: 0x3F40_4142 }
+        );
+        assert_eq!(
+            record.churn.partner,
+            ChurnMonitor { state: ChurnState::Churn, ticks_left: 0x3D3E, count: 0x4344_4546 }
+        );
         assert!(record.settings.activity && !record.settings.short_timeout && record.settings.aggregation);
         for at in 0..RECORD {
             for octet in 0..=255 {

@@ -21,7 +21,7 @@ pub struct Table<M = Box<[u8]>> {
 /// # fn main() -> Result<(), Refusal> {
 /// # let settings = Settings { address: [0; 6], key: 1, port_priority: 1, activity: true, short_timeout: true,
 /// #     aggregation: true, default_partner: Block::default() };
-/// let mut memory = [0; 68]; // Table::size(1)
+/// let mut memory = [0; 82]; // Table::size(1)
 /// TableRef::start_in(&mut memory[..], 1, SystemId::default(), 0, &settings)?;
 /// let mut table = Table::from_memory(&mut memory[..]);
 /// table.line(1, true, true)?;

@@ -1,8 +1,8 @@
 //! Every method of a table, with its refusals, and the version.
 
 use myrkosti::{
-    raw, version, Block, MuxState, PortState, ReceiveState, Received, Refusal, Settings, SystemId, Table, TableRef,
-    FRAME, RECORD, VERSION,
+    raw, version, Block, Churn, ChurnMonitor, ChurnState, MuxState, PortState, ReceiveState, Received, Refusal,
+    Settings, SystemId, Table, TableRef, FRAME, RECORD, VERSION,
 };
 
 const OURS: SystemId = SystemId { priority: 1, address: [0, 0, 0, 0, 0, 9] };
@@ -50,7 +50,7 @@ fn actor(table: &Table, port: u32) -> Block {
 
 #[test]
 fn the_version_is_the_one_written_for() {
-    assert_eq!((version(), VERSION), (Ok(0x0100), 0x0100));
+    assert_eq!((version(), VERSION), (Ok(0x0101), 0x0101));
 }
 
 #[test]
@@ -130,6 +130,52 @@ fn one_call_carries_link_and_duplex() {
     assert_eq!((record.mux, record.partner.system), (MuxState::Attached, THEIRS));
 }
 
+fn monitor(state: ChurnState, ticks_left: u16, count: u32) -> ChurnMonitor {
+    ChurnMonitor { state, ticks_left, count }
+}
+
+#[test]
+fn a_link_that_never_settles_churns() {
+    let mut table = Table::start(2, OURS, 0, &settings()).unwrap();
+    let ticks = |table: &mut Table, count| (0..count).for_each(|_| table.tick().unwrap());
+    let held = monitor(ChurnState::Monitor, 600, 0);
+    ticks(&mut table, 50);
+    assert_eq!(table.port(2).unwrap().churn, Churn { actor: held, partner: held });
+    table.line(2, true, true).unwrap();
+    let settled = monitor(ChurnState::NoChurn, 0, 0);
+    assert_eq!(table.port(2).unwrap().churn, Churn { actor: settled, partner: held });
+    ticks(&mut table, 599);
+    let churn = table.port(2).unwrap().churn;
+    assert_eq!(churn, Churn { actor: settled, partner: monitor(ChurnState::Monitor, 1, 0) });
+    assert_eq!((churn.churns(), churn.to_string()), (false, "this end settled; far end watched, 1 tick left".into()));
+    ticks(&mut table, 1);
+    let churn = table.port(2).unwrap().churn;
+    assert_eq!(churn, Churn { actor: settled, partner: monitor(ChurnState::Churn, 0, 1) });
+    let words = "this end settled; far end churning, out of sync for 600 ticks or more, churned once";
+    assert_eq!((churn.churns(), churn.to_string()), (true, words.into()));
+    assert_eq!(table.port(1).unwrap().churn, Churn { actor: held, partner: held });
+
+    let mut fallen = table.clone();
+    fallen.line(2, false, true).unwrap();
+    ticks(&mut fallen, 3);
+    let again = monitor(ChurnState::Monitor, 600, 1);
+    assert_eq!(fallen.port(2).unwrap().churn, Churn { actor: held, partner: again });
+
+    let frame = lacpdu(2, &actor(&table, 2));
+    table.receive(2, &frame, &mut [0; FRAME]).unwrap();
+    assert_eq!(table.port(2).unwrap().churn.partner, monitor(ChurnState::NoChurn, 0, 1));
+    assert_eq!(table.port(2).unwrap().churn.partner.to_string(), "settled, churned once");
+}
+
+#[test]
+fn a_table_without_monitors_is_no_table() {
+    let table = Table::start(3, OURS, 0, &settings()).unwrap().into_memory();
+    assert_eq!((Table::size(3), table.len()), (Some(11 + 71 * 3), 11 + 71 * 3));
+    assert!(Table::from_memory(table.clone()).port(3).is_ok());
+    let shorter = Table::from_memory(table[..11 + 57 * 3].to_vec());
+    assert_eq!(shorter.port(3), Err(Refusal::TableWrong));
+}
+
 /// The ports that [`Table::due`] gives, which must be those on which a fetch, tried on a copy, is not refused.
 fn due(table: &Table) -> Vec<u32> {
     let due = table.due().unwrap();
@@ -199,12 +245,12 @@ fn refusals() {
 
 #[test]
 fn any_memory() {
-    for length in [0, 1, 10, 11, 12, 67, 68, 69, 1835, 1836, 32_768, 300_000] {
+    for length in [0, 1, 10, 11, 12, 68, 81, 82, 83, 1835, 2283, 2284, 32_768, 300_000] {
         for octet in [0, 1, 255] {
             let mut memory = vec![octet; length];
             let mut table: TableRef<'_> = Table::from_memory(&mut memory[..]);
             let mut out = [0; FRAME];
-            let all_ones = length == 68 && octet == 1;
+            let all_ones = length == 82 && octet == 1;
             let wrong = |result: Result<(), Refusal>| {
                 assert!(all_ones || result == Err(Refusal::TableWrong), "{length} of {octet}: {result:?}");
             };
@@ -223,15 +269,21 @@ fn any_memory() {
 
 #[test]
 fn lent_memory() {
-    let mut memory = [0xA5; 68];
+    let mut memory = [0xA5; 82];
     assert_eq!(Table::size(1), Some(memory.len()));
     let mut table = TableRef::start_in(&mut memory[..], 1, OURS, 0, &settings()).unwrap();
     table.lend().line(1, true, true).unwrap();
     assert!(table.port(1).unwrap().link_up);
     let memory = table.into_memory();
-    assert_eq!(memory.len(), 68);
+    assert_eq!(memory.len(), 82);
     let again = Table::from_memory(memory);
     assert!(again.port(1).unwrap().link_up);
+}
+
+/// The record of a port from its two places in the table.
+fn octets(table: &[u8], port: usize) -> Vec<u8> {
+    let churn = &table[11 + 57 * usize::from(table[0])..];
+    [&table[11 + 57 * (port - 1)..][..57], &churn[14 * (port - 1)..][..14]].concat()
 }
 
 #[test]
@@ -239,10 +291,10 @@ fn a_record_goes_as_far_as_it_fits() {
     let mut table = Table::start(2, OURS, 0, &settings()).unwrap();
     table.line(2, true, true).unwrap();
     let table = table.as_octets();
-    let whole = &table[table.len() - RECORD..];
-    let zeros = &[0; RECORD][..];
-    for lent in 0..=80 {
-        for (table, port, answer, record) in [(table, 2, 0, whole), (table, 3, 2, zeros), (&table[1..], 2, 1, zeros)] {
+    let (whole, zeros) = (octets(table, 2), vec![0; RECORD]);
+    for lent in 0..=90 {
+        for (table, port, answer, record) in [(table, 2, 0, &whole), (table, 3, 2, &zeros), (&table[1..], 2, 1, &zeros)]
+        {
             let mut memory = [0xEE; 160];
             assert_eq!(raw::report(raw::Report::Port { port }, table, &mut memory[..lent]).answer, answer);
             let (written, kept) = memory.split_at(lent.min(RECORD));
@@ -264,7 +316,7 @@ fn long_areas() {
     assert_eq!(table.receive(1, &frame, &mut out), Ok(Received::Lacpdu));
     let report = raw::Report::Port { port: 1 };
     assert_eq!(raw::report(report, table.as_octets(), &mut out).answer, 0);
-    assert_eq!(out[..RECORD], table.as_octets()[table.as_octets().len() - RECORD..]);
+    assert_eq!(out[..RECORD], octets(table.as_octets(), 1));
     assert!(out[FRAME..].iter().all(|octet| *octet == 0xFF));
 }
 

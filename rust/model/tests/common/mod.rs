@@ -90,6 +90,12 @@ impl Bench {
         (outcome.answer, record)
     }
 
+    /// The record of a port as it stands in memory, in its two places.
+    pub fn octets(&self, n: usize) -> Vec<u8> {
+        let churn = &self.memory[11 + 57 * usize::from(self.memory[0])..];
+        [&self.memory[11 + 57 * (n - 1)..][..57], &churn[14 * (n - 1)..][..14]].concat()
+    }
+
     pub fn table(&self) -> Table {
         Table::read(&self.memory).expect("in range")
     }
