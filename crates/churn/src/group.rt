@@ -4,6 +4,7 @@ ghost use Prim.Native.Nat.{_+_, _≤_};
 ghost use lib.ListN.{length};
 ghost use Rattle.octets.specs.Octets.{putAt};
 ghost use Rattle.churn.specs.Group.{groupSize, churnCode, churnOf, longOctets, longAt, groupOctets, groupOf, groupInRange};
+ghost use Rattle.churn.specs.Rest.{isCalm, isFresh};
 use crate::watch::CHURN_DETECTION_TIME;
 use crate::watch::Churn;
 use crate::watch::Monitors;
@@ -12,6 +13,10 @@ use machine::states::Ticks;
 
 // The octets of a group.
 pub const GROUP: usize = 14;
+// Octets 0 to 3, and 2 to 5, of two machines in MONITOR with all of Churn_Detection_Time ahead, the first of four octets the lowest.
+const FRESH: u64 = 0x58020101;
+
+const FRESH_TIMERS: u64 = 0x58025802;
 
 fn churn_code(s: Churn) -> u8
     ensures { λ r. ⌜ r ≡ churnCode s ⌝ }
@@ -90,8 +95,24 @@ pub fn write(m: Monitors, out: &mut [u8])
     put_long(out, 10, partner.count);
 }
 
-// Whether a group's octets are in range.
-pub fn is_group(s: &[u8]) -> bool
+// Whether both machines are in NO_CHURN without a timer.
+pub(crate) fn is_calm(s: &[u8]) -> bool
+    requires { ⌜ length (now s) ≡ groupSize ⌝ }
+    ensures { λ r. ⌜ r ≡ isCalm (now (s .entry)) ⌝ }
+{
+    (octets::word(s, 0) == 0) & (octets::word(s, 2) == 0)
+}
+
+// Whether both machines are in MONITOR with all of their time ahead.
+pub(crate) fn is_fresh(s: &[u8]) -> bool
+    requires { ⌜ length (now s) ≡ groupSize ⌝ }
+    ensures { λ r. ⌜ r ≡ isFresh (now (s .entry)) ⌝ }
+{
+    (octets::word(s, 0) == FRESH) & (octets::word(s, 2) == FRESH_TIMERS)
+}
+
+// Whether states and timers are in range, one by one.
+fn has_ranges(s: &[u8]) -> bool
     requires { ⌜ length (now s) ≡ groupSize ⌝ }
     ensures { λ r. ⌜ r ≡ groupInRange (now (s .entry)) ⌝ }
 {
@@ -99,4 +120,15 @@ pub fn is_group(s: &[u8]) -> bool
         & ((s[1] <= 2)
             & ((octets::number(s, 2) <= CHURN_DETECTION_TIME)
                 & (octets::number(s, 4) <= CHURN_DETECTION_TIME)))
+}
+
+// Whether a group's octets are in range; those of most ports are 0.
+pub fn is_group(s: &[u8]) -> bool
+    requires { ⌜ length (now s) ≡ groupSize ⌝ }
+    ensures { λ r. ⌜ r ≡ groupInRange (now (s .entry)) ⌝ }
+{
+    if is_calm(s) {
+        return true;
+    }
+    has_ranges(s)
 }

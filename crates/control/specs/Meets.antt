@@ -1,4 +1,4 @@
--- What a call promises: its answer, and every octet that it leaves. The contracts of the calls and of the C functions say no more and no less.
+-- What a call promises: its answer, and every octet that it leaves. The contracts of the calls say no more and no less.
 use Prim.Native.Nat.{ℕ}
 use mathlib.Core.Path.{_≡_}
 use mathlib.Core.List.{List}
@@ -9,10 +9,10 @@ use Rattle.table.specs.Record.{encoded}
 use Rattle.table.specs.Table.{portAt, stateOf, onOctets}
 use Rattle.work.specs.Work.{afterSend, lacpduOf, writtenOver}
 use Rattle.control.specs.declared.answer.Answer.{Answer}
-use Rattle.control.specs.Answer.{answerNumber, lengthSent, withRoom, frameAnswer, dueAnswer}
+use Rattle.control.specs.Answer.{withRoom, frameAnswer, dueAnswer}
 use Rattle.control.specs.Call.{Call, report}
 use Rattle.control.specs.After.{answer, after, outgoing, unless, afterFrame, sentFor}
-use Rattle.control.specs.Report.{portReport, aggregatorReport, dueReport}
+use Rattle.control.specs.Report.{portReport}
 
 -- of a call on table t: the answer a, and the table u afterwards
 abbrev pub Meets : Call → List ℕ → Answer → List ℕ → Type 0
@@ -37,33 +37,3 @@ MeetsReceive t i frame out a u o =
 abbrev pub MeetsFetch : List ℕ → ℕ → List ℕ → Answer → List ℕ → List ℕ → Type 0
 MeetsFetch t i out a u o =
     (a ≡ withRoom out (dueAnswer (due (portAt t i)))) × (u ≡ unless a t (onOctets (afterSend i) t)) × (o ≡ unless a out (writtenOver (lacpduOf (stateOf t) i) out))
-
--- ---- a C function: the answer's number n
-
-abbrev pub MeetsNumber : Call → List ℕ → ℕ → List ℕ → Type 0
-MeetsNumber c t n u = (n ≡ answerNumber (answer c t)) × (u ≡ after c t)
-
-abbrev pub MeetsNumberOut : Call → List ℕ → ℕ → List ℕ → List ℕ → Type 0
-MeetsNumberOut c t n u o = (n ≡ answerNumber (answer c t)) × (u ≡ after c t) × (o ≡ outgoing c t)
-
--- and for a received frame the length k that was sent
-abbrev pub MeetsFrame : Call → List ℕ → ℕ → List ℕ → List ℕ → ℕ → Type 0
-MeetsFrame c t n u o k = (n ≡ answerNumber (answer c t)) × (u ≡ after c t) × (o ≡ outgoing c t) × (k ≡ lengthSent (answer c t))
-
--- the report of a port
-abbrev pub MeetsRecord : ℕ → List ℕ → List ℕ → ℕ → List ℕ → Type 0
-MeetsRecord port t m n r = (n ≡ answerNumber (answer (report port) t)) × (r ≡ fitted (encoded (portReport port t)) m)
-
--- the report of an aggregator: the sets of those that hold it, are attached and distribute, how many distribute and the lowest that does
-abbrev pub MeetsAggregator : ℕ → List ℕ → ℕ → ℕ → ℕ → ℕ → ℕ → ℕ → Type 0
-MeetsAggregator k t n holding attached distributing count lowest =
-    (n ≡ answerNumber (aggregatorReport k t .answer))
-    × (holding ≡ aggregatorReport k t .sets .holding)
-    × (attached ≡ aggregatorReport k t .sets .attached)
-    × (distributing ≡ aggregatorReport k t .sets .distributing)
-    × (count ≡ aggregatorReport k t .sets .count)
-    × (lowest ≡ aggregatorReport k t .sets .lowest)
-
--- which ports have something to send: their set
-abbrev pub MeetsDue : List ℕ → ℕ → ℕ → Type 0
-MeetsDue t n ports = (n ≡ answerNumber (dueReport t .answer)) × (ports ≡ dueReport t .ports)

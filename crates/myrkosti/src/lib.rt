@@ -1,8 +1,8 @@
-// The C interface (include/myrkosti.h): each call of `control` with numbers and lent octets. A call answers its number (R2).
+// The C interface (include/myrkosti.h): each call of `whole` with numbers and lent octets. A call answers its number (R2).
 ghost use mathlib.Core.Path.{_≡_};
-ghost use Rattle.table.specs.Layout.{publishedSize};
 ghost use Rattle.control.specs.Call.{start as Call·start, receive as Call·receive, tick as Call·tick, line as Call·line, configure as Call·configure, fetch as Call·fetch};
-ghost use Rattle.control.specs.Meets.{MeetsNumber, MeetsNumberOut, MeetsFrame, MeetsRecord, MeetsAggregator, MeetsDue};
+ghost use Rattle.whole.specs.Meets.{MeetsNumber, MeetsNumberOut, MeetsFrame, MeetsRecord, MeetsAggregator, MeetsDue};
+ghost use Rattle.whole.specs.Report.{wholePublished};
 ghost use Rattle.myrkosti.specs.Arguments.{settingsOf, systemOf, delayOf};
 ghost use Rattle.myrkosti.specs.Version.{interfaceVersion};
 use frame::block::Address;
@@ -16,15 +16,15 @@ use settings::Settings;
 pub extern "C" fn myrkosti_version() -> u32
     ensures { λ r. ⌜ r ≡ interfaceVersion ⌝ }
 {
-    0x0100
+    0x0101
 }
 
 // The octets that a table of `ports` ports has; 0 for a count outside 1 to 32.
 #[no_mangle]
 pub extern "C" fn myrkosti_table_size(ports: u32) -> u32
-    ensures { λ r. ⌜ r ≡ publishedSize ports ⌝ }
+    ensures { λ r. ⌜ r ≡ wholePublished ports ⌝ }
 {
-    table::layout::table_size(ports)
+    whole::table_size(ports)
 }
 
 // A tenth of a second has passed.
@@ -32,7 +32,7 @@ pub extern "C" fn myrkosti_table_size(ports: u32) -> u32
 pub extern "C" fn myrkosti_tick(table: &mut [u8]) -> u32
     ensures { λ r. ⌜ MeetsNumber Call·tick (now (table .entry)) r (now (table .exit)) ⌝ }
 {
-    let a = control::tick(table);
+    let a = whole::tick(table);
     a.number() as u32
 }
 
@@ -41,7 +41,7 @@ pub extern "C" fn myrkosti_tick(table: &mut [u8]) -> u32
 pub extern "C" fn myrkosti_line(table: &mut [u8], port: u32, up: bool, full: bool) -> u32
     ensures { λ r. ⌜ MeetsNumber (Call·line port (record { up = up; full = full })) (now (table .entry)) r (now (table .exit)) ⌝ }
 {
-    let a = control::line(table, port, up, full);
+    let a = whole::line(table, port, up, full);
     a.number() as u32
 }
 
@@ -50,7 +50,7 @@ pub extern "C" fn myrkosti_line(table: &mut [u8], port: u32, up: bool, full: boo
 pub extern "C" fn myrkosti_fetch(table: &mut [u8], port: u32, out: &mut [u8]) -> u32
     ensures { λ r. ⌜ MeetsNumberOut (Call·fetch port (now (out .entry))) (now (table .entry)) r (now (table .exit)) (now (out .exit)) ⌝ }
 {
-    let a = control::fetch(table, port, out);
+    let a = whole::fetch(table, port, out);
     a.number() as u32
 }
 
@@ -65,7 +65,7 @@ pub extern "C" fn myrkosti_receive(
 ) -> u32
     ensures { λ r. ⌜ MeetsFrame (Call·receive port (now (frame .entry)) (now (out .entry))) (now (table .entry)) r (now (table .exit)) (now (out .exit)) (now (sent .exit)) ⌝ }
 {
-    let a = control::receive(table, port, frame, out);
+    let a = whole::receive(table, port, frame, out);
     *sent = a.length_sent() as u32;
     a.number() as u32
 }
@@ -122,7 +122,7 @@ pub extern "C" fn myrkosti_settings(
         aggregation,
         partner,
     );
-    let a = control::configure(table, port, s);
+    let a = whole::configure(table, port, s);
     a.number() as u32
 }
 
@@ -131,7 +131,7 @@ pub extern "C" fn myrkosti_settings(
 pub extern "C" fn myrkosti_port(table: &[u8], port: u32, record: &mut [u8]) -> u32
     ensures { λ r. ⌜ MeetsRecord port (now (table .entry)) (now («record» .entry)) r (now («record» .exit)) ⌝ }
 {
-    let a = control::report_port(table, port, record);
+    let a = whole::report_port(table, port, record);
     a.number() as u32
 }
 
@@ -148,7 +148,7 @@ pub extern "C" fn myrkosti_aggregator(
 ) -> u32
     ensures { λ r. ⌜ MeetsAggregator aggregator (now (table .entry)) r (now (holding .exit)) (now (attached .exit)) (now (distributing .exit)) (now (count .exit)) (now (lowest .exit)) ⌝ }
 {
-    let r = control::report_aggregator(table, aggregator);
+    let r = whole::report_aggregator(table, aggregator);
     *holding = r.sets.holding;
     *attached = r.sets.attached;
     *distributing = r.sets.distributing;
@@ -163,7 +163,7 @@ pub extern "C" fn myrkosti_aggregator(
 pub extern "C" fn myrkosti_due(table: &[u8], ports: &mut u32) -> u32
     ensures { λ r. ⌜ MeetsDue (now (table .entry)) r (now (ports .exit)) ⌝ }
 {
-    let r = control::report_due(table);
+    let r = whole::report_due(table);
     *ports = r.ports;
     let a = r.answer;
     a.number() as u32
@@ -205,6 +205,6 @@ pub extern "C" fn myrkosti_start(
         aggregation,
         partner,
     );
-    let a = control::start(table, ports, id, TensOfMicroseconds(collector_max_delay), s);
+    let a = whole::start(table, ports, id, TensOfMicroseconds(collector_max_delay), s);
     a.number() as u32
 }

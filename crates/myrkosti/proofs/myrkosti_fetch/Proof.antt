@@ -1,4 +1,4 @@
--- `myrkosti_fetch` meets its contract: `control::fetch`, and its answer's number. Assumes nothing.
+-- `myrkosti_fetch` meets its contract: `whole::fetch`, and its answer's number. Assumes nothing.
 use mathlib.Core.Path.{ap, _∙_}
 use Rattle.control.specs.Answer.{answerNumber}
 use borrow.Author.Needs.{needs}

@@ -1,4 +1,4 @@
--- `myrkosti_receive` meets its contract: `control::receive`, its answer's number and the length sent. Assumes nothing.
+-- `myrkosti_receive` meets its contract: `whole::receive`, its answer's number and the length sent. Assumes nothing.
 use mathlib.Core.Path.{ap, _∙_}
 use Rattle.control.specs.Answer.{answerNumber, lengthSent}
 use borrow.Author.Needs.{needs}
