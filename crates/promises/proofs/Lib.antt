@@ -2,3 +2,4 @@ pub mod Typed
 pub mod Whole
 pub mod Churn
 pub mod Demands
+pub mod Witness

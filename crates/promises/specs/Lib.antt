@@ -1,3 +1,4 @@
 pub mod Whole
 pub mod Churn
 pub mod Demands
+pub mod Witness
