@@ -418,7 +418,6 @@ rooms-alike n count = by (eqb n count) refl
         let differ : n ≡ count → ⊥ = eqb-false n count e in
         neq (place n) (tableSize count) (λ x. differ (omega (arith, x))) ∙ sym (neq (wholeSize n) (wholeSize count) (λ x. differ (same-whole n count x)))
 
-
 start-alike : (w : List ℕ) → WholeSound w → (count : ℕ) → isRoom (baseOf w) count ≡ isWholeRoom w count
 start-alike w s count =
     let short = base-length w (whole-size w (s .ranged)) in
