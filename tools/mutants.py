@@ -417,6 +417,22 @@ MUTANTS = [
     Mutant("case the line changes", "a change on an up port that does not act as down, then up", ("from-up-full", "from-up-half"), "port::record::Port::set_line", (
         ("port/specs/Receive.antt", "down l = record { up = false; full = l .full }", "down l = record { up = l .up; full = l .full }"),
         ("port/src/receive.rt", "        self.line.up = false;", "        let old = self.line;\n        self.line.up = old.up;"))),
+    Mutant("case churn", "a link at half duplex disabled too", ("halved",), "", (
+        ("churn/specs/Churn.antt", "    monitors (watched (p .line .up) (p .actor .synchronization) (m .actor)) (watched (p .line .up) (p .partner .state .synchronization) (m .partner))",
+         "    let on = mathlib.Core.Bool.cond (p .line .up) (p .line .full) false in\n    monitors (watched on (p .actor .synchronization) (m .actor)) (watched on (p .partner .state .synchronization) (m .partner))"),)),
+    Mutant("case churn", "expiry before Synchronization", ("never-settles",), "", (
+        ("churn/specs/Churn.antt", "churnNext true Monitor true out = Enter NoChurn", "churnNext true Monitor true true = Enter Churn\nchurnNext true Monitor true false = Enter NoChurn"),)),
+    Mutant("case churn", "a link that falls forgets the count", ("never-settles",), "churn::watch::Watch::enter", (
+        ("churn/specs/Churn.antt", "churnEntered Monitor w = watch Monitor (ticks churnDetectionTime) (w .count)", "churnEntered Monitor w = watch Monitor (ticks churnDetectionTime) 0"),
+        ("churn/src/watch.rt", "            Churn::Monitor => Watch {\n                state: Churn::Monitor,\n                timer: Ticks(CHURN_DETECTION_TIME),\n                count,",
+         "            Churn::Monitor => Watch {\n                state: Churn::Monitor,\n                timer: Ticks(CHURN_DETECTION_TIME),\n                count: 0,"))),
+    Mutant("case churn", "a Churn_Detection_Time of 599 ticks", ("begun", "never-settles"), "churn::watch::Watch::enter", (
+        ("churn/specs/Churn.antt", "churnDetectionTime = 600", "churnDetectionTime = 599"),
+        ("churn/src/watch.rt", "CHURN_DETECTION_TIME: u16 = 600", "CHURN_DETECTION_TIME: u16 = 599"))),
+    Mutant("case churn", "a tick that leaves the monitors' timers", ("never-settles",), "", (
+        ("churn/specs/Whole.antt", "prepared Tick m = monitorsFallen m", "prepared Tick m = m"),)),
+    Mutant("case churn", "a partner's monitor that watches the actor", ("never-settles",), "", (
+        ("churn/specs/Churn.antt", "(watched (p .line .up) (p .partner .state .synchronization) (m .partner))", "(watched (p .line .up) (p .actor .synchronization) (m .partner))"),)),
     Mutant("case 123, 124, 125", "124 octets refused", ("octets-124",), "frame::class::is_illegal", (
         ("frame/specs/Class.antt", "short l = ltb (length l) frameSize", "short l = ltb (length l) 125"),
         ("frame/src/class.rt", "    if s.len() < FRAME {", "    if s.len() < 125 {"))),
