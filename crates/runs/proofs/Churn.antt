@@ -24,11 +24,10 @@ use Rattle.churn.specs.Churn.{churnChoice, watched, watching, monitorsFallen}
 use Rattle.churn.specs.Group.{groupOctets, groupOf, groupInRange}
 use Rattle.churn.specs.Whole.{baseOf, groupAt, monitorsAt, groupsTo, withMonitors, groupsInRange, hasMonitors, watchedAt, watchedAll}
 use Rattle.whole.specs.Calls.{wholeAnswer, wholeAfter}
-use Rattle.promises.specs.Whole.{wholeRun}
 use Rattle.runs.specs.Churn.{ChurnCases, ticks, taleTo, started, alone}
 
 pub churn-cases : ChurnCases
-unfolding sameAddress sameSystem sameNumbers sameParty sameView maintained inSync sameState sameBlock recordDefault recordPdu updateSelected updateDefaultSelected updateNtt initialized portDisabled expired lacpDisabled defaulted pduRecorded current moved received receiveChoice receiveStep receiveRun lined periodicChoice periodicStep periodicRun due sent Transmit·silent nttCleared ticked muxChoice muxStep detached placed attachedIf muxRun lawful blank Settings·started configured sameSettings sameGrouping regrouped advanced individual sameKeys sameGroup joins firstFrom lowest ruleOf waitsFor hasWaiting holdsBack heldBack ready mapFrom mustMove reselected selectedAll attachedAll muxed Settled·settled isDisplaced displacedIf displaced sameOctets foreign unknown wrongLength wrongMarkerType illegal classOf codesInRange timersInRange agesInRange valuesInRange recordInRange encoded decoded recordAt decodedAt portIn portsFrom ports recordsOctets tableOctets firstInRange tableInRange worked afterOne afterStart receivedAt afterReceived afterTick afterLine afterSettings afterSend answer effect after churnChoice watched watching monitorsFallen groupOctets groupOf groupInRange baseOf groupAt monitorsAt groupsTo withMonitors groupsInRange hasMonitors watchedAt watchedAll wholeAnswer wholeAfter wholeRun ticks taleTo started alone
+unfolding sameAddress sameSystem sameNumbers sameParty sameView maintained inSync sameState sameBlock recordDefault recordPdu updateSelected updateDefaultSelected updateNtt initialized portDisabled expired lacpDisabled defaulted pduRecorded current moved received receiveChoice receiveStep receiveRun lined periodicChoice periodicStep periodicRun due sent Transmit·silent nttCleared ticked muxChoice muxStep detached placed attachedIf muxRun lawful blank Settings·started configured sameSettings sameGrouping regrouped advanced individual sameKeys sameGroup joins firstFrom lowest ruleOf waitsFor hasWaiting holdsBack heldBack ready mapFrom mustMove reselected selectedAll attachedAll muxed Settled·settled isDisplaced displacedIf displaced sameOctets foreign unknown wrongLength wrongMarkerType illegal classOf codesInRange timersInRange agesInRange valuesInRange recordInRange encoded decoded recordAt decodedAt portIn portsFrom ports recordsOctets tableOctets firstInRange tableInRange worked afterOne afterStart receivedAt afterReceived afterTick afterLine afterSettings afterSend answer effect after churnChoice watched watching monitorsFallen groupOctets groupOf groupInRange baseOf groupAt monitorsAt groupsTo withMonitors groupsInRange hasMonitors watchedAt watchedAll wholeAnswer wholeAfter ticks taleTo started alone
 churn-cases = record {
   begun = refl;
   never-settles = refl;

@@ -13,7 +13,6 @@ use Rattle.churn.specs.Whole.{wholeSize, monitorsAt}
 use Rattle.control.specs.Call.{Call, start, receive, tick, line, configure}
 use Rattle.whole.specs.Calls.{wholeAfter}
 use Rattle.claims.specs.Speakers.{system, noDelay, settings, upFull, upHalf, downFull, frame}
-use Rattle.promises.specs.Whole.{wholeRun}
 
 -- n ticks
 unfoldable pub ticks : ℕ → List ℕ → List ℕ
@@ -55,7 +54,7 @@ hears o = receive 1 (frame 5 1 o 1 0x05) (zeros 124)
 
 -- one that is not in sync: at once after the link came up
 unfoldable pub alone : List ℕ
-alone = wholeRun started (line 1 upFull ∷ hears 0x05 ∷ [])
+alone = wholeAfter (hears 0x05) (wholeAfter (line 1 upFull) started)
 
 -- what may happen 540 ticks later. Port 1 takes to a short timeout and hears the partner for the last time: EXPIRED 30 ticks after that, and 60 ticks after it
 -- DEFAULTED, with a partner that is in sync
