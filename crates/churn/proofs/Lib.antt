@@ -1,3 +1,4 @@
 pub mod WholeLaws
+pub mod RestLaws
 pub mod ChurnLaws
 pub mod MadeLaws

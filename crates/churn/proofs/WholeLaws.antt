@@ -131,6 +131,11 @@ module _ (w : List ℕ) (size : length w ≡ wholeSize (countIn w)) where
   unfolding watchedAt monitorsAt
   done-watched s f i = λ j. watching (portAt (done-base f i j) i) (prepared s (groupOf (done-group f i i (omega arith) j)))
 
+-- the record of port i is the one that octets of the front tell of
+pub base-port : (t : List ℕ) (i : ℕ) → i < countIn t → portAt (baseOf t) i ≡ decoded (recordAt (take (place (countIn t)) t) i)
+unfolding baseOf decodedAt
+base-port t i h = port-decoded (take (place (countIn t)) t) i (rw (base-count t) h)
+
 -- the part of a table that is group i, written over by what its machines make of it
 pub watch-put : (s : Stage) (t : List ℕ) (i : ℕ) → i < countIn t
     → putMid (groupPlace (countIn t) i) (groupPlace (countIn t) i + groupSize - groupPlace (countIn t) i) t

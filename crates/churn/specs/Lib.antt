@@ -1,3 +1,4 @@
 pub mod Churn
 pub mod Group
 pub mod Whole
+pub mod Rest

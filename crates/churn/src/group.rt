@@ -4,6 +4,7 @@ ghost use Prim.Native.Nat.{_+_, _≤_};
 ghost use lib.ListN.{length};
 ghost use Rattle.octets.specs.Octets.{putAt};
 ghost use Rattle.churn.specs.Group.{groupSize, churnCode, churnOf, longOctets, longAt, groupOctets, groupOf, groupInRange};
+ghost use Rattle.churn.specs.Rest.{stayCode, isStill, isFresh};
 use crate::watch::CHURN_DETECTION_TIME;
 use crate::watch::Churn;
 use crate::watch::Monitors;
@@ -12,6 +13,10 @@ use machine::states::Ticks;
 
 // The octets of a group.
 pub const GROUP: usize = 14;
+// Octets 0 to 3, and 2 to 5, of two machines in MONITOR with all of Churn_Detection_Time ahead, the first of four octets the lowest.
+const FRESH: u64 = 0x58020101;
+
+const FRESH_TIMERS: u64 = 0x58025802;
 
 fn churn_code(s: Churn) -> u8
     ensures { λ r. ⌜ r ≡ churnCode s ⌝ }
@@ -90,8 +95,31 @@ pub fn write(m: Monitors, out: &mut [u8])
     put_long(out, 10, partner.count);
 }
 
-// Whether a group's octets are in range.
-pub fn is_group(s: &[u8]) -> bool
+// The number of the state in which a machine stays while the link is up, by Synchronization.
+fn stay_code(sync: bool) -> u64
+    ensures { λ r. ⌜ (r ≡ stayCode sync) × (r ≤ 2) ⌝ }
+{
+    if sync { 0 } else { 2 }
+}
+
+// Whether both machines stay there, by the two Synchronizations, and no timer runs.
+pub(crate) fn is_still(ours: bool, theirs: bool, s: &[u8]) -> bool
+    requires { ⌜ length (now s) ≡ groupSize ⌝ }
+    ensures { λ r. ⌜ r ≡ isStill ours theirs (now (s .entry)) ⌝ }
+{
+    (octets::word(s, 0) == stay_code(ours) + stay_code(theirs) * 256) & (octets::word(s, 2) == 0)
+}
+
+// Whether both machines are in MONITOR with all of their time ahead.
+pub(crate) fn is_fresh(s: &[u8]) -> bool
+    requires { ⌜ length (now s) ≡ groupSize ⌝ }
+    ensures { λ r. ⌜ r ≡ isFresh (now (s .entry)) ⌝ }
+{
+    (octets::word(s, 0) == FRESH) & (octets::word(s, 2) == FRESH_TIMERS)
+}
+
+// Whether states and timers are in range, one by one.
+fn has_ranges(s: &[u8]) -> bool
     requires { ⌜ length (now s) ≡ groupSize ⌝ }
     ensures { λ r. ⌜ r ≡ groupInRange (now (s .entry)) ⌝ }
 {
@@ -99,4 +127,15 @@ pub fn is_group(s: &[u8]) -> bool
         & ((s[1] <= 2)
             & ((octets::number(s, 2) <= CHURN_DETECTION_TIME)
                 & (octets::number(s, 4) <= CHURN_DETECTION_TIME)))
+}
+
+// Whether a group's octets are in range; in most, states and timers are 0.
+pub fn is_group(s: &[u8]) -> bool
+    requires { ⌜ length (now s) ≡ groupSize ⌝ }
+    ensures { λ r. ⌜ r ≡ groupInRange (now (s .entry)) ⌝ }
+{
+    if is_still(true, true, s) {
+        return true;
+    }
+    has_ranges(s)
 }

@@ -5,10 +5,11 @@ ghost use lib.ListN.{length};
 ghost use Rattle.octets.specs.Octets.{putAt};
 ghost use Rattle.table.specs.Layout.{recordSize};
 ghost use Rattle.table.specs.Record.{decoded};
-ghost use Rattle.table.specs.Table.{countIn};
+ghost use Rattle.table.specs.Table.{countIn, portAt};
 ghost use Rattle.churn.specs.Churn.{watching, bothBegun};
 ghost use Rattle.churn.specs.Group.{groupOf, groupSize, groupOctets};
-ghost use Rattle.churn.specs.Whole.{groupPlace, wholeSize, groupAt, groupsInRange, hasMonitors, prepared, watchedAt, watchedAll};
+ghost use Rattle.churn.specs.Rest.{begins, rests as Rest·rests};
+ghost use Rattle.churn.specs.Whole.{groupPlace, wholeSize, baseOf, groupAt, groupsInRange, hasMonitors, prepared, watchedAt, watchedAll};
 use crate::group::GROUP;
 use crate::watch::CHURN_DETECTION_TIME;
 use crate::watch::Churn;
@@ -25,6 +26,19 @@ pub enum Stage {
     Start,
     Tick,
     Other,
+}
+
+impl Stage {
+    // Whether the machines begin anew.
+    fn begins(self) -> bool
+        ensures { λ r. ⌜ r ≡ begins self ⌝ }
+    {
+        match self {
+            Stage::Start => true,
+            Stage::Tick => false,
+            Stage::Other => false,
+        }
+    }
 }
 
 fn begun() -> Watch
@@ -71,8 +85,8 @@ fn run_both(s: &[u8], m: Monitors) -> Monitors
     }
 }
 
-// The machines of port `i`, from 0.
-fn watch_one(table: &mut [u8], i: usize, stage: Stage)
+// A run of the machines of port `i`, from 0.
+fn run_one(table: &mut [u8], i: usize, stage: Stage)
     requires { ⌜ (length (now table) ≡ wholeSize (countIn (now table))) × (i < countIn (now table)) ⌝ }
     ensures { λ _. ⌜ now (table .exit) ≡ putAt (groupPlace (countIn (now (table .entry))) i) (groupOctets (watchedAt stage (now (table .entry)) i)) (now (table .entry)) ⌝ }
 {
@@ -81,6 +95,39 @@ fn watch_one(table: &mut [u8], i: usize, stage: Stage)
     let m = prepare(stage, &table[at..at + GROUP]);
     let r = run_both(table::record_at(&table[..base], i), m);
     group::write(r, &mut table[at..at + GROUP]);
+}
+
+// Whether the machines of a port whose record is s give its group g back, unless they begin anew.
+fn rests(s: &[u8], g: &[u8]) -> bool
+    requires { ⌜ (length (now s) ≡ recordSize) × (length (now g) ≡ groupSize) ⌝ }
+    ensures { λ r. ⌜ r ≡ Rest·rests (decoded (now (s .entry))) (now (g .entry)) ⌝ }
+{
+    let line = table::record::line_in(s);
+    if line.up {
+        let ours = table::record::actor_in(s);
+        let theirs = table::record::partner_in(s);
+        return group::is_still(ours.synchronization, theirs.synchronization, g);
+    }
+    group::is_fresh(g)
+}
+
+// The same of port `i`, from 0.
+fn rests_at(table: &[u8], i: usize) -> bool
+    requires { ⌜ (length (now table) ≡ wholeSize (countIn (now table))) × (i < countIn (now table)) ⌝ }
+    ensures { λ r. ⌜ r ≡ Rest·rests (portAt (baseOf (now (table .entry))) i) (groupAt (now (table .entry)) i) ⌝ }
+{
+    let base = place_of(table[0] as usize);
+    rests(table::record_at(&table[..base], i), group_at(table, i))
+}
+
+// The machines of port `i`, from 0, which mostly rest.
+fn watch_one(table: &mut [u8], i: usize, stage: Stage)
+    requires { ⌜ (length (now table) ≡ wholeSize (countIn (now table))) × (i < countIn (now table)) ⌝ }
+    ensures { λ _. ⌜ now (table .exit) ≡ putAt (groupPlace (countIn (now (table .entry))) i) (groupOctets (watchedAt stage (now (table .entry)) i)) (now (table .entry)) ⌝ }
+{
+    if stage.begins() | !rests_at(table, i) {
+        run_one(table, i, stage);
+    }
 }
 
 // The machines of every port, on what stands after step 6.
