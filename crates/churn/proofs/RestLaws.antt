@@ -25,8 +25,9 @@ use Rattle.churn.specs.declared.watch.Churn.the-variants.{NoChurn, Monit
 use Rattle.churn.specs.declared.watch.Monitors.{Monitors}
 use Rattle.churn.specs.Churn.{churnDetectionTime, watch, monitors, watched, churnChoice, watching, monitorsFallen}
 use Rattle.churn.specs.Group.{groupSize, churnCode, churnOf, longAt, longOctets, groupOctets, groupOf, groupInRange}
-use Rattle.churn.specs.Rest.{begins, stayCode, isStill, isFresh, rests}
+use Rattle.churn.specs.Rest.{begins, stayCode, isStill, isFresh, rests, restTo}
 use Rattle.churn.specs.Whole.{groupPlace, wholeSize, baseOf, groupAt, monitorsAt, prepared, watchedAt}
+use Rattle.churn.proofs.WholeLaws.{done, done-none, done-more}
 
 -- neither of two
 pub neither : (a b : Bool) → a || not b ≡ false → (a ≡ false) × (b ≡ true)
@@ -228,3 +229,24 @@ rest-left s t i size here o go e =
     let long : length l ≡ groupSize = length-take-le groupSize (drop n t) (omega (arith, d, fits)) in
     sym (ap (λ (x : List ℕ). putAt n x t) (rest-keeps s go (portAt (baseOf t) i) l (take-octets groupSize (drop n t) (drop-octets n t o)) long e)
     ∙ put-back n groupSize t fits)
+
+-- a loop that has passed over ports that rest stands where one that ran their machines does
+pub rest-done : (s : Stage) (t : List ℕ) → (size : length t ≡ wholeSize (countIn t)) → Octets t → begins s ≡ false
+    → (n : ℕ) → n ≤ countIn t → restTo n t ≡ true → t ≡ done t (watchedAt s t) n
+unfolding restTo
+rest-done s t size o go zero few e = sym (done-none t size (watchedAt s t))
+rest-done s t size o go (suc n) few e =
+    let h = both (restTo n t) (rests (portAt (baseOf t) n) (groupAt t n)) e in
+    let before = rest-done s t size o go n (omega arith) (h .0) in
+    rest-left s t n size (omega arith) o go (h .1)
+    ∙ ap (λ (u : List ℕ). putAt (groupPlace (countIn t) n) (groupOctets (watchedAt s t n)) u) before
+    ∙ done-more t size (watchedAt s t) n
+
+-- and at a start it has passed over none
+pub run-begins : (s : Stage) (t : List ℕ) → (size : length t ≡ wholeSize (countIn t)) → Octets t
+    → (n : ℕ) → n ≤ countIn t → restTo n t ≡ true → (begins s ≡ true → n ≡ 0) → t ≡ done t (watchedAt s t) n
+run-begins s t size o n few e none = by (begins s) refl
+  where
+    by : (b : Bool) → begins s ≡ b → t ≡ done t (watchedAt s t) n
+    by true b = sym (ap (λ (k : ℕ). done t (watchedAt s t) k) (none b) ∙ done-none t size (watchedAt s t))
+    by false b = rest-done s t size o b n few e

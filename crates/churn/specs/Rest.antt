@@ -1,12 +1,14 @@
 -- Where a run of the machines gives a port's group back, told by a few of its octets (law `rest-keeps`). Most ports carry traffic, have no link, or have a neighbour without LACP.
-use Prim.Native.Nat.{ℕ, _+_, _*_}
+use Prim.Native.Nat.{ℕ, zero, suc, _+_, _*_}
 use mathlib.Core.Bool.{Bool, true, false, cond, _&&_}
 use mathlib.Core.List.{List}
 use lib.Dec.{eqb}
 use Rattle.octets.specs.Octets.{wordAt}
 use Rattle.port.specs.declared.record.Port.{Port}
+use Rattle.table.specs.Table.{portAt}
 use Rattle.churn.specs.declared.Stage.{Stage}
 use Rattle.churn.specs.declared.Stage.the-variants.{Start, Tick, Other}
+use Rattle.churn.specs.Whole.{baseOf, groupAt}
 
 -- whether the machines begin anew
 abbrev pub begins : Stage → Bool
@@ -30,3 +32,8 @@ isFresh g = eqb (wordAt g 0) 1476526337 && eqb (wordAt g 2) 1476548610
 -- with a link the first, without one the second
 unfoldable pub rests : Port → List ℕ → Bool
 rests p g = cond (p .line .up) (isStill (p .actor .synchronization) (p .partner .state .synchronization) g) (isFresh g)
+
+-- those of the first n ports of a table
+unfoldable pub restTo : ℕ → List ℕ → Bool
+restTo zero w = true
+restTo (suc n) w = restTo n w && rests (portAt (baseOf w) n) (groupAt w n)
