@@ -4,7 +4,7 @@ ghost use Prim.Native.Nat.{_+_, _≤_};
 ghost use lib.ListN.{length};
 ghost use Rattle.octets.specs.Octets.{putAt};
 ghost use Rattle.churn.specs.Group.{groupSize, churnCode, churnOf, longOctets, longAt, groupOctets, groupOf, groupInRange};
-ghost use Rattle.churn.specs.Rest.{isCalm, isFresh};
+ghost use Rattle.churn.specs.Rest.{stayCode, isStill, isFresh};
 use crate::watch::CHURN_DETECTION_TIME;
 use crate::watch::Churn;
 use crate::watch::Monitors;
@@ -95,12 +95,19 @@ pub fn write(m: Monitors, out: &mut [u8])
     put_long(out, 10, partner.count);
 }
 
-// Whether both machines are in NO_CHURN without a timer.
-pub(crate) fn is_calm(s: &[u8]) -> bool
-    requires { ⌜ length (now s) ≡ groupSize ⌝ }
-    ensures { λ r. ⌜ r ≡ isCalm (now (s .entry)) ⌝ }
+// The number of the state in which a machine stays while the link is up, by Synchronization.
+fn stay_code(sync: bool) -> u64
+    ensures { λ r. ⌜ (r ≡ stayCode sync) × (r ≤ 2) ⌝ }
 {
-    (octets::word(s, 0) == 0) & (octets::word(s, 2) == 0)
+    if sync { 0 } else { 2 }
+}
+
+// Whether both machines stay there, by the two Synchronizations, and no timer runs.
+pub(crate) fn is_still(ours: bool, theirs: bool, s: &[u8]) -> bool
+    requires { ⌜ length (now s) ≡ groupSize ⌝ }
+    ensures { λ r. ⌜ r ≡ isStill ours theirs (now (s .entry)) ⌝ }
+{
+    (octets::word(s, 0) == stay_code(ours) + stay_code(theirs) * 256) & (octets::word(s, 2) == 0)
 }
 
 // Whether both machines are in MONITOR with all of their time ahead.
@@ -122,12 +129,12 @@ fn has_ranges(s: &[u8]) -> bool
                 & (octets::number(s, 4) <= CHURN_DETECTION_TIME)))
 }
 
-// Whether a group's octets are in range; those of most ports are 0.
+// Whether a group's octets are in range; in most, states and timers are 0.
 pub fn is_group(s: &[u8]) -> bool
     requires { ⌜ length (now s) ≡ groupSize ⌝ }
     ensures { λ r. ⌜ r ≡ groupInRange (now (s .entry)) ⌝ }
 {
-    if is_calm(s) {
+    if is_still(true, true, s) {
         return true;
     }
     has_ranges(s)

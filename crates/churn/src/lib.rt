@@ -8,7 +8,8 @@ ghost use Rattle.table.specs.Record.{decoded};
 ghost use Rattle.table.specs.Table.{countIn, portAt};
 ghost use Rattle.churn.specs.Churn.{watching, bothBegun};
 ghost use Rattle.churn.specs.Group.{groupOf, groupSize, groupOctets};
-ghost use Rattle.churn.specs.Rest.{begins, rests as Rest·rests};
+ghost use mathlib.Core.Bool.{true};
+ghost use Rattle.churn.specs.Rest.{begins, rests as Rest·rests, restTo};
 ghost use Rattle.churn.specs.Whole.{groupPlace, wholeSize, baseOf, groupAt, groupsInRange, hasMonitors, prepared, watchedAt, watchedAll};
 use crate::group::GROUP;
 use crate::watch::CHURN_DETECTION_TIME;
@@ -97,7 +98,7 @@ fn run_one(table: &mut [u8], i: usize, stage: Stage)
     group::write(r, &mut table[at..at + GROUP]);
 }
 
-// Whether the machines of a port whose record is s give its group g back, unless they begin anew.
+// Whether the machines of a port whose record is s give its group g back, unless they begin anew. Mostly both Synchronizations are set.
 fn rests(s: &[u8], g: &[u8]) -> bool
     requires { ⌜ (length (now s) ≡ recordSize) × (length (now g) ≡ groupSize) ⌝ }
     ensures { λ r. ⌜ r ≡ Rest·rests (decoded (now (s .entry))) (now (g .entry)) ⌝ }
@@ -106,7 +107,12 @@ fn rests(s: &[u8], g: &[u8]) -> bool
     if line.up {
         let ours = table::record::actor_in(s);
         let theirs = table::record::partner_in(s);
-        return ours.synchronization & (theirs.synchronization & group::is_calm(g));
+        if ours.synchronization {
+            if theirs.synchronization {
+                return group::is_still(true, true, g);
+            }
+        }
+        return group::is_still(ours.synchronization, theirs.synchronization, g);
     }
     group::is_fresh(g)
 }
@@ -120,7 +126,34 @@ fn rests_at(table: &[u8], i: usize) -> bool
     rests(table::record_at(&table[..base], i), group_at(table, i))
 }
 
-// The machines of port `i`, from 0, which mostly rest.
+// How many ports rest, from the first on, up to one that does not.
+fn resting(table: &[u8]) -> usize
+    requires { ⌜ length (now table) ≡ wholeSize (countIn (now table)) ⌝ }
+    ensures { λ r. ⌜ (r ≤ countIn (now (table .entry))) × (restTo r (now (table .entry)) ≡ true) ⌝ }
+{
+    let n = table[0] as usize;
+    let mut i: usize = 0;
+    while i < n {
+        if !rests_at(table, i) {
+            return i;
+        }
+        i += 1;
+    }
+    n
+}
+
+// The first port, from 0, whose machines are to run; those before it rest. On most calls there is none.
+fn first_to_run(table: &[u8], stage: Stage) -> usize
+    requires { ⌜ length (now table) ≡ wholeSize (countIn (now table)) ⌝ }
+    ensures { λ r. ⌜ (r ≤ countIn (now (table .entry))) × (restTo r (now (table .entry)) ≡ true) × (begins stage ≡ true → r ≡ 0) ⌝ }
+{
+    if stage.begins() {
+        return 0;
+    }
+    resting(table)
+}
+
+// The machines of port `i`, from 0, unless they rest.
 fn watch_one(table: &mut [u8], i: usize, stage: Stage)
     requires { ⌜ (length (now table) ≡ wholeSize (countIn (now table))) × (i < countIn (now table)) ⌝ }
     ensures { λ _. ⌜ now (table .exit) ≡ putAt (groupPlace (countIn (now (table .entry))) i) (groupOctets (watchedAt stage (now (table .entry)) i)) (now (table .entry)) ⌝ }
@@ -136,7 +169,7 @@ pub fn watch_all(table: &mut [u8], stage: Stage)
     ensures { λ _. ⌜ now (table .exit) ≡ watchedAll stage (now (table .entry)) ⌝ }
 {
     let n = table[0] as usize;
-    let mut i: usize = 0;
+    let mut i: usize = first_to_run(table, stage);
     while i < n {
         watch_one(table, i, stage);
         i += 1;

@@ -1,5 +1,6 @@
 -- `rests` meets its contract: link and Synchronizations are those of the record. Assumes nothing.
 use mathlib.Core.Path.{sym, ap, _∙_}
+use Rattle.frame.specs.declared.state.PortState.{PortState}
 use Rattle.machine.specs.declared.states.Line.{Line}
 use Rattle.table.specs.Record.{decoded}
 use Rattle.churn.specs.Rest.{rests}
@@ -16,21 +17,32 @@ actor-in-requires c κs = search needs
 partner-in-requires : tie.Need-partner-in-requires
 partner-in-requires c κs = search needs
 
-is-calm-requires : tie.Need-is-calm-requires
-is-calm-requires c κs = search needs
+is-still-requires : tie.Need-is-still-requires
+is-still-requires c κs = search needs
 
 returns : tie.Need-returns
 unfolding rests decoded
 returns c =
     let up = sym (ap (λ (l : Line). l .up) (c .before .before .before .before .before .before .line-in .ensures)) ∙ c .before .before .before .before .before .if1 .taken in
-    rw (c .before .before .is-calm .ensures, c .before .before .before .partner-in .ensures, c .before .before .before .before .actor-in .ensures, up)
+    let ours = sym (ap (λ (x : PortState). x .synchronization) (c .before .before .before .before .actor-in .ensures)) ∙ c .before .before .if2 .taken in
+    let theirs = sym (ap (λ (x : PortState). x .synchronization) (c .before .before .before .partner-in .ensures)) ∙ c .before .if3 .taken in
+    rw (c .is-still .ensures, up, ours, theirs)
 
-is-fresh-requires : tie.Need-is-fresh-requires
-is-fresh-requires c κs = search needs
+is-still-requires-2 : tie.Need-is-still-requires-2
+is-still-requires-2 c κs = search needs
 
 returns-2 : tie.Need-returns-2
 unfolding rests decoded
 returns-2 c =
+    let up = sym (ap (λ (l : Line). l .up) (c .before .before .before .before .before .line-in .ensures)) ∙ c .before .before .before .before .if1 .taken in
+    rw (c .is-still2 .ensures, c .before .before .partner-in .ensures, c .before .before .before .actor-in .ensures, up)
+
+is-fresh-requires : tie.Need-is-fresh-requires
+is-fresh-requires c κs = search needs
+
+returns-3 : tie.Need-returns-3
+unfolding rests decoded
+returns-3 c =
     let down = sym (ap (λ (l : Line). l .up) (c .before .before .line-in .ensures)) ∙ c .before .if1 .left in
     rw (c .is-fresh .ensures, down)
 
@@ -41,7 +53,9 @@ rests-spec =
     line-in-requires
     actor-in-requires
     partner-in-requires
-    is-calm-requires
+    is-still-requires
     returns
+    is-still-requires-2
+    returns-2
     is-fresh-requires
-    returns-2)
+    returns-3)
