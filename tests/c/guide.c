@@ -681,6 +681,14 @@ static _Noreturn void go_on(struct kept *kept)
     }
 }
 
+/* any moment after it has done something, however busy the machine is; five seconds are enough for that */
+static void let_it_go_on(const struct kept *kept, uint16_t before)
+{
+    for (int waited = 0; waited < 5000 && counted(kept->tables[kept->in_force]) == before; waited++)
+        usleep(1000);
+    usleep(any(1000));
+}
+
 /* Killed a hundred times at any moment, the program finds a whole table, which the calls made that it tells of, and goes on with it. */
 static void killed(void)
 {
@@ -696,7 +704,7 @@ static void killed(void)
         const pid_t child = fork();
         if (child == 0)
             go_on(kept);
-        usleep(200 + any(1000));
+        let_it_go_on(kept, before);
         kill(child, SIGKILL);
         waitpid(child, NULL, 0);
         const uint8_t *left = kept->tables[kept->in_force];
@@ -705,7 +713,7 @@ static void killed(void)
         count_by_key(A, counted(left));
         IS(memcmp(left, A, SIZE), 0);
     }
-    check(progress > 10, "the killed program had done something");
+    check(progress > 90, "the killed program had done something");
     munmap(kept, sizeof *kept);
 }
 
