@@ -57,7 +57,7 @@ def types_alone(source):
         if not line.startswith("ghost use"):
             kept.append(line)
     text = "\n".join(kept)
-    used = re.sub(r"(?m)^use .*;$", "", text)
+    used = re.sub(r"(?m)^use .*;$|//.*$", "", text)
     return re.sub(r"(?m)^use \S*?(\w+);\n", lambda m: m.group(0) if re.search(rf"\b{m.group(1)}\b", used) else "", text)
 
 
