@@ -8,8 +8,8 @@ CALLS = ["receive, repeated", "receive, moves all", "tick", "tick, all waiting",
 GROWTH = ["receive, repeated", "receive, moves all", "tick", "tick, all apart", "fetch", "due", "port report", "aggregator report"]
 WHERE = ["tick", "tick, all apart", "receive, repeated", "receive, moves all", "aggregator report", "start"]
 # What a call may take at most, in instructions on this machine: what is said of it, the call, ports, and how many.
-AIMS = [("a tick at rest", "tick", 32, 9000), ("an LACPDU that is repeated", "receive, repeated", 32, 8000), ("a fetch", "fetch", 32, 1800),
-        ("a fetch with nothing due", "fetch, nothing due", 32, 1300), ("`due`", "due", 32, 2000), ("a tick at rest", "tick", 1, 500),
+AIMS = [("a tick at rest", "tick", 32, 10000), ("an LACPDU that is repeated", "receive, repeated", 32, 9000), ("a fetch", "fetch", 32, 2200),
+        ("a fetch with nothing due", "fetch, nothing due", 32, 1500), ("`due`", "due", 32, 2200), ("a tick at rest", "tick", 1, 600),
         ("an LACPDU that is repeated", "receive, repeated", 1, 1200)]
 AIM_STACK = 4096
 CLOCK = 100e6
