@@ -2,18 +2,17 @@
 -- By the cases of the figures. Assumes nothing.
 use Prim.Native.Nat.{ℕ, _+_, _*_, _/_, _%_, _-_, _≤_, _<_}
 use mathlib.Core.Path.{_≡_, refl, sym, ap, _∙_}
-use mathlib.Core.Bool.{Bool, true, false, cond}
+use mathlib.Core.Bool.{Bool, true, false}
 use mathlib.Core.List.{List}
 use native.Mathlib.Omega.{arith}
-use lib.ListN.{length, getD}
-use lib.Dec.{eqb, leb, ltb}
-use borrow.Author.Tests.{eqb-true, leb-true, le-leb, lt-ltb, ltb-true}
+use lib.ListN.{getD}
+use lib.Dec.{leb, ltb}
+use borrow.Author.Tests.{leb-true, le-leb, lt-ltb, ltb-true}
 use Rattle.octets.specs.Octets.{Octets, numberAt, joined, high, low}
 use Rattle.octets.proofs.Laws.{number-back}
 use Rattle.octets.proofs.RangeLaws.{both, both-true}
-use Rattle.machine.specs.declared.states.Ticks.{Ticks}
 use Rattle.machine.specs.States.{ticks}
-use Rattle.machine.specs.Time.{ranOut, fallen}
+use Rattle.machine.specs.Time.{ranOut}
 use Rattle.port.specs.declared.record.Port.{Port}
 use Rattle.churn.specs.declared.watch.Churn.{Churn as State}
 use Rattle.churn.specs.declared.watch.Churn.the-variants.{NoChurn, Monitor, Churn}
@@ -23,7 +22,7 @@ use Rattle.churn.specs.declared.watch.ChurnStep.{ChurnStep}
 use Rattle.churn.specs.declared.watch.ChurnStep.the-variants.{Stay, Enter}
 use Rattle.churn.specs.declared.watch.Watch.{Watch}
 use Rattle.churn.specs.declared.watch.Monitors.{Monitors}
-use Rattle.churn.specs.Churn.{churnDetectionTime, watch, monitors, churnNext, churnEntered, churnTaken, churnChoice, counted, watched, watching, watchFallen, monitorsFallen, begun, bothBegun}
+use Rattle.churn.specs.Churn.{churnDetectionTime, watch, monitors, churnNext, churnEntered, churnTaken, churnChoice, watched, watching, watchFallen, monitorsFallen, bothBegun}
 use Rattle.churn.specs.Group.{churnCode, churnOf, longAt, groupOctets, groupOf, groupInRange, watchFits, monitorsFit}
 use Rattle.churn.specs.Whole.{prepared}
 

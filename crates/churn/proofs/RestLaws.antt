@@ -2,29 +2,27 @@
 -- stay in NO_CHURN or CHURN, by Synchronization, and without one MONITOR is entered anew with the time that was there. Assumes nothing.
 use Prim.Native.Nat.{ℕ, zero, suc, _+_, _*_, _/_, _%_, _≤_, _<_}
 use mathlib.Core.Path.{_≡_, refl, sym, ap, _∙_}
-use mathlib.Core.Bool.{Bool, true, false, not, _&&_, _||_, true≢false}
+use mathlib.Core.Bool.{Bool, true, false, not, _||_, true≢false}
 use mathlib.Core.List.{List, [], _∷_, _++_}
 use native.Mathlib.Omega.{arith}
-use native.Mathlib.Nat.{add-sub-cancel-left}
 use lib.ListN.{length, take, drop, getD, length-drop, take-append-drop}
 use lib.Seq.{length-take-le, drop-drop}
 use lib.Dec.{eqb, leb}
 use borrow.Author.Tests.{eqb-true, le-leb, leb-true}
-use Rattle.octets.specs.Octets.{Octets, putAt, numberAt, numberOctets, high, low, word, wordAt}
+use Rattle.octets.specs.Octets.{Octets, putAt, numberAt, numberOctets, word, wordAt}
 use Rattle.octets.proofs.Laws.{spread-all}
 use Rattle.octets.proofs.OctetLists.{first-back, second-back, take-octets, drop-octets}
-use Rattle.octets.proofs.RangeLaws.{both, both-true}
+use Rattle.octets.proofs.RangeLaws.{both}
 use Rattle.machine.specs.States.{ticks}
 use Rattle.port.specs.declared.record.Port.{Port}
-use Rattle.table.specs.Layout.{place}
 use Rattle.table.specs.Table.{countIn, portAt}
 use Rattle.churn.specs.declared.Stage.{Stage}
 use Rattle.churn.specs.declared.Stage.the-variants.{Start, Tick, Other}
 use Rattle.churn.specs.declared.watch.Churn.{Churn as State}
 use Rattle.churn.specs.declared.watch.Churn.the-variants.{NoChurn, Monitor, Churn}
 use Rattle.churn.specs.declared.watch.Monitors.{Monitors}
-use Rattle.churn.specs.Churn.{churnDetectionTime, watch, monitors, watched, churnChoice, watching, monitorsFallen}
-use Rattle.churn.specs.Group.{groupSize, churnCode, churnOf, longAt, longOctets, groupOctets, groupOf, groupInRange}
+use Rattle.churn.specs.Churn.{watch, monitors, watched, churnChoice, watching, monitorsFallen}
+use Rattle.churn.specs.Group.{groupSize, churnCode, churnOf, longAt, groupOctets, groupOf, groupInRange}
 use Rattle.churn.specs.Rest.{begins, stayCode, isStill, isFresh, rests, restTo}
 use Rattle.churn.specs.Whole.{groupPlace, wholeSize, baseOf, groupAt, monitorsAt, prepared, watchedAt}
 use Rattle.churn.proofs.WholeLaws.{done, done-none, done-more}

@@ -1,7 +1,7 @@
 -- The octets of a port's two monitors, both ways, and their ranges.
 use Prim.Native.Nat.{ℕ, _+_, _*_, _/_, _%_}
 use mathlib.Core.Bool.{Bool, cond, _&&_}
-use mathlib.Core.List.{List, [], _∷_, _++_}
+use mathlib.Core.List.{List, _∷_, _++_}
 use lib.ListN.{getD}
 use lib.Dec.{eqb, leb, ltb}
 use Rattle.octets.specs.Octets.{numberAt, numberOctets}

@@ -2,7 +2,7 @@
 -- has changed and they were at rest. So along a run they are a fold over its history. Assumes nothing.
 use Prim.Native.Nat.{ℕ, _<_}
 use mathlib.Core.Path.{_≡_, refl, sym, ap, _∙_}
-use mathlib.Core.Bool.{Bool, true, false, cond, _&&_, false≢true, true≢false}
+use mathlib.Core.Bool.{Bool, true, false, cond, _&&_, false≢true}
 use mathlib.Core.List.{List, [], _∷_}
 use Rattle.octets.specs.Octets.{Octets}
 use Rattle.octets.proofs.RangeLaws.{both}
@@ -15,23 +15,20 @@ use Rattle.table.specs.Table.{countIn, portAt}
 use Rattle.churn.specs.declared.Stage.{Stage}
 use Rattle.churn.specs.declared.Stage.the-variants.{Start, Tick, Other}
 use Rattle.churn.specs.declared.watch.Monitors.{Monitors}
-use Rattle.churn.specs.Churn.{monitors, watched, watching, bothBegun}
+use Rattle.churn.specs.Churn.{monitors, watching, bothBegun}
 use Rattle.churn.specs.Whole.{baseOf, monitorsAt, prepared, watchedAt, watchedAll}
 use Rattle.churn.proofs.ChurnLaws.{watched-twice}
 use Rattle.churn.proofs.WholeLaws.{base-count}
 use Rattle.churn.proofs.MadeLaws.{watched-base, watched-count, watched-monitors}
-use Rattle.control.specs.declared.answer.Answer.{Answer}
-use Rattle.control.specs.declared.answer.Answer.the-variants.{Refused}
-use Rattle.control.specs.declared.answer.Reason.{Reason}
 use Rattle.control.specs.Accepted.{accepted}
 use Rattle.control.specs.Call.{Call, start, receive, tick, line, configure, fetch, report, aggregator, due, isStart}
-use Rattle.control.specs.After.{answer, after}
+use Rattle.control.specs.After.{answer}
 use Rattle.whole.specs.Calls.{hasRoom, settles, stageOf, watchedIf, wholeAnswer, wholeAfter}
 use Rattle.claims.specs.Run.{Takes, AllTake}
 use Rattle.claims.proofs.Counts.{call-count}
-use Rattle.promises.specs.Whole.{WholeMade, WholeSound, wholeRun}
+use Rattle.promises.specs.Whole.{WholeSound, wholeRun}
 use Rattle.promises.specs.Churn.{Seen, seenOf, seenAt, eventOf, churnAfter, ChurnFollows, ChurnAfterTwice, Happening, history, churns, FromStart, TwoRuns, sameSeen, isOther, isIdle, shortened, TwoRunsShortened}
-use Rattle.promises.proofs.Whole.{lost-after, lost-answer, idle-seen, joined, join-base, join-count, join-whole, join-monitors, room-after, room-base, whole, whole-is, whole-fits, start-count, whole-started, whole-call, base-call, whole-never-stuck}
+use Rattle.promises.proofs.Whole.{lost-after, lost-answer, idle-seen, joined, join-base, join-count, join-whole, join-monitors, room-after, whole, whole-is, whole-fits, whole-started, whole-call, base-call, whole-never-stuck}
 
 -- ---- the function
 

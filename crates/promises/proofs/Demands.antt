@@ -6,12 +6,9 @@ use mathlib.Core.Bool.{true, false, true≢false}
 use mathlib.Core.List.{List, map}
 use native.Mathlib.Omega.{arith}
 use Rattle.port.specs.Compared.{compared}
-use Rattle.port.specs.declared.record.Port.{Port}
-use Rattle.table.specs.Layout.{place}
 use Rattle.table.specs.Table.{countIn, portAt, ports, ours}
 use Rattle.trunk.specs.Selection.{sharesGroup}
 use Rattle.trunk.proofs.GroupLaws.{shares-refl}
-use Rattle.churn.specs.declared.Stage.{Stage}
 use Rattle.churn.specs.declared.Stage.the-variants.{Other}
 use Rattle.churn.specs.Whole.{baseOf, monitorsAt}
 use Rattle.churn.proofs.WholeLaws.{base-count}
@@ -19,8 +16,7 @@ use Rattle.control.specs.declared.answer.Answer.the-variants.{Done, Refused}
 use Rattle.control.specs.declared.answer.Reason.the-variants.{Table}
 use Rattle.control.specs.Accepted.{accepted}
 use Rattle.control.specs.Call.{Call, start, receive, tick, line, configure, fetch, report, aggregator, due, isStart}
-use Rattle.control.specs.After.{after}
-use Rattle.whole.specs.Calls.{hasRoom, wholeAnswer, wholeAfter, wholeOutgoing}
+use Rattle.whole.specs.Calls.{wholeAnswer, wholeAfter, wholeOutgoing}
 use Rattle.claims.specs.Run.{Takes}
 use Rattle.claims.specs.Locality.{touches, Apart}
 use Rattle.claims.specs.ReadBack.{Reads}
@@ -29,7 +25,7 @@ use Rattle.claims.proofs.Rule.{rule-afresh, distributing-earned, at-rest}
 use Rattle.claims.proofs.Locality.{locality}
 use Rattle.claims.proofs.ReadBack.{read-back}
 use Rattle.promises.specs.Whole.{WholeMade}
-use Rattle.promises.specs.Churn.{Seen, seenOf, seenAt, eventOf, churnAfter}
+use Rattle.promises.specs.Churn.{seenOf, eventOf, churnAfter}
 use Rattle.promises.specs.Demands.{IsPort, Strangers, AsItWas, Demands}
 use Rattle.promises.proofs.Whole.{plain-room, plain-count, accepted-room, front-answer, front-out, whole-refusals, whole-never-stuck, base-made, base-calls, whole-made-call}
 use Rattle.promises.proofs.Churn.{watching-is, churn-follows}

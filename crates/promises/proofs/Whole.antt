@@ -1,20 +1,17 @@
 -- Every table with monitors that calls can make is in range and at rest, and with the monitors dropped every call is the call on the table without them: the
 -- front of the memory is what that call leaves, and the machines then run write behind it alone. Assumes nothing.
-use Prim.Native.Nat.{ℕ, _+_, _*_, _-_, _≤_, _<_}
+use Prim.Native.Nat.{ℕ, _+_, _-_, _<_}
 use mathlib.Core.Path.{_≡_, refl, sym, ap, _∙_, subst}
 use mathlib.Core.Bool.{Bool, true, false, cond, not, _&&_, false≢true, true≢false}
 use mathlib.Core.List.{List, [], _∷_, _++_}
 use native.Mathlib.Omega.{arith}
-use lib.ListN.{length, take, drop, getD, set, take-append-drop, length-drop}
-use lib.Seq.{length-take-le, getD-take, getD-set-same}
+use lib.ListN.{length, take, drop, set, take-append-drop}
 use lib.Dec.{eqb}
 use borrow.Author.Tests.{eqb-true, eqb-false, eq-eqb}
 use Rattle.octets.specs.Octets.{Octets, within}
 use Rattle.octets.proofs.OctetLists.{append-octets, take-octets, drop-octets}
-use Rattle.octets.proofs.RangeLaws.{both, both-true}
 use Rattle.frame.specs.declared.block.SystemId.{SystemId}
 use Rattle.frame.specs.declared.wire.TensOfMicroseconds.{TensOfMicroseconds}
-use Rattle.machine.specs.declared.states.Line.{Line}
 use Rattle.machine.specs.States.{sameLine}
 use Rattle.port.specs.declared.record.Port.{Port}
 use Rattle.port.specs.Transmit.{sent, due}
@@ -23,15 +20,13 @@ use Rattle.settings.specs.Settings.{sameSettings, configured}
 use Rattle.port.specs.Receive.{lined}
 use Rattle.table.specs.Layout.{place, mostPorts, tableSize}
 use Rattle.table.specs.Record.{decoded}
-use Rattle.table.specs.State.{State}
-use Rattle.table.specs.Table.{countIn, portAt, ports, ours, again, isRoom, onOctets, octetsOf, stateOf}
+use Rattle.table.specs.Table.{countIn, portAt, ports, ours, isRoom, onOctets, octetsOf, stateOf}
 use Rattle.table.proofs.TableLaws.{in-range}
 use Rattle.work.specs.Work.{worked, afterOne, afterLine, afterSettings, afterSend}
 use Rattle.churn.specs.declared.Stage.{Stage}
 use Rattle.churn.specs.declared.Stage.the-variants as stage
 use Rattle.churn.specs.declared.watch.Monitors.{Monitors}
-use Rattle.churn.specs.Churn.{watching, watched, monitors, bothBegun}
-use Rattle.churn.specs.Group.{groupSize}
+use Rattle.churn.specs.Churn.{watching, watched, monitors}
 use Rattle.churn.specs.Whole.{wholeSize, baseOf, monitorsAt, hasMonitors, prepared, watchedAt, watchedAll}
 use Rattle.churn.proofs.ChurnLaws.{watching-twice}
 use Rattle.churn.proofs.WholeLaws.{base-count, base-length}
@@ -45,19 +40,19 @@ use Rattle.control.specs.Answer.{withDefault, withRoom, dueAnswer}
 use Rattle.control.specs.Call.{Call, start, receive, tick, line, configure, fetch, report, aggregator, due as dueCall, isStart}
 use Rattle.control.specs.After.{answer, after, afterFrame, bufferOf, outgoing, changedBy, unless, effect}
 use Rattle.control.proofs.CallLaws.{after-accepted, refused-table, refused-buffer, named}
-use Rattle.control.proofs.CountLaws.{after-count, started-count, keptIf}
-use Rattle.whole.specs.Calls.{countFor, baseFor, restFor, isWholeRoom, hasRoom, settles, stageOf, watchedIf, wholeAnswer, wholeAfter, wholeOutgoing}
+use Rattle.control.proofs.CountLaws.{started-count, keptIf}
+use Rattle.whole.specs.Calls.{countFor, isWholeRoom, hasRoom, settles, stageOf, watchedIf, wholeAnswer, wholeAfter, wholeOutgoing}
 use Rattle.whole.specs.Report.{wholeAggregator, wholeDue}
-use Rattle.whole.proofs.CallLaws.{whole-size, room-size, room-few}
+use Rattle.whole.proofs.CallLaws.{whole-size, room-size}
 use Rattle.whole.proofs.JoinLaws.{joined-count, joined-whole, joined-base, joined-monitors, joined-has}
-use Rattle.claims.specs.Run.{Takes, AllTake, run, Made}
+use Rattle.claims.specs.Run.{Takes, AllTake, run}
 use Rattle.claims.specs.AtRest.{Sound}
 use Rattle.claims.proofs.Sound.{sound-back, send-ports}
-use Rattle.claims.proofs.Calls.{call-sound, started-sound, never-stuck, made-start, made-call, all-more}
+use Rattle.claims.proofs.Calls.{call-sound, started-sound, all-more}
 use Rattle.claims.proofs.Counts.{call-count}
 use Rattle.claims.proofs.Locality.{again-at}
 use Rattle.claims.proofs.Views.{set-view}
-use Rattle.promises.specs.Whole.{wholeRun, WholeMade, ChurnRests, WholeSound, WholeNeverStuck, WholeRefused, WholeRefusals, BaseCall, BaseCalls, BaseRuns, BaseMade, BaseReports, BaseReported}
+use Rattle.promises.specs.Whole.{wholeRun, WholeMade, ChurnRests, WholeSound, WholeNeverStuck, WholeRefused, WholeRefusals, BaseCall, BaseCalls, BaseRuns, BaseMade, BaseReported}
 use Rattle.promises.specs.Churn.{Seen, seenOf}
 
 -- ---- the memory of a call: its front, and the rest

@@ -1,8 +1,8 @@
 -- The witness, by computation, and the theorems applied to it. Assumes nothing.
 use Prim.Native.Nat.{ℕ, zero, suc}
 use mathlib.Core.Path.{_≡_, refl, sym}
-use mathlib.Core.Bool.{Bool, true}
-use mathlib.Core.List.{List, [], _∷_}
+use mathlib.Core.Bool.{true}
+use mathlib.Core.List.{[], _∷_}
 use native.Mathlib.Omega.{arith}
 use Rattle.octets.specs.Lists.{mapFrom}
 use Rattle.octets.specs.Octets.{Octets, sameOctets}

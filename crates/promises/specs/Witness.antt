@@ -8,18 +8,17 @@ use lib.ListN.{length}
 use Rattle.frame.specs.Wire.{zeros}
 use Rattle.machine.specs.States.{ticks}
 use Rattle.table.specs.Table.{countIn}
-use Rattle.churn.specs.declared.Stage.{Stage}
 use Rattle.churn.specs.declared.Stage.the-variants.{Start, Tick, Other}
 use Rattle.churn.specs.declared.watch.Monitors.{Monitors}
 use Rattle.churn.specs.declared.watch.Churn.the-variants.{Monitor}
 use Rattle.churn.specs.Churn.{watch, monitors}
 use Rattle.churn.specs.Whole.{wholeSize, monitorsAt}
 use Rattle.control.specs.Accepted.{accepted}
-use Rattle.control.specs.Call.{Call, start, receive, tick, line, configure, fetch, report}
+use Rattle.control.specs.Call.{Call, start, receive, tick, line, fetch, report}
 use Rattle.whole.specs.Calls.{wholeAnswer, wholeAfter}
 use Rattle.claims.specs.Speakers.{system, noDelay, settings, keyedSettings, upFull, frame}
 use Rattle.promises.specs.Whole.{wholeRun}
-use Rattle.promises.specs.Churn.{Seen, Happening, seenAt, history, churns, shortened}
+use Rattle.promises.specs.Churn.{seenAt, history, churns, shortened}
 
 -- one port, in memory of zeros; it hears a partner that is not in sync, has a further start, and is reported
 abbrev pub memory : List ℕ

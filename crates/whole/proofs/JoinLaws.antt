@@ -1,7 +1,7 @@
 -- Memory whose front was changed by a call on the table without monitors: the front is that table, and the monitors are as they were. Assumes nothing.
-use Prim.Native.Nat.{ℕ, zero, suc, _+_, _*_, _≤_, _<_}
+use Prim.Native.Nat.{ℕ, zero, suc, _+_, _*_}
 use mathlib.Core.Path.{_≡_, refl, sym, ap, _∙_}
-use mathlib.Core.Bool.{Bool, true, false, _&&_}
+use mathlib.Core.Bool.{true, _&&_}
 use mathlib.Core.List.{List, _++_}
 use native.Mathlib.Omega.{arith}
 use lib.ListN.{length, take, drop}
@@ -13,7 +13,7 @@ use Rattle.table.specs.Layout.{place}
 use Rattle.table.specs.Table.{countIn}
 use Rattle.churn.specs.Group.{groupSize, groupOf, groupInRange}
 use Rattle.churn.specs.Whole.{groupPlace, wholeSize, baseOf, groupAt, monitorsAt, groupsInRange, hasMonitors}
-use Rattle.whole.proofs.CallLaws.{whole-size, front-count, joined-size}
+use Rattle.whole.proofs.CallLaws.{front-count, joined-size}
 
 -- memory w of a table of `count` ports with monitors, and u, a table of as many ports, in place of its front
 module _ (w u : List ℕ) (count : ℕ) (size : length w ≡ wholeSize count) (same : length u ≡ place count) (kept : countIn u ≡ count) where

@@ -5,9 +5,8 @@ use mathlib.Core.Bool.{cond}
 use mathlib.Core.List.{List, _++_}
 use lib.ListN.{replicate}
 use Rattle.octets.specs.Octets.{within}
-use Rattle.table.specs.Layout.{recordSize, mostPorts}
+use Rattle.table.specs.Layout.{mostPorts}
 use Rattle.table.specs.Record.{encoded}
-use Rattle.churn.specs.Group.{groupSize}
 use Rattle.churn.specs.Whole.{wholeSize, baseOf, groupAt, hasMonitors}
 use Rattle.control.specs.declared.answer.AggregatorReport.{AggregatorReport}
 use Rattle.control.specs.declared.answer.Answer.the-variants.{Refused}
