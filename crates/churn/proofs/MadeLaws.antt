@@ -175,3 +175,7 @@ module _ (w : List ℕ) (size : length w ≡ wholeSize (countIn w)) where
   begun-octets o =
       append-octets (baseOf w) (groupsTo (watchedAt Start w) (countIn (baseOf w))) (unfold baseOf in take-octets (place (countIn w)) w o)
       (groups-octets (watchedAt Start w) (countIn (baseOf w)) (λ i h. begun-fits i))
+
+pub made-octets : (t : List ℕ) (f : ℕ → Monitors) → Octets t → ((i : ℕ) → i < countIn t → monitorsFit (f i) ≡ true) → Octets (withMonitors t f)
+unfolding withMonitors
+made-octets t f o g = append-octets t (groupsTo f (countIn t)) o (groups-octets f (countIn t) g)

@@ -2,7 +2,9 @@
 ghost use mathlib.Core.Path.{_≡_};
 ghost use Rattle.control.specs.Call.{start as Call·start, receive as Call·receive, tick as Call·tick, line as Call·line, configure as Call·configure, fetch as Call·fetch};
 ghost use Rattle.whole.specs.Meets.{MeetsNumber, MeetsNumberOut, MeetsFrame, MeetsRecord, MeetsAggregator, MeetsDue};
+ghost use Rattle.whole.specs.Moves.{MeetsForwardNumber, MeetsBackNumber};
 ghost use Rattle.whole.specs.Report.{wholePublished};
+ghost use Rattle.table.specs.Layout.{publishedSize};
 ghost use Rattle.myrkosti.specs.Arguments.{settingsOf, systemOf, delayOf};
 ghost use Rattle.myrkosti.specs.Version.{interfaceVersion};
 use frame::block::Address;
@@ -16,7 +18,7 @@ use settings::Settings;
 pub extern "C" fn myrkosti_version() -> u32
     ensures { λ r. ⌜ r ≡ interfaceVersion ⌝ }
 {
-    0x0101
+    0x0102
 }
 
 // The octets that a table of `ports` ports has; 0 for a count outside 1 to 32.
@@ -206,5 +208,33 @@ pub extern "C" fn myrkosti_start(
         partner,
     );
     let a = whole::start(table, ports, id, TensOfMicroseconds(collector_max_delay), s);
+    a.number() as u32
+}
+
+// ---- moves between the two forms of a table
+
+// The octets that a table of `ports` ports has in the old form, without monitors; 0 for a count outside 1 to 32.
+#[no_mangle]
+pub extern "C" fn myrkosti_old_table_size(ports: u32) -> u32
+    ensures { λ r. ⌜ r ≡ publishedSize ports ⌝ }
+{
+    table::layout::table_size(ports)
+}
+
+// Writes a table of the old form into other memory, in the form of today: its monitors begin afresh.
+#[no_mangle]
+pub extern "C" fn myrkosti_forward(old_table: &[u8], new_table: &mut [u8]) -> u32
+    ensures { λ r. ⌜ MeetsForwardNumber (now («old_table» .entry)) (now («new_table» .entry)) r (now («new_table» .exit)) ⌝ }
+{
+    let a = whole::forward(old_table, new_table);
+    a.number() as u32
+}
+
+// Writes a table into other memory, in the old form: its monitors are dropped.
+#[no_mangle]
+pub extern "C" fn myrkosti_back(new_table: &[u8], old_table: &mut [u8]) -> u32
+    ensures { λ r. ⌜ MeetsBackNumber (now («new_table» .entry)) (now («old_table» .entry)) r (now («old_table» .exit)) ⌝ }
+{
+    let a = whole::back(new_table, old_table);
     a.number() as u32
 }

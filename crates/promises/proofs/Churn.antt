@@ -1,9 +1,10 @@
 -- A port's churn fields after a call: where the machines ran they are what these make of what then stands, and where they did not, nothing that they look at
--- has changed and they were at rest. So along a run they are a fold over its history. Assumes nothing.
+-- has changed and they were at rest. A move forward begins them, and a refused one leaves them at rest. So along a run they are a fold over its history. Assumes nothing.
 use Prim.Native.Nat.{ℕ, _<_}
-use mathlib.Core.Path.{_≡_, refl, sym, ap, _∙_}
+use mathlib.Core.Path.{_≡_, refl, sym, ap, _∙_, subst}
 use mathlib.Core.Bool.{Bool, true, false, cond, _&&_, false≢true}
 use mathlib.Core.List.{List, [], _∷_}
+use mathlib.Core.Option.{Option, none, some, Option·getD}
 use Rattle.octets.specs.Octets.{Octets}
 use Rattle.octets.proofs.RangeLaws.{both}
 use Rattle.frame.specs.declared.block.SystemId.{SystemId}
@@ -21,14 +22,19 @@ use Rattle.churn.proofs.ChurnLaws.{watched-twice}
 use Rattle.churn.proofs.WholeLaws.{base-count}
 use Rattle.churn.proofs.MadeLaws.{watched-base, watched-count, watched-monitors}
 use Rattle.control.specs.Accepted.{accepted}
-use Rattle.control.specs.Call.{Call, start, receive, tick, line, configure, fetch, report, aggregator, due, isStart}
+use Rattle.control.specs.Call.{Call, start, receive, tick, line, configure, fetch, report, aggregator, due}
 use Rattle.control.specs.After.{answer}
 use Rattle.whole.specs.Calls.{hasRoom, settles, stageOf, watchedIf, wholeAnswer, wholeAfter}
-use Rattle.claims.specs.Run.{Takes, AllTake}
-use Rattle.claims.proofs.Counts.{call-count}
-use Rattle.promises.specs.Whole.{WholeSound, wholeRun}
-use Rattle.promises.specs.Churn.{Seen, seenOf, seenAt, eventOf, churnAfter, ChurnFollows, ChurnAfterTwice, Happening, history, churns, FromStart, TwoRuns, sameSeen, isOther, isIdle, shortened, TwoRunsShortened}
-use Rattle.promises.proofs.Whole.{lost-after, lost-answer, idle-seen, joined, join-base, join-count, join-whole, join-monitors, room-after, whole, whole-is, whole-fits, whole-started, whole-call, base-call, whole-never-stuck}
+use Rattle.whole.specs.Moves.{movedForward, goesForward, goesBack, forwardAnswer}
+use Rattle.whole.proofs.MoveLaws.{forward-base, forward-monitors}
+use Rattle.claims.specs.Run.{Takes}
+use Rattle.claims.specs.AtRest.{Sound}
+use Rattle.claims.proofs.Counts.{run-count}
+use Rattle.promises.specs.Run.{Held, old, new, Step, call, forward, back, recordsOf, stepped, through, StepTakes, AllStepsTake, callsOf, FromStart}
+use Rattle.promises.specs.Whole.{WholeSound, HeldSound}
+use Rattle.promises.specs.Churn.{Seen, seenOf, seenAt, seenIn, churnIn, eventOf, eventIn, churnAfter, churnAfterStep, ChurnFollows, ChurnAfterTwice, Happening, history, churns, HasPort, TwoRuns, sameSeen, sameSight, isOther, isIdle, shortened, TwoRunsShortened}
+use Rattle.promises.proofs.Whole.{lost-after, lost-answer, idle-seen, joined, join-base, join-count, join-whole, join-monitors, room-after, whole, whole-is, whole-fits, base-call}
+use Rattle.promises.proofs.Run.{held-never-stuck, start-sound, step-goes, records-sound, calls-take, not-old, went-forward, stood-forward, new-forward, old-back, went-back, stood-back}
 
 -- ---- the function
 
@@ -41,10 +47,9 @@ unfolding churnAfter
 churn-after-twice e x m =
     λ i. monitors (watched-twice (x .up) (x .actor) (prepared e m .actor) i) (watched-twice (x .up) (x .partner) (prepared e m .partner) i)
 
--- a start forgets what was before it
-begun-alike : (x : Seen) (m n : Monitors) → churnAfter Start x m ≡ churnAfter Start x n
-unfolding churnAfter
-begun-alike x m n = refl
+next-twice : (e : Stage) (x : Option Seen) (m : Option Monitors) → churnAfterStep Other x (churnAfterStep e x m) ≡ churnAfterStep e x m
+next-twice e none m = refl
+next-twice e (some x) m = ap some (churn-after-twice e x (Option·getD m bothBegun))
 
 -- ---- what a call is to the machines
 
@@ -129,39 +134,83 @@ module _ (w : List ℕ) (s : WholeSound w) (c : Call) (k : Takes c) (i : ℕ) (h
       by true room = room-churn room
       by false room = lost-churn room
 
+-- ---- one move
+
+-- a refused move finds the monitors at rest
+rest-churn : (w : List ℕ) → WholeSound w → (i : ℕ) → i < countIn w → some (monitorsAt w i) ≡ churnAfterStep Other (seenIn i (new w)) (some (monitorsAt w i))
+rest-churn w s i h = ap some (sym (s .rest i h) ∙ watching-is Other (portAt (baseOf w) i) (monitorsAt w i))
+
+-- and one forward begins them
+begun-churn : (t : List ℕ) → Sound t → (i : ℕ) → i < countIn t → monitorsAt (movedForward t) i ≡ churnAfter Start (seenAt (movedForward t) i) bothBegun
+begun-churn t s i h =
+    forward-monitors t (s .ranged) i h ∙ watching-is Start (portAt t i) bothBegun
+    ∙ ap (λ (x : List ℕ). churnAfter Start (seenOf (portAt x i)) bothBegun) (sym (forward-base t (s .ranged)))
+
+-- ---- each step
+
+module _ (i : ℕ) where
+  -- from table h to table k, by what happened
+  Follows : Held → Stage → Held → Type 0
+  Follows h e k = churnIn i k ≡ churnAfterStep e (seenIn i k) (churnIn i h)
+
+  moved : (h k l : Held) (e f : Stage) → l ≡ k → f ≡ e → Follows h e k → Follows h f l
+  moved h k l e f is same x = subst (λ (v : Stage). Follows h v l) (sym same) (subst (Follows h e) (sym is) x)
+
+  step-churn : (s : Step) → StepTakes s → (h : Held) → HeldSound h → i < countIn (recordsOf h) → Follows h (eventIn s h) (stepped s h)
+  unfolding stepped Follows forwardAnswer
+  step-churn (call c) k (old t) s h = refl
+  step-churn (call c) k (new w) s h = ap some (churn-step w s c k i (rw (base-count w) at h))
+  step-churn (forward u) k (old t) s h = by (goesForward t u) refl
+    where
+      by : (b : Bool) → goesForward t u ≡ b → Follows (old t) (eventIn (forward u) (old t)) (stepped (forward u) (old t))
+      by true e = moved (old t) (new (movedForward t)) (stepped (forward u) (old t)) Start (eventIn (forward u) (old t)) (went-forward t u e) (rw e) (ap some (begun-churn t s i h))
+      by false e = moved (old t) (old t) (stepped (forward u) (old t)) Other (eventIn (forward u) (old t)) (stood-forward t u e) (rw e) refl
+  step-churn (forward u) k (new w) s h =
+      moved (new w) (new w) (stepped (forward u) (new w)) Other (eventIn (forward u) (new w)) (new-forward w u (s .ranged)) (rw (not-old w (s .ranged))) (rest-churn w s i (rw (base-count w) at h))
+  step-churn (back u) k (old t) s h = moved (old t) (old t) (stepped (back u) (old t)) Other Other (old-back t u (s .ranged)) refl refl
+  step-churn (back u) k (new w) s h = by (goesBack w u) refl
+    where
+      by : (b : Bool) → goesBack w u ≡ b → Follows (new w) Other (stepped (back u) (new w))
+      by true e = moved (new w) (old (baseOf w)) (stepped (back u) (new w)) Other Other (went-back w u e) refl refl
+      by false e = moved (new w) (new w) (stepped (back u) (new w)) Other Other (stood-back w u e) refl (rest-churn w s i (rw (base-count w) at h))
+
 pub churn-follows : ChurnFollows
-churn-follows w m c k i h = churn-step w (whole-never-stuck w m) c k i h
+unfolding Follows
+churn-follows h m s k i below = step-churn i s k h (held-never-stuck h m) below
 
 -- ---- a run
 
-pub whole-count : (w : List ℕ) → WholeSound w → (c : Call) → Takes c → countIn (wholeAfter c w) ≡ countIn w
-whole-count w s c k =
-    sym (base-count (wholeAfter c w)) ∙ ap countIn (base-call w s c k .leaves) ∙ call-count (baseOf w) (s .base) c ∙ base-count w
+step-count : (s : Step) → StepTakes s → (h : Held) → HeldSound h → countIn (recordsOf (stepped s h)) ≡ countIn (recordsOf h)
+step-count s k h o =
+    ap countIn (step-goes s k h o .records) ∙ run-count (recordsOf h) (records-sound h o) (callsOf (s ∷ [])) (calls-take (s ∷ []) (k, tt))
 
 -- the churn fields after each happening, and after the last
-unfoldable folds : List Happening → Monitors → List Monitors
+abbrev after-it : Happening → Option Monitors → Option Monitors
+after-it x m = churnAfterStep (x .event) (x .seen) m
+
+unfoldable folds : List Happening → Option Monitors → List (Option Monitors)
 folds [] m = []
-folds (h ∷ hs) m = churnAfter (h .event) (h .seen) m ∷ folds hs (churnAfter (h .event) (h .seen) m)
+folds (x ∷ xs) m = after-it x m ∷ folds xs (after-it x m)
 
-unfoldable ended : List Happening → Monitors → Monitors
+unfoldable ended : List Happening → Option Monitors → Option Monitors
 ended [] m = m
-ended (h ∷ hs) m = ended hs (churnAfter (h .event) (h .seen) m)
+ended (x ∷ xs) m = ended xs (after-it x m)
 
-run-folds : (w : List ℕ) → WholeSound w → (i : ℕ) → i < countIn w → (cs : List Call) → AllTake cs → churns i w cs ≡ folds (history i w cs) (monitorsAt w i)
-unfolding churns history folds
-run-folds w s i h [] k = refl
-run-folds w s i h (c ∷ cs) k =
-    let e = churn-step w s c (k .0) i h in
-    let here : i < countIn (wholeAfter c w) = rw (whole-count w s c (k .0)) h in
-    (λ n. e n ∷ run-folds (wholeAfter c w) (whole-call w s c (k .0)) i here cs (k .1) n)
-    ∙ ap (λ (m : Monitors). churnAfter (eventOf c w) (seenAt (wholeAfter c w) i) (monitorsAt w i) ∷ folds (history i (wholeAfter c w) cs) m) e
+run-folds : (i : ℕ) (h : Held) → HeldSound h → i < countIn (recordsOf h) → (ss : List Step) → AllStepsTake ss → churns i h ss ≡ folds (history i h ss) (churnIn i h)
+unfolding churns history folds Follows
+run-folds i h o below [] k = refl
+run-folds i h o below (s ∷ ss) k =
+    let e = step-churn i s (k .0) h o below in
+    let here : i < countIn (recordsOf (stepped s h)) = rw (step-count s (k .0) h o) below in
+    (λ n. e n ∷ run-folds i (stepped s h) (step-goes s (k .0) h o .sound) here ss (k .1) n)
+    ∙ ap (λ (m : Option Monitors). churnAfterStep (eventIn s h) (seenIn i (stepped s h)) (churnIn i h) ∷ folds (history i (stepped s h) ss) m) e
 
-run-ends : (w : List ℕ) → WholeSound w → (i : ℕ) → i < countIn w → (cs : List Call) → AllTake cs → monitorsAt (wholeRun w cs) i ≡ ended (history i w cs) (monitorsAt w i)
-unfolding wholeRun history ended
-run-ends w s i h [] k = refl
-run-ends w s i h (c ∷ cs) k =
-    run-ends (wholeAfter c w) (whole-call w s c (k .0)) i (rw (whole-count w s c (k .0)) h) cs (k .1)
-    ∙ ap (λ (m : Monitors). ended (history i (wholeAfter c w) cs) m) (churn-step w s c (k .0) i h)
+run-ends : (i : ℕ) (h : Held) → HeldSound h → i < countIn (recordsOf h) → (ss : List Step) → AllStepsTake ss → churnIn i (through h ss) ≡ ended (history i h ss) (churnIn i h)
+unfolding through history ended Follows
+run-ends i h o below [] k = refl
+run-ends i h o below (s ∷ ss) k =
+    run-ends i (stepped s h) (step-goes s (k .0) h o .sound) (rw (step-count s (k .0) h o) below) ss (k .1)
+    ∙ ap (λ (m : Option Monitors). ended (history i (stepped s h) ss) m) (step-churn i s (k .0) h o below)
 
 -- ---- a run from a start
 
@@ -170,53 +219,56 @@ module _ (m : List ℕ) (o : Octets m) (count : ℕ) (system : SystemId) (delay 
   started-event : eventOf (start count system delay x) m ≡ Start
   started-event = ap (λ (b : Bool). cond b Start Other) done
 
-  started-churn : (i : ℕ) → i < countIn (wholeAfter (start count system delay x) m)
+  started-churn : (i : ℕ) → i < countIn (baseOf (wholeAfter (start count system delay x) m))
       → monitorsAt (wholeAfter (start count system delay x) m) i ≡ churnAfter Start (seenAt (wholeAfter (start count system delay x) m) i) bothBegun
   unfolding watchedAt
   started-churn i h =
       let j = whole m o count system delay x takes done in
       let size = whole-fits m o count system delay x takes done in
       let is = whole-is m o count system delay x takes done in
-      let here : i < countIn j = rw (watched-count Start j size) at (rw is at h) in
+      let here : i < countIn j = rw (watched-count Start j size) at (rw is at (rw (base-count (wholeAfter (start count system delay x) m)) at h)) in
       ap (λ (u : List ℕ). monitorsAt u i) is ∙ watched-monitors Start j size i here ∙ watching-is Start (portAt (baseOf j) i) bothBegun
       ∙ ap (λ (t : List ℕ). churnAfter Start (seenOf (portAt t i)) bothBegun) (sym (watched-base Start j size))
       ∙ ap (λ (u : List ℕ). churnAfter Start (seenAt u i) bothBegun) (sym is)
 
--- the table that a run from a start begins with
-record Begun (m : List ℕ) (c : Call) (cs : List Call) (i : ℕ) : Type 0 where
-  sound : WholeSound (wholeAfter c m)
-  event : eventOf c m ≡ Start
-  churn : monitorsAt (wholeAfter c m) i ≡ churnAfter Start (seenAt (wholeAfter c m) i) bothBegun
+-- whatever the memory held, the fields after a start follow from none, and what it was, where there are any, is a start
+record Begins (h : Held) (c : Call) (i : ℕ) : Type 0 where
+  churn : churnIn i (stepped (call c) h) ≡ churnAfterStep Start (seenIn i (stepped (call c) h)) none
+  event : churnAfterStep Start (seenIn i (stepped (call c) h)) none ≡ churnAfterStep (eventIn (call c) h) (seenIn i (stepped (call c) h)) none
 
-begins : (m : List ℕ) (c : Call) (cs : List Call) (i : ℕ) → FromStart m c cs i → Begun m c cs i
-begins m (start count system delay x) cs i f = record {
-  sound = whole-started m (f .octets) count system delay x (f .takes .0) (f .accepted);
-  event = started-event m (f .octets) count system delay x (f .takes .0) (f .accepted);
-  churn = started-churn m (f .octets) count system delay x (f .takes .0) (f .accepted) i (f .port);
-}
-begins m (receive n frame out) cs i f = absurd (false≢true (f .isStart))
-begins m tick cs i f = absurd (false≢true (f .isStart))
-begins m (line n l) cs i f = absurd (false≢true (f .isStart))
-begins m (configure n x) cs i f = absurd (false≢true (f .isStart))
-begins m (fetch n out) cs i f = absurd (false≢true (f .isStart))
-begins m (report n) cs i f = absurd (false≢true (f .isStart))
-begins m (aggregator k) cs i f = absurd (false≢true (f .isStart))
-begins m due cs i f = absurd (false≢true (f .isStart))
+begins : (h : Held) (c : Call) (ss : List Step) (i : ℕ) → FromStart h c ss → HasPort h c i → Begins h c i
+unfolding stepped
+begins (old m) c ss i f p = record { churn = refl; event = refl }
+begins (new m) (start count system delay x) ss i f p =
+    let w = wholeAfter (start count system delay x) m in record {
+      churn = ap some (started-churn m (f .octets) count system delay x (f .takes .0) (f .accepted) i p);
+      event =
+          ap (λ (e : Stage). some (churnAfter e (seenAt w i) bothBegun)) (sym (started-event m (f .octets) count system delay x (f .takes .0) (f .accepted)));
+    }
+begins (new m) (receive n frame out) ss i f p = absurd (false≢true (f .isStart))
+begins (new m) tick ss i f p = absurd (false≢true (f .isStart))
+begins (new m) (line n l) ss i f p = absurd (false≢true (f .isStart))
+begins (new m) (configure n x) ss i f p = absurd (false≢true (f .isStart))
+begins (new m) (fetch n out) ss i f p = absurd (false≢true (f .isStart))
+begins (new m) (report n) ss i f p = absurd (false≢true (f .isStart))
+begins (new m) (aggregator k) ss i f p = absurd (false≢true (f .isStart))
+begins (new m) due ss i f p = absurd (false≢true (f .isStart))
 
-start-folds : (m : List ℕ) (c : Call) (cs : List Call) (i : ℕ) → FromStart m c cs i → churns i m (c ∷ cs) ≡ folds (history i m (c ∷ cs)) bothBegun
+start-folds : (h : Held) (c : Call) (ss : List Step) (i : ℕ) → FromStart h c ss → HasPort h c i
+    → churns i h (call c ∷ ss) ≡ folds (history i h (call c ∷ ss)) none
 unfolding churns history folds
-start-folds m c cs i f =
-    let b = begins m c cs i f in
-    let w = wholeAfter c m in
-    let e : monitorsAt w i ≡ churnAfter (eventOf c m) (seenAt w i) bothBegun = b .churn ∙ ap (λ (v : Stage). churnAfter v (seenAt w i) bothBegun) (sym (b .event)) in
-    (λ n. e n ∷ run-folds w (b .sound) i (f .port) cs (f .takes .1) n)
-    ∙ ap (λ (x : Monitors). churnAfter (eventOf c m) (seenAt w i) bothBegun ∷ folds (history i w cs) x) e
+start-folds h c ss i f p =
+    let b = begins h c ss i f p in
+    let k = stepped (call c) h in
+    let e = b .churn ∙ b .event in
+    (λ n. e n ∷ run-folds i k (start-sound h c ss f) p ss (f .takes .1) n)
+    ∙ ap (λ (m : Option Monitors). churnAfterStep (eventIn (call c) h) (seenIn i k) none ∷ folds (history i k ss) m) e
 
 pub two-runs : TwoRuns
-two-runs m n c d cs ds i j f g e =
-    start-folds m c cs i f ∙ ap (λ (hs : List Happening). folds hs bothBegun) e ∙ sym (start-folds n d ds j g)
+two-runs h k c d ss zs f g i j p q e =
+    start-folds h c ss i f p ∙ ap (λ (xs : List Happening). folds xs none) e ∙ sym (start-folds k d zs j g q)
 
--- ---- calls left out
+-- ---- steps left out
 
 same-bool : (a b : Bool) → alike a b ≡ true → a ≡ b
 same-bool true true e = refl
@@ -238,33 +290,38 @@ is-other Start e = absurd (false≢true e)
 is-other Tick e = absurd (false≢true e)
 is-other Other e = refl
 
-short-ends : (x : Seen) (hs : List Happening) (m : Monitors) → churnAfter Other x m ≡ m → ended (shortened x hs) m ≡ ended hs m
+same-sight : (x y : Option Seen) → sameSight x y ≡ true → x ≡ y
+same-sight none none e = refl
+same-sight none (some y) e = absurd (false≢true e)
+same-sight (some x) none e = absurd (false≢true e)
+same-sight (some x) (some y) e = ap some (same-seen x y e)
+
+short-ends : (x : Option Seen) (hs : List Happening) (m : Option Monitors) → churnAfterStep Other x m ≡ m → ended (shortened x hs) m ≡ ended hs m
 unfolding shortened ended
 short-ends x [] m r = refl
 short-ends x (h ∷ hs) m r =
-    by (isIdle x h) refl (short-ends x hs m r) (short-ends (h .seen) hs (churnAfter (h .event) (h .seen) m) (churn-after-twice (h .event) (h .seen) m))
+    by (isIdle x h) refl (short-ends x hs m r) (short-ends (h .seen) hs (after-it h m) (next-twice (h .event) (h .seen) m))
   where
     by : (b : Bool) → isIdle x h ≡ b → ended (shortened x hs) m ≡ ended hs m
-        → ended (shortened (h .seen) hs) (churnAfter (h .event) (h .seen) m) ≡ ended hs (churnAfter (h .event) (h .seen) m)
-        → ended (cond b (shortened x hs) (h ∷ shortened (h .seen) hs)) m ≡ ended hs (churnAfter (h .event) (h .seen) m)
+        → ended (shortened (h .seen) hs) (after-it h m) ≡ ended hs (after-it h m)
+        → ended (cond b (shortened x hs) (h ∷ shortened (h .seen) hs)) m ≡ ended hs (after-it h m)
     by true e left kept =
-        let p = both (isOther (h .event)) (sameSeen x (h .seen)) e in
+        let p = both (isOther (h .event)) (sameSight x (h .seen)) e in
         let other = is-other (h .event) (p .0) in
-        let seen = same-seen x (h .seen) (p .1) in
-        left ∙ ap (λ (y : Monitors). ended hs y) (sym r ∙ ap (λ (y : Seen). churnAfter Other y m) seen ∙ ap (λ (v : Stage). churnAfter v (h .seen) m) (sym other))
+        let seen = same-sight x (h .seen) (p .1) in
+        left ∙ ap (λ (y : Option Monitors). ended hs y) (sym r ∙ (λ n. churnAfterStep (sym other n) (seen n) m))
     by false e left kept = kept
 
-start-ends : (m : List ℕ) (c : Call) (cs : List Call) (i : ℕ) → FromStart m c cs i
-    → monitorsAt (wholeRun m (c ∷ cs)) i
-    ≡ ended (shortened (seenAt (wholeAfter c m) i) (history i (wholeAfter c m) cs)) (churnAfter Start (seenAt (wholeAfter c m) i) bothBegun)
-unfolding wholeRun
-start-ends m c cs i f =
-    let b = begins m c cs i f in
-    let w = wholeAfter c m in
-    let x = seenAt w i in
-    run-ends w (b .sound) i (f .port) cs (f .takes .1) ∙ ap (λ (y : Monitors). ended (history i w cs) y) (b .churn)
-    ∙ sym (short-ends x (history i w cs) (churnAfter Start x bothBegun) (churn-after-twice Start x bothBegun))
+start-ends : (h : Held) (c : Call) (ss : List Step) (i : ℕ) → FromStart h c ss → HasPort h c i
+    → churnIn i (through h (call c ∷ ss))
+    ≡ ended (shortened (seenIn i (stepped (call c) h)) (history i (stepped (call c) h) ss)) (churnAfterStep Start (seenIn i (stepped (call c) h)) none)
+unfolding through
+start-ends h c ss i f p =
+    let k = stepped (call c) h in
+    let x = seenIn i k in
+    run-ends i k (start-sound h c ss f) p ss (f .takes .1) ∙ ap (λ (y : Option Monitors). ended (history i k ss) y) (begins h c ss i f p .churn)
+    ∙ sym (short-ends x (history i k ss) (churnAfterStep Start x none) (next-twice Start x none))
 
 pub two-runs-shortened : TwoRunsShortened
-two-runs-shortened m n c d cs ds i j f g seen e =
-    start-ends m c cs i f ∙ (λ k. ended (e k) (churnAfter Start (seen k) bothBegun)) ∙ sym (start-ends n d ds j g)
+two-runs-shortened h k c d ss zs f g i j p q seen e =
+    start-ends h c ss i f p ∙ (λ n. ended (e n) (churnAfterStep Start (seen n) none)) ∙ sym (start-ends k d zs j g q)

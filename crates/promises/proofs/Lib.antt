@@ -1,5 +1,7 @@
 pub mod Typed
 pub mod Whole
+pub mod Run
 pub mod Churn
 pub mod Demands
+pub mod Through
 pub mod Witness

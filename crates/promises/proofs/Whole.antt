@@ -1,15 +1,15 @@
--- Every table with monitors that calls can make is in range and at rest, and with the monitors dropped every call is the call on the table without them: the
--- front of the memory is what that call leaves, and the machines then run write behind it alone. Assumes nothing.
+-- A call keeps a table with monitors in range and at rest, and with the monitors dropped it is the call on the table without them: the front of the memory is what
+-- that call leaves, and the machines then run write behind it alone. Assumes nothing.
 use Prim.Native.Nat.{ℕ, _+_, _-_, _<_}
 use mathlib.Core.Path.{_≡_, refl, sym, ap, _∙_, subst}
 use mathlib.Core.Bool.{Bool, true, false, cond, not, _&&_, false≢true, true≢false}
-use mathlib.Core.List.{List, [], _∷_, _++_}
+use mathlib.Core.List.{List, [], _++_}
 use native.Mathlib.Omega.{arith}
 use lib.ListN.{length, take, drop, set, take-append-drop}
 use lib.Dec.{eqb}
 use borrow.Author.Tests.{eqb-true, eqb-false, eq-eqb}
 use Rattle.octets.specs.Octets.{Octets, within}
-use Rattle.octets.proofs.OctetLists.{append-octets, take-octets, drop-octets}
+use Rattle.octets.proofs.OctetLists.{append-octets, drop-octets}
 use Rattle.frame.specs.declared.block.SystemId.{SystemId}
 use Rattle.frame.specs.declared.wire.TensOfMicroseconds.{TensOfMicroseconds}
 use Rattle.machine.specs.States.{sameLine}
@@ -42,17 +42,17 @@ use Rattle.control.specs.After.{answer, after, afterFrame, bufferOf, outgoing, 
 use Rattle.control.proofs.CallLaws.{after-accepted, refused-table, refused-buffer, named}
 use Rattle.control.proofs.CountLaws.{started-count, keptIf}
 use Rattle.whole.specs.Calls.{countFor, isWholeRoom, hasRoom, settles, stageOf, watchedIf, wholeAnswer, wholeAfter, wholeOutgoing}
-use Rattle.whole.specs.Report.{wholeAggregator, wholeDue}
 use Rattle.whole.proofs.CallLaws.{whole-size, room-size}
 use Rattle.whole.proofs.JoinLaws.{joined-count, joined-whole, joined-base, joined-monitors, joined-has}
-use Rattle.claims.specs.Run.{Takes, AllTake, run}
+use Rattle.claims.specs.Run.{Takes}
 use Rattle.claims.specs.AtRest.{Sound}
 use Rattle.claims.proofs.Sound.{sound-back, send-ports}
-use Rattle.claims.proofs.Calls.{call-sound, started-sound, all-more}
+use Rattle.claims.proofs.Calls.{call-sound, started-sound}
 use Rattle.claims.proofs.Counts.{call-count}
 use Rattle.claims.proofs.Locality.{again-at}
 use Rattle.claims.proofs.Views.{set-view}
-use Rattle.promises.specs.Whole.{wholeRun, WholeMade, ChurnRests, WholeSound, WholeNeverStuck, WholeRefused, WholeRefusals, BaseCall, BaseCalls, BaseRuns, BaseMade, BaseReported}
+use Rattle.promises.specs.Run.{old, new, stepped}
+use Rattle.promises.specs.Whole.{ChurnRests, WholeSound, HeldRefused, HeldRefusals, BaseCall}
 use Rattle.promises.specs.Churn.{Seen, seenOf}
 
 -- ---- the memory of a call: its front, and the rest
@@ -138,16 +138,18 @@ module _ (c : Call) (w : List ℕ) where
 
 -- ---- refusals, in any memory
 
-pub whole-refusals : WholeRefusals
-whole-refusals w c r e = by (hasRoom c w) refl
+pub held-refusals : HeldRefusals
+unfolding stepped
+held-refusals (old t) c r e = record { table = ap old (refused-table c t e); buffer = refused-buffer c t e }
+held-refusals (new w) c r e = by (hasRoom c w) refl
   where
-    by : (b : Bool) → hasRoom c w ≡ b → WholeRefused c w
+    by : (b : Bool) → hasRoom c w ≡ b → HeldRefused c (new w)
     by true room =
         let no = sym (front-answer c w (countFor c w) refl room) ∙ e in record {
-          table = refused-front c w (countFor c w) refl room no;
+          table = ap new (refused-front c w (countFor c w) refl room no);
           buffer = front-out c w (countFor c w) refl room ∙ refused-buffer c (take (place (countFor c w)) w) no;
         }
-    by false room = record { table = lost-after c w room; buffer = lost-out c w room }
+    by false room = record { table = ap new (lost-after c w room); buffer = lost-out c w room }
 
 -- ---- a call that does no steps 3 to 6 leaves link and Synchronizations of every port
 
@@ -387,7 +389,8 @@ module _ (w : List ℕ) (s : WholeSound w) (c : Call) (k : Takes c) where
       by false room = subst WholeSound (sym (lost-after c w room)) s
 
   -- ---- and with the monitors dropped it is the call on the table without them
-  pub room-base : hasRoom c w ≡ true → BaseCall c w
+  pub room-base : hasRoom c w ≡ true → BaseCall c (new w)
+  unfolding stepped
   room-base room = record {
     answers = unfold baseOf in front-answer c w (countIn w) (room-count c w (s .ranged) room) room;
     leaves = ap baseOf (room-after room) ∙ if-base (settles c (baseOf w) (answer c (baseOf w)));
@@ -434,10 +437,11 @@ lost-base w s (report n) e = absurd (true≢false (sym (s .ranged) ∙ e))
 lost-base w s (aggregator k) e = absurd (true≢false (sym (s .ranged) ∙ e))
 lost-base w s dueCall e = absurd (true≢false (sym (s .ranged) ∙ e))
 
-pub base-call : (w : List ℕ) → WholeSound w → (c : Call) → Takes c → BaseCall c w
+pub base-call : (w : List ℕ) → WholeSound w → (c : Call) → Takes c → BaseCall c (new w)
+unfolding stepped
 base-call w s c k = by (hasRoom c w) refl
   where
-    by : (b : Bool) → hasRoom c w ≡ b → BaseCall c w
+    by : (b : Bool) → hasRoom c w ≡ b → BaseCall c (new w)
     by true room = room-base w s c k room
     by false room =
         let no = lost-base w s c room in record {
@@ -445,92 +449,3 @@ base-call w s c k = by (hasRoom c w) refl
           leaves = ap baseOf (lost-after c w room) ∙ sym (refused-table c (baseOf w) no);
           sends = lost-out c w room ∙ sym (refused-buffer c (baseOf w) no);
         }
-
--- ---- runs
-
-pub whole-run : (w : List ℕ) → WholeSound w → (cs : List Call) → AllTake cs → WholeSound (wholeRun w cs)
-unfolding wholeRun
-whole-run w s [] k = s
-whole-run w s (c ∷ cs) k = whole-run (wholeAfter c w) (whole-call w s c (k .0)) cs (k .1)
-
-base-run : (w : List ℕ) → WholeSound w → (cs : List Call) → AllTake cs → baseOf (wholeRun w cs) ≡ run (baseOf w) cs
-unfolding wholeRun run
-base-run w s [] k = refl
-base-run w s (c ∷ cs) k = base-run (wholeAfter c w) (whole-call w s c (k .0)) cs (k .1) ∙ ap (λ (t : List ℕ). run t cs) (base-call w s c (k .0) .leaves)
-
-pub whole-never-stuck : WholeNeverStuck
-whole-never-stuck w m =
-    subst WholeSound (m .gives)
-    (whole-run (wholeAfter (start (m .count) (m .system) (m .delay) (m .settings)) (m .memory))
-    (whole-started (m .memory) (m .octets) (m .count) (m .system) (m .delay) (m .settings) (m .takes) (m .starts)) (m .calls) (m .allTake))
-
-pub base-calls : BaseCalls
-base-calls w m c k = base-call w (whole-never-stuck w m) c k
-
-pub base-runs : BaseRuns
-base-runs w m cs k = base-run w (whole-never-stuck w m) cs k
-
-pub base-made : BaseMade
-base-made w m =
-    let c = start (m .count) (m .system) (m .delay) (m .settings) in
-    let first = whole-started (m .memory) (m .octets) (m .count) (m .system) (m .delay) (m .settings) (m .takes) (m .starts) in
-    record {
-      memory = take (place (m .count)) (m .memory);
-      octets = take-octets (place (m .count)) (m .memory) (m .octets);
-      count = m .count;
-      system = m .system;
-      delay = m .delay;
-      settings = m .settings;
-      takes = m .takes;
-      starts = start-done (m .memory) (m .octets) (m .count) (m .system) (m .delay) (m .settings) (m .takes) (m .starts);
-      calls = m .calls;
-      allTake = m .allTake;
-      gives =
-          ap (λ (t : List ℕ). run t (m .calls)) (sym (start-leaves (m .memory) (m .octets) (m .count) (m .system) (m .delay) (m .settings) (m .takes) (m .starts)))
-          ∙ sym (base-run (wholeAfter c (m .memory)) first (m .calls) (m .allTake)) ∙ ap baseOf (m .gives);
-    }
-
--- a start makes a table, and so does a call on one
-pub whole-made-start : (m : List ℕ) → Octets m → (count : ℕ) (system : SystemId) (delay : TensOfMicroseconds) (x : Settings)
-    → Takes (start count system delay x) → accepted (wholeAnswer (start count system delay x) m) ≡ true → WholeMade (wholeAfter (start count system delay x) m)
-unfolding wholeRun
-whole-made-start m o count system delay x k e = record {
-  memory = m;
-  octets = o;
-  count = count;
-  system = system;
-  delay = delay;
-  settings = x;
-  takes = k;
-  starts = e;
-  calls = [];
-  allTake = tt;
-  gives = refl;
-}
-
-whole-run-more : (w : List ℕ) (cs : List Call) (c : Call) → wholeRun w (cs ++ (c ∷ [])) ≡ wholeAfter c (wholeRun w cs)
-unfolding wholeRun
-whole-run-more w [] c = refl
-whole-run-more w (b ∷ cs) c = whole-run-more (wholeAfter b w) cs c
-
-pub whole-made-call : (w : List ℕ) → WholeMade w → (c : Call) → Takes c → WholeMade (wholeAfter c w)
-whole-made-call w m c k = record {
-  memory = m .memory;
-  octets = m .octets;
-  count = m .count;
-  system = m .system;
-  delay = m .delay;
-  settings = m .settings;
-  takes = m .takes;
-  starts = m .starts;
-  calls = m .calls ++ (c ∷ []);
-  allTake = all-more (m .calls) c (m .allTake) k;
-  gives =
-      whole-run-more (wholeAfter (start (m .count) (m .system) (m .delay) (m .settings)) (m .memory)) (m .calls) c ∙ ap (wholeAfter c) (m .gives);
-}
-
--- ---- reports
-
-pub base-reported : BaseReported
-unfolding wholeAggregator wholeDue
-base-reported w m = let has = whole-never-stuck w m .ranged in record { aggregators = λ k. rw has; due = rw has }

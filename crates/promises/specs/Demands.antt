@@ -1,11 +1,13 @@
 -- The three demands, sentence by sentence, as one theorem: read this file first. Ports and aggregators have the numbers by which calls name them, from 1.
--- What a call is given and what it leaves are `wholeAnswer`, `wholeAfter` and `wholeOutgoing` (whole/specs/Calls.antt), of which the contracts of the calls
--- speak. That every call takes every input is no field here: the contracts ask nothing of a caller. `WholeMade` is in Whole.antt, `Takes` in claims/specs/Run.antt.
+-- A table has one of two forms (`Held` in Run.antt): `new` is that of the library's calls, of whose answers, memory and buffers (`wholeAnswer`, `wholeAfter`,
+-- `wholeOutgoing`: whole/specs/Calls.antt) the contracts speak; `old` that of the calls before churn detection, from which and to which a table is moved (M-106). That every
+-- call takes every input is no field here: the contracts ask nothing of a caller. `HeldMade` is in Run.antt, `Takes` in claims/specs/Run.antt.
 use Prim.Native.Nat.{ℕ, _-_, _≤_}
 use mathlib.Core.Path.{_≡_}
 use mathlib.Core.Logic.{_≢_}
 use mathlib.Core.Bool.{Bool, true, false}
 use mathlib.Core.List.{List, map}
+use mathlib.Core.Option.{Option}
 use Rattle.machine.specs.Mux.{isAttached, distributes}
 use Rattle.port.specs.declared.record.Port.{Port}
 use Rattle.port.specs.Compared.{compared}
@@ -15,78 +17,81 @@ use Rattle.trunk.specs.Selection.{ruleOf, sharesGroup}
 use Rattle.work.specs.Work.{worked}
 use Rattle.churn.specs.declared.watch.Monitors.{Monitors}
 use Rattle.churn.specs.Churn.{watching}
-use Rattle.churn.specs.Whole.{baseOf, monitorsAt}
+use Rattle.churn.specs.Whole.{monitorsAt}
 use Rattle.control.specs.declared.answer.Answer.the-variants.{Done, Refused}
 use Rattle.control.specs.declared.answer.Reason.{Reason}
 use Rattle.control.specs.declared.answer.Reason.the-variants.{Table}
 use Rattle.control.specs.Call.{Call, fetch, isStart}
 use Rattle.control.specs.After.{bufferOf}
-use Rattle.whole.specs.Calls.{wholeAnswer, wholeAfter, wholeOutgoing}
+use Rattle.whole.specs.Moves.{forwardAnswer, forwardTo, backAnswer, backTo}
 use Rattle.claims.specs.Run.{Takes}
 use Rattle.claims.specs.Lag.{lagAt}
 use Rattle.claims.specs.Locality.{touches}
 use Rattle.claims.specs.ReadBack.{Reads}
-use Rattle.promises.specs.Whole.{WholeMade}
+use Rattle.promises.specs.Run.{Held, new, Step, call, recordsOf, answerIn, outgoingIn, stepped, StepTakes, HeldMade, WholeMade}
+use Rattle.promises.specs.Churn.{churnIn}
 
 -- ---- words: ports by their numbers
 
-pub record IsPort (w : List ℕ) (n : ℕ) : Type 0 where
+pub record IsPort (h : Held) (n : ℕ) : Type 0 where
   pub some : 1 ≤ n
-  pub most : n ≤ countIn w
+  pub most : n ≤ countIn (recordsOf h)
 
--- a port's record, and the last group of it, its two monitors
-abbrev pub record-of : List ℕ → ℕ → Port
-record-of w n = portAt (baseOf w) (n - 1)
+-- a port's record, and the last group of it, its two monitors, where the form has them
+abbrev pub record-of : Held → ℕ → Port
+record-of h n = portAt (recordsOf h) (n - 1)
 
-abbrev pub monitors-of : List ℕ → ℕ → Monitors
-monitors-of w n = monitorsAt w (n - 1)
+abbrev pub monitors-of : Held → ℕ → Option Monitors
+monitors-of h n = churnIn (n - 1) h
 
-abbrev pub carries : List ℕ → ℕ → Bool
-carries w n = distributes (record-of w n .phase .mux)
+abbrev pub carries : Held → ℕ → Bool
+carries h n = distributes (record-of h n .phase .mux)
 
-abbrev pub attached : List ℕ → ℕ → Bool
-attached w n = isAttached (record-of w n .phase .mux)
+abbrev pub attached : Held → ℕ → Bool
+attached h n = isAttached (record-of h n .phase .mux)
 
 -- the aggregator that the selection rule gives port n, applied afresh to all records
-abbrev pub ruleGives : List ℕ → ℕ → ℕ
-ruleGives w n = ruleOf (ours (baseOf w)) (map compared (ports (baseOf w))) (n - 1)
+abbrev pub ruleGives : Held → ℕ → ℕ
+ruleGives h n = ruleOf (ours (recordsOf h)) (map compared (ports (recordsOf h))) (n - 1)
 
-abbrev pub inOneGroup : List ℕ → ℕ → ℕ → Bool
-inOneGroup w n m = sharesGroup (ours (baseOf w)) (map compared (ports (baseOf w))) (n - 1) (m - 1)
+abbrev pub inOneGroup : Held → ℕ → ℕ → Bool
+inOneGroup h n m = sharesGroup (ours (recordsOf h)) (map compared (ports (recordsOf h))) (n - 1) (m - 1)
 
 -- port m shares a group with port n neither before nor after the call
-pub record Strangers (c : Call) (w : List ℕ) (m n : ℕ) : Type 0 where
-  pub before : inOneGroup w m n ≡ false
-  pub then : sharesGroup (ours (baseOf w)) (map compared (ports (baseOf (wholeAfter c w)))) (m - 1) (n - 1) ≡ false
+pub record Strangers (c : Call) (h : Held) (m n : ℕ) : Type 0 where
+  pub before : inOneGroup h m n ≡ false
+  pub then : sharesGroup (ours (recordsOf h)) (map compared (ports (recordsOf (stepped (call c) h)))) (m - 1) (n - 1) ≡ false
 
 -- a port is as it was, in every field
-pub record AsItWas (c : Call) (w : List ℕ) (m : ℕ) : Type 0 where
-  pub fields : record-of (wholeAfter c w) m ≡ record-of w m
-  pub monitors : monitors-of (wholeAfter c w) m ≡ monitors-of w m
+pub record AsItWas (c : Call) (h : Held) (m : ℕ) : Type 0 where
+  pub fields : record-of (stepped (call c) h) m ≡ record-of h m
+  pub monitors : monitors-of (stepped (call c) h) m ≡ monitors-of h m
 
 -- ---- the demands
 
 pub record Demands : Type 0 where
-  -- 1: a refused call leaves the table as it came, and the outgoing buffer too, in any memory
-  pub refused-table : (w : List ℕ) (c : Call) (r : Reason) → wholeAnswer c w ≡ Refused r → wholeAfter c w ≡ w
-  pub refused-buffer : (w : List ℕ) (c : Call) (r : Reason) → wholeAnswer c w ≡ Refused r → wholeOutgoing c w ≡ bufferOf c
-  -- 2: what a start and calls made, a further call makes again, and none but a start is refused for the table
-  pub made : (w : List ℕ) → WholeMade w → (c : Call) → Takes c → WholeMade (wholeAfter c w)
-  pub unfaulted : (w : List ℕ) → WholeMade w → (c : Call) → isStart c ≡ false → wholeAnswer c w ≢ Refused Table
+  -- 1: a refused call leaves the table as it came, and the outgoing buffer too, in any memory; a refused move leaves its target
+  pub refused-table : (h : Held) (c : Call) (r : Reason) → answerIn c h ≡ Refused r → stepped (call c) h ≡ h
+  pub refused-buffer : (h : Held) (c : Call) (r : Reason) → answerIn c h ≡ Refused r → outgoingIn c h ≡ bufferOf c
+  pub refused-forward : (t u : List ℕ) (r : Reason) → forwardAnswer t u ≡ Refused r → forwardTo t u ≡ u
+  pub refused-back : (w u : List ℕ) (r : Reason) → backAnswer w u ≡ Refused r → backTo w u ≡ u
+  -- 2: what a start, calls and moves made, a further one makes again, and no call but a start is refused for the table
+  pub made : (h : Held) → HeldMade h → (s : Step) → StepTakes s → HeldMade (stepped s h)
+  pub unfaulted : (h : Held) → HeldMade h → (c : Call) → isStart c ≡ false → answerIn c h ≢ Refused Table
   -- and no work is left undone: the order of work once more, without an event, changes nothing, nor does one more run of a port's churn detection
-  pub finished : (w : List ℕ) → WholeMade w → worked (ours (baseOf w)) (map receiveRun (ports (baseOf w))) ≡ ports (baseOf w)
-  pub watched : (w : List ℕ) → WholeMade w → (n : ℕ) → IsPort w n → watching (record-of w n) (monitors-of w n) ≡ monitors-of w n
+  pub finished : (h : Held) → HeldMade h → worked (ours (recordsOf h)) (map receiveRun (ports (recordsOf h))) ≡ ports (recordsOf h)
+  pub watched : (w : List ℕ) → WholeMade w → (n : ℕ) → IsPort (new w) n → watching (record-of (new w) n) (monitorsAt w (n - 1)) ≡ monitorsAt w (n - 1)
   -- what a fetch sent reads back as the two blocks that it was written from
-  pub reads-back : (w : List ℕ) (n : ℕ) (out : List ℕ) → wholeAnswer (fetch n out) w ≡ Done → Reads (baseOf w) n (wholeOutgoing (fetch n out) w)
+  pub reads-back : (h : Held) (n : ℕ) (out : List ℕ) → answerIn (fetch n out) h ≡ Done → Reads (recordsOf h) n (outgoingIn (fetch n out) h)
   -- 3: every port holds the aggregator that the rule gives it now
-  pub aggregator : (w : List ℕ) → WholeMade w → (n : ℕ) → IsPort w n → record-of w n .aggregator ≡ ruleGives w n
+  pub aggregator : (h : Held) → HeldMade h → (n : ℕ) → IsPort h n → record-of h n .aggregator ≡ ruleGives h n
   -- who carries has a link that is up, and a partner in sync that collects
-  pub up : (w : List ℕ) → WholeMade w → (n : ℕ) → IsPort w n → carries w n ≡ true → record-of w n .line .up ≡ true
-  pub in-sync : (w : List ℕ) → WholeMade w → (n : ℕ) → IsPort w n → carries w n ≡ true → record-of w n .partner .state .synchronization ≡ true
-  pub collected : (w : List ℕ) → WholeMade w → (n : ℕ) → IsPort w n → carries w n ≡ true → record-of w n .partner .state .collecting ≡ true
+  pub up : (h : Held) → HeldMade h → (n : ℕ) → IsPort h n → carries h n ≡ true → record-of h n .line .up ≡ true
+  pub in-sync : (h : Held) → HeldMade h → (n : ℕ) → IsPort h n → carries h n ≡ true → record-of h n .partner .state .synchronization ≡ true
+  pub collected : (h : Held) → HeldMade h → (n : ℕ) → IsPort h n → carries h n ≡ true → record-of h n .partner .state .collecting ≡ true
   -- and whoever is attached to its aggregator is in one group with it: one Link Aggregation Group
-  pub group : (w : List ℕ) → WholeMade w → (n m : ℕ) → IsPort w n → IsPort w m → carries w n ≡ true → attached w m ≡ true
-      → record-of w m .aggregator ≡ record-of w n .aggregator → (inOneGroup w n m ≡ true) × (lagAt (baseOf w) (n - 1) ≡ lagAt (baseOf w) (m - 1))
+  pub group : (h : Held) → HeldMade h → (n m : ℕ) → IsPort h n → IsPort h m → carries h n ≡ true → attached h m ≡ true
+      → record-of h m .aggregator ≡ record-of h n .aggregator → (inOneGroup h n m ≡ true) × (lagAt (recordsOf h) (n - 1) ≡ lagAt (recordsOf h) (m - 1))
   -- a call changes no record but of ports that share a group, before or after it, with one that it touches
-  pub others-stay : (w : List ℕ) → WholeMade w → (c : Call) → Takes c → (m : ℕ) → IsPort w m
-      → ((n : ℕ) → IsPort w n → touches c (baseOf w) (n - 1) ≡ true → Strangers c w m n) → AsItWas c w m
+  pub others-stay : (h : Held) → HeldMade h → (c : Call) → Takes c → (m : ℕ) → IsPort h m
+      → ((n : ℕ) → IsPort h n → touches c (recordsOf h) (n - 1) ≡ true → Strangers c h m n) → AsItWas c h m

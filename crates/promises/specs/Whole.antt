@@ -1,45 +1,22 @@
--- Runs of the library's calls: a table with monitors is made if some accepted start on some memory, and then any list of calls, leaves it, refused calls
--- and further starts included. With the monitors dropped it is a table that the calls of `control` made (`Made`), by the same calls; so what `claims` proves of
--- those holds of its records.
+-- What every table that a run makes is like, and what a call is to its records: with the monitors dropped it is the call on the table without them, in each call and in
+-- each run. So what `claims` proves of tables without monitors holds of the records of every table, whatever moves came before.
 use Prim.Native.Nat.{ℕ, _<_}
 use mathlib.Core.Path.{_≡_}
 use mathlib.Core.Bool.{true}
-use mathlib.Core.List.{List, [], _∷_}
+use mathlib.Core.List.{List}
 use Rattle.octets.specs.Octets.{Octets}
-use Rattle.frame.specs.declared.block.SystemId.{SystemId}
-use Rattle.frame.specs.declared.wire.TensOfMicroseconds.{TensOfMicroseconds}
-use Rattle.settings.specs.declared.Settings.{Settings}
 use Rattle.table.specs.Table.{countIn, portAt}
 use Rattle.churn.specs.Churn.{watching}
 use Rattle.churn.specs.Whole.{baseOf, monitorsAt, hasMonitors}
 use Rattle.control.specs.declared.answer.Answer.the-variants.{Refused}
 use Rattle.control.specs.declared.answer.Reason.{Reason}
-use Rattle.control.specs.Accepted.{accepted}
-use Rattle.control.specs.Call.{Call, start}
+use Rattle.control.specs.Call.{Call}
 use Rattle.control.specs.After.{answer, after, bufferOf, outgoing}
 use Rattle.control.specs.Report.{aggregatorReport, dueReport}
-use Rattle.whole.specs.Calls.{wholeAnswer, wholeAfter, wholeOutgoing}
 use Rattle.whole.specs.Report.{wholeAggregator, wholeDue}
-use Rattle.claims.specs.Run.{Takes, AllTake, run, Made}
+use Rattle.claims.specs.Run.{Takes, run, Made}
 use Rattle.claims.specs.AtRest.{Sound}
-
--- call after call
-unfoldable pub wholeRun : List ℕ → List Call → List ℕ
-wholeRun w [] = w
-wholeRun w (c ∷ cs) = wholeRun (wholeAfter c w) cs
-
-pub record WholeMade (w : List ℕ) : Type 0 where
-  pub memory : List ℕ
-  pub octets : Octets memory
-  pub count : ℕ
-  pub system : SystemId
-  pub delay : TensOfMicroseconds
-  pub settings : Settings
-  pub takes : Takes (start count system delay settings)
-  pub starts : accepted (wholeAnswer (start count system delay settings) memory) ≡ true
-  pub calls : List Call
-  pub allTake : AllTake calls
-  pub gives : wholeRun (wholeAfter (start count system delay settings) memory) calls ≡ w
+use Rattle.promises.specs.Run.{Held, old, new, Step, call, recordsOf, answerIn, outgoingIn, stepped, through, AllStepsTake, callsOf, HeldMade, WholeMade}
 
 -- one more run of both machines of port i, from 0, on what stands changes nothing
 abbrev pub ChurnRests : List ℕ → ℕ → Type 0
@@ -52,32 +29,36 @@ pub record WholeSound (w : List ℕ) : Type 0 where
   pub base : Sound (baseOf w)
   pub rest : (i : ℕ) → i < countIn w → ChurnRests w i
 
-abbrev pub WholeNeverStuck : Type 0
-WholeNeverStuck = (w : List ℕ) → WholeMade w → WholeSound w
+abbrev pub HeldSound : Held → Type 0
+HeldSound (old t) = Sound t
+HeldSound (new w) = WholeSound w
+
+abbrev pub HeldNeverStuck : Type 0
+HeldNeverStuck = (h : Held) → HeldMade h → HeldSound h
 
 -- a refusal changes nothing, in any memory
-pub record WholeRefused (c : Call) (w : List ℕ) : Type 0 where
-  pub table : wholeAfter c w ≡ w
-  pub buffer : wholeOutgoing c w ≡ bufferOf c
+pub record HeldRefused (c : Call) (h : Held) : Type 0 where
+  pub table : stepped (call c) h ≡ h
+  pub buffer : outgoingIn c h ≡ bufferOf c
 
-abbrev pub WholeRefusals : Type 0
-WholeRefusals = (w : List ℕ) (c : Call) (r : Reason) → wholeAnswer c w ≡ Refused r → WholeRefused c w
+abbrev pub HeldRefusals : Type 0
+HeldRefusals = (h : Held) (c : Call) (r : Reason) → answerIn c h ≡ Refused r → HeldRefused c h
 
--- with the monitors dropped, each call is the call on the table with them dropped first
-pub record BaseCall (c : Call) (w : List ℕ) : Type 0 where
-  pub answers : wholeAnswer c w ≡ answer c (baseOf w)
-  pub leaves : baseOf (wholeAfter c w) ≡ after c (baseOf w)
-  pub sends : wholeOutgoing c w ≡ outgoing c (baseOf w)
+-- what a call does to the records, it does in either form
+pub record BaseCall (c : Call) (h : Held) : Type 0 where
+  pub answers : answerIn c h ≡ answer c (recordsOf h)
+  pub leaves : recordsOf (stepped (call c) h) ≡ after c (recordsOf h)
+  pub sends : outgoingIn c h ≡ outgoing c (recordsOf h)
 
 abbrev pub BaseCalls : Type 0
-BaseCalls = (w : List ℕ) → WholeMade w → (c : Call) → Takes c → BaseCall c w
+BaseCalls = (h : Held) → HeldMade h → (c : Call) → Takes c → BaseCall c h
 
--- so is each run, and what it leaves is a table that calls made
+-- so a run does to them what its calls do, moves or not, and what it leaves is a table that calls made
 abbrev pub BaseRuns : Type 0
-BaseRuns = (w : List ℕ) → WholeMade w → (cs : List Call) → AllTake cs → baseOf (wholeRun w cs) ≡ run (baseOf w) cs
+BaseRuns = (h : Held) → HeldMade h → (ss : List Step) → AllStepsTake ss → recordsOf (through h ss) ≡ run (recordsOf h) (callsOf ss)
 
 abbrev pub BaseMade : Type 0
-BaseMade = (w : List ℕ) → WholeMade w → Made (baseOf w)
+BaseMade = (h : Held) → HeldMade h → Made (recordsOf h)
 
 -- and the reports of aggregators and of what is due are those of that table
 pub record BaseReports (w : List ℕ) : Type 0 where

@@ -1,70 +1,112 @@
--- Two runs that have nothing in common but what the machines of one port look at: other counts of ports, systems, settings, frames and refused calls. So `two-runs` is not empty:
--- its premises are met here, by computation, and its conclusion is applied.
+-- Two runs that have nothing in common but what the machines of one port look at, and their moves: other counts of ports, systems, settings, frames, refused calls, and
+-- other calls while the table is of the old form. So `two-runs` is not empty: its premises are met here, by computation, and its conclusion is applied.
 use Prim.Native.Nat.{ℕ}
 use mathlib.Core.Path.{_≡_}
-use mathlib.Core.Bool.{true, false}
-use mathlib.Core.List.{List, [], _∷_, map}
-use lib.ListN.{length}
+use mathlib.Core.Bool.{Bool, true, false}
+use mathlib.Core.List.{List, [], _∷_}
+use mathlib.Core.Option.{Option, none, some}
 use Rattle.frame.specs.Wire.{zeros}
 use Rattle.machine.specs.States.{ticks}
-use Rattle.table.specs.Table.{countIn}
+use Rattle.table.specs.Layout.{tableSize}
+use Rattle.table.specs.Table.{countIn, portAt}
+use Rattle.churn.specs.declared.Stage.{Stage}
 use Rattle.churn.specs.declared.Stage.the-variants.{Start, Tick, Other}
 use Rattle.churn.specs.declared.watch.Monitors.{Monitors}
 use Rattle.churn.specs.declared.watch.Churn.the-variants.{Monitor}
 use Rattle.churn.specs.Churn.{watch, monitors}
-use Rattle.churn.specs.Whole.{wholeSize, monitorsAt}
+use Rattle.churn.specs.Whole.{wholeSize}
+use Rattle.control.specs.declared.answer.Answer.the-variants.{Lacpdu}
 use Rattle.control.specs.Accepted.{accepted}
 use Rattle.control.specs.Call.{Call, start, receive, tick, line, fetch, report}
-use Rattle.whole.specs.Calls.{wholeAnswer, wholeAfter}
+use Rattle.control.specs.After.{after}
+use Rattle.claims.specs.LivePartner.{NoneEnds, Live}
 use Rattle.claims.specs.Speakers.{system, noDelay, settings, keyedSettings, upFull, frame}
-use Rattle.promises.specs.Whole.{wholeRun}
-use Rattle.promises.specs.Churn.{seenAt, history, churns, shortened}
+use Rattle.promises.specs.Run.{Held, new, Step, call, forward, back, recordsOf, answerIn, stepped, through, callsOf}
+use Rattle.promises.specs.Churn.{Seen, seenIn, churnIn, Happening, history, churns, shortened}
+use Rattle.promises.specs.Through.{recordsAfter}
 
--- one port, in memory of zeros; it hears a partner that is not in sync, has a further start, and is reported
-abbrev pub memory : List ℕ
-memory = zeros (wholeSize 1)
+-- one port, in memory of zeros; it hears a partner that is not in sync, goes back to the old form, ticks there and comes forward, has a further start, and is reported
+abbrev pub memory : Held
+memory = new (zeros (wholeSize 1))
 
 abbrev pub begin : Call
 begin = start 1 (system 9) noDelay (settings false 0)
 
-abbrev pub calls : List Call
-calls = line 1 upFull ∷ tick ∷ receive 1 (frame 5 1 0x05 1 0x05) (zeros 124) ∷ tick ∷ begin ∷ tick ∷ report 1 ∷ line 1 upFull ∷ tick ∷ []
+abbrev pub heard : Call
+heard = receive 1 (frame 5 1 0x05 1 0x05) (zeros 124)
 
--- the second of two ports, of another system and with other settings; a fetch without room, a port that is not there, and a start of the wrong size
-abbrev pub memory2 : List ℕ
-memory2 = zeros (wholeSize 2)
+abbrev pub there-and-back : List Step
+there-and-back = call tick ∷ back (zeros (tableSize 1)) ∷ call tick ∷ forward (zeros (wholeSize 1)) ∷ call tick ∷ []
+
+abbrev pub steps : List Step
+steps =
+    call (line 1 upFull) ∷ call tick ∷ call heard ∷ call tick ∷ back (zeros (tableSize 1)) ∷ call tick ∷ forward (zeros (wholeSize 1)) ∷ call tick ∷ call begin ∷ call tick
+    ∷ call (report 1) ∷ call (line 1 upFull) ∷ call tick ∷ []
+
+-- the second of two ports, of another system and with other settings; a fetch without room, a move into memory that is too short, and a start of the wrong size
+abbrev pub memory2 : Held
+memory2 = new (zeros (wholeSize 2))
 
 abbrev pub begin2 : Call
 begin2 = start 2 (system 8) noDelay (keyedSettings 7 true 0x18)
 
-abbrev pub calls2 : List Call
-calls2 = line 2 upFull ∷ tick ∷ fetch 1 [] ∷ tick ∷ begin2 ∷ tick ∷ start 1 (system 8) noDelay (settings false 0) ∷ line 2 upFull ∷ tick ∷ []
+abbrev pub steps2 : List Step
+steps2 =
+    call (line 2 upFull) ∷ call tick ∷ call (fetch 1 []) ∷ call tick ∷ back (zeros (tableSize 2)) ∷ forward (zeros (wholeSize 1)) ∷ forward (zeros (wholeSize 2)) ∷ call tick ∷ call begin2 ∷ call tick
+    ∷ call (start 1 (system 8) noDelay (settings false 0)) ∷ call (line 2 upFull) ∷ call tick ∷ []
 
--- the same of it with calls left out
-abbrev pub calls3 : List Call
-calls3 = line 2 upFull ∷ tick ∷ tick ∷ begin2 ∷ tick ∷ line 2 upFull ∷ tick ∷ []
+-- the same of it with steps left out
+abbrev pub steps3 : List Step
+steps3 =
+    call (line 2 upFull) ∷ call tick ∷ call tick ∷ back (zeros (tableSize 2)) ∷ forward (zeros (wholeSize 2)) ∷ call tick ∷ call begin2 ∷ call tick ∷ call (line 2 upFull) ∷ call tick ∷ []
 
-abbrev pub both : ℕ → Monitors
-both n = monitors (watch Monitor (ticks n) 0) (watch Monitor (ticks n) 0)
+abbrev pub both : ℕ → Option Monitors
+both n = some (monitors (watch Monitor (ticks n) 0) (watch Monitor (ticks n) 0))
+
+-- the table with its link up, before it hears
+abbrev pub linked : Held
+linked = through memory (call begin ∷ call (line 1 upFull) ∷ call tick ∷ [])
+
+-- what happens to the port in both: what each step is, and the link, with neither Synchronization, where the table has monitors
+abbrev pub sees : Bool → Option Seen
+sees up = some (record { up = up; actor = false; partner = false })
+
+abbrev pub happens : Stage → Option Seen → Happening
+happens e x = record { event = e; seen = x }
+
+abbrev pub happened : List Happening
+happened =
+    happens Start (sees false) ∷ happens Other (sees true) ∷ happens Tick (sees true) ∷ happens Other (sees true) ∷ happens Tick (sees true) ∷ happens Other none ∷ happens Other none
+    ∷ happens Start (sees true) ∷ happens Tick (sees true) ∷ happens Start (sees false) ∷ happens Tick (sees false) ∷ happens Other (sees false) ∷ happens Other (sees true) ∷ happens Tick (sees true) ∷ []
+
+-- after the start, with steps left out
+abbrev pub left : List Happening
+left =
+    happens Other (sees true) ∷ happens Tick (sees true) ∷ happens Tick (sees true) ∷ happens Other none ∷ happens Start (sees true) ∷ happens Tick (sees true) ∷ happens Start (sees false)
+    ∷ happens Tick (sees false) ∷ happens Other (sees true) ∷ happens Tick (sees true) ∷ []
 
 pub record Witness : Type 0 where
-  pub accepted-one : accepted (wholeAnswer begin memory) ≡ true
-  pub accepted-two : accepted (wholeAnswer begin2 memory2) ≡ true
-  pub count-one : countIn (wholeAfter begin memory) ≡ 1
-  pub count-two : countIn (wholeAfter begin2 memory2) ≡ 2
-  -- a start and nine calls, with a start and ticks at their places
-  pub events : map (λ h. h .event) (history 0 memory (begin ∷ calls)) ≡ Start ∷ Other ∷ Tick ∷ Other ∷ Tick ∷ Start ∷ Tick ∷ Other ∷ Other ∷ Tick ∷ []
-  pub histories : history 0 memory (begin ∷ calls) ≡ history 1 memory2 (begin2 ∷ calls2)
-  -- the monitors run while the link is up, and stand at 600 where it is down
-  pub runs : churns 0 memory (begin ∷ calls)
-      ≡ both 600 ∷ both 600 ∷ both 599 ∷ both 599 ∷ both 598 ∷ both 600 ∷ both 600 ∷ both 600 ∷ both 600 ∷ both 599 ∷ []
-  -- with calls left out
-  pub seen-first : seenAt (wholeAfter begin memory) 0 ≡ seenAt (wholeAfter begin2 memory2) 1
-  pub shorter : shortened (seenAt (wholeAfter begin memory) 0) (history 0 (wholeAfter begin memory) calls)
-      ≡ shortened (seenAt (wholeAfter begin2 memory2) 1) (history 1 (wholeAfter begin2 memory2) calls3)
-  pub by-two : length (history 1 (wholeAfter begin2 memory2) calls3) ≡ 7
+  pub accepted-one : accepted (answerIn begin memory) ≡ true
+  pub accepted-two : accepted (answerIn begin2 memory2) ≡ true
+  pub count-one : countIn (recordsOf (stepped (call begin) memory)) ≡ 1
+  pub count-two : countIn (recordsOf (stepped (call begin2) memory2)) ≡ 2
+  -- a start and thirteen steps
+  pub history-one : history 0 memory (call begin ∷ steps) ≡ happened
+  pub history-two : history 1 memory2 (call begin2 ∷ steps2) ≡ happened
+  -- the monitors run while the link is up, stand at 600 where it is down, and begin afresh with the move forward
+  pub runs : churns 0 memory (call begin ∷ steps)
+      ≡ both 600 ∷ both 600 ∷ both 599 ∷ both 599 ∷ both 598 ∷ none ∷ none ∷ both 600 ∷ both 599 ∷ both 600 ∷ both 600 ∷ both 600 ∷ both 600 ∷ both 599 ∷ []
+  -- a start and ten of them
+  pub seen-one : seenIn 0 (stepped (call begin) memory) ≡ sees false
+  pub seen-two : seenIn 1 (stepped (call begin2) memory2) ≡ sees false
+  pub shorter-one : shortened (sees false) (history 0 (stepped (call begin) memory) steps) ≡ left
+  pub shorter-two : shortened (sees false) (history 1 (stepped (call begin2) memory2) steps3) ≡ left
+  -- an LACPDU is taken, and neither a tick nor a move ends what it said
+  pub taken : answerIn heard linked ≡ Lacpdu
+  pub none-ends : NoneEnds (after heard (recordsOf linked)) 0 (callsOf there-and-back)
 
 -- what follows by the theorems
 pub record Applied : Type 0 where
-  pub two-runs : churns 1 memory2 (begin2 ∷ calls2) ≡ churns 0 memory (begin ∷ calls)
-  pub two-runs-shortened : monitorsAt (wholeRun memory2 (begin2 ∷ calls3)) 1 ≡ monitorsAt (wholeRun memory (begin ∷ calls)) 0
+  pub two-runs : churns 1 memory2 (call begin2 ∷ steps2) ≡ churns 0 memory (call begin ∷ steps)
+  pub two-runs-shortened : churnIn 1 (through memory2 (call begin2 ∷ steps3)) ≡ churnIn 0 (through memory (call begin ∷ steps))
+  pub live : Live (frame 5 1 0x05 1 0x05) (portAt (recordsAfter (stepped (call heard) linked) there-and-back) 0)

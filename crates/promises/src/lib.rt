@@ -3,7 +3,7 @@
 ghost use mathlib.Core.Path.{_≡_};
 ghost use mathlib.Core.Bool.{true};
 ghost use Rattle.control.specs.Accepted.{accepted};
-ghost use Rattle.promises.specs.Whole.{WholeMade};
+ghost use Rattle.promises.specs.Run.{OldMade, WholeMade};
 use control::answer::Answer;
 use frame::block::SystemId;
 use frame::wire::TensOfMicroseconds;
@@ -55,4 +55,19 @@ pub fn fetch(table: &mut [u8], n: u32, out: &mut [u8]) -> Answer
     ensures { λ _. ⌜ WholeMade (now (table .exit)) ⌝ }
 {
     whole::fetch(table, n, out)
+}
+
+// A table of the old form that a run made, and any memory.
+pub fn forward(old: &[u8], new: &mut [u8]) -> Answer
+    requires { ⌜ OldMade (now old) ⌝ }
+    ensures { λ r. ⌜ (accepted r ≡ true → WholeMade (now (new .exit))) ⌝ }
+{
+    whole::forward(old, new)
+}
+
+pub fn back(new: &[u8], old: &mut [u8]) -> Answer
+    requires { ⌜ WholeMade (now new) ⌝ }
+    ensures { λ r. ⌜ (accepted r ≡ true → OldMade (now (old .exit))) ⌝ }
+{
+    whole::back(new, old)
 }

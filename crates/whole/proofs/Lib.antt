@@ -1,3 +1,4 @@
 pub mod CallLaws
 pub mod JoinLaws
 pub mod OneResult
+pub mod MoveLaws

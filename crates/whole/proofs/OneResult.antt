@@ -8,6 +8,7 @@ use Rattle.control.specs.declared.answer.AggregatorReport.{AggregatorReport}
 use Rattle.control.specs.declared.answer.DueReport.{DueReport}
 use Rattle.control.specs.Call.{Call}
 use Rattle.whole.specs.Meets.{Meets, MeetsOut, MeetsNumber, MeetsNumberOut, MeetsFrame, MeetsPort, MeetsRecord, MeetsAggregator, MeetsDue}
+use Rattle.whole.specs.Moves.{MeetsForwardNumber, MeetsBackNumber}
 use Rattle.whole.specs.Report.{wholeAggregator, wholeDue}
 
 -- both equal what the contract names
@@ -55,3 +56,12 @@ one-aggregator k w n m h i a b d e c f l g x y =
 
 pub one-due : (w : List ℕ) (n m p q : ℕ) → MeetsDue w n p → MeetsDue w m q → (n ≡ m) × (p ≡ q)
 one-due w n m p q x y = (same (x .0) (y .0), same (x .1) (y .1))
+
+-- ---- the moves: answer and target
+
+module _ (source lent : List ℕ) (n m : ℕ) (u v : List ℕ) where
+  pub one-forward : MeetsForwardNumber source lent n u → MeetsForwardNumber source lent m v → (n ≡ m) × (u ≡ v)
+  one-forward x y = (same (x .0) (y .0), same (x .1) (y .1))
+
+  pub one-back : MeetsBackNumber source lent n u → MeetsBackNumber source lent m v → (n ≡ m) × (u ≡ v)
+  one-back x y = (same (x .0) (y .0), same (x .1) (y .1))

@@ -1,3 +1,4 @@
 pub mod Calls
 pub mod Report
 pub mod Meets
+pub mod Moves

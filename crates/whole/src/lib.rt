@@ -13,6 +13,7 @@ ghost use Rattle.control.specs.Call.{start as Call·start, receive as Call·rec
 ghost use Rattle.control.specs.Answer.{isNumber};
 ghost use Rattle.whole.specs.Calls.{isWholeRoom, watchedIf};
 ghost use Rattle.whole.specs.Meets.{Meets, MeetsOut, MeetsPort};
+ghost use Rattle.whole.specs.Moves.{goesForward, goesBack, MeetsForward, MeetsBack};
 ghost use Rattle.whole.specs.Report.{wholeAggregator, wholeDue, wholePublished};
 use churn::Stage;
 use churn::group::GROUP;
@@ -239,4 +240,54 @@ pub fn table_size(count: u32) -> u32
         return 0;
     }
     churn::whole_size(count as usize) as u32
+}
+
+// ---- moves between the two forms of a table
+
+// Whether `old` is a table without monitors, and the other memory has the size of the same table with them.
+fn goes_forward(old: &[u8], new: &[u8]) -> bool
+    ensures { λ r. ⌜ r ≡ goesForward (now (old .entry)) (now (new .entry)) ⌝ }
+{
+    if !table::is_table(old) {
+        return false;
+    }
+    new.len() == churn::whole_size(old[0] as usize)
+}
+
+// A table without monitors is turned into one with them: they begin afresh and run once.
+pub fn forward(old: &[u8], new: &mut [u8]) -> Answer
+    ensures { λ r. ⌜ MeetsForward (now (old .entry)) (now (new .entry)) r (now (new .exit)) ⌝ }
+{
+    if !goes_forward(old, new) {
+        return Answer::Refused(Reason::Table);
+    }
+    octets::put(new, 0, old);
+    churn::watch_all(new, Stage::Start);
+    Answer::Done
+}
+
+// Whether `new` is a table with monitors, and the other memory has the size of the same table without them.
+fn goes_back(new: &[u8], old: &[u8]) -> bool
+    ensures { λ r. ⌜ r ≡ goesBack (now (new .entry)) (now (old .entry)) ⌝ }
+{
+    if !churn::has_monitors(new) {
+        return false;
+    }
+    let b = base_size(new);
+    if !table::is_table(&new[..b]) {
+        return false;
+    }
+    old.len() == b
+}
+
+// A table with monitors is turned into one without them.
+pub fn back(new: &[u8], old: &mut [u8]) -> Answer
+    ensures { λ r. ⌜ MeetsBack (now (new .entry)) (now (old .entry)) r (now (old .exit)) ⌝ }
+{
+    if !goes_back(new, old) {
+        return Answer::Refused(Reason::Table);
+    }
+    let b = base_size(new);
+    octets::put(old, 0, &new[..b]);
+    Answer::Done
 }

@@ -2,8 +2,8 @@
 use mathlib.Core.Path.{sym, subst}
 use denote.Ref.{now}
 use Rattle.control.specs.Call.{configure as Call·configure}
-use Rattle.promises.specs.Whole.{WholeMade}
-use Rattle.promises.proofs.Whole.{whole-made-call}
+use Rattle.promises.specs.Run.{WholeMade}
+use Rattle.promises.proofs.Run.{whole-made-call}
 use Rattle.promises.proofs.Typed.{settings-typed}
 use borrow.Author.Needs.{needs}
 use Rattle.promises.proofs.configure.Statement.{statement}

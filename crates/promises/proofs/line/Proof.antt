@@ -2,8 +2,8 @@
 use mathlib.Core.Path.{sym, subst}
 use denote.Ref.{now}
 use Rattle.control.specs.Call.{line as Call·line}
-use Rattle.promises.specs.Whole.{WholeMade}
-use Rattle.promises.proofs.Whole.{whole-made-call}
+use Rattle.promises.specs.Run.{WholeMade}
+use Rattle.promises.proofs.Run.{whole-made-call}
 use borrow.Author.Needs.{needs}
 use Rattle.promises.proofs.line.Statement.{statement}
 use Rattle.promises.proofs.line.Tie as tie

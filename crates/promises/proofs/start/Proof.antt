@@ -2,8 +2,8 @@
 use mathlib.Core.Path.{sym, ap, _∙_, subst}
 use denote.Ref.{now}
 use Rattle.control.specs.Call.{start as Call·start}
-use Rattle.promises.specs.Whole.{WholeMade}
-use Rattle.promises.proofs.Whole.{whole-made-start}
+use Rattle.promises.specs.Run.{WholeMade}
+use Rattle.promises.proofs.Run.{whole-made-start}
 use Rattle.table.specs.Range.{headerFits}
 use Rattle.octets.proofs.RangeLaws.{both-true}
 use Rattle.control.specs.declared.answer.Answer.{Answer}

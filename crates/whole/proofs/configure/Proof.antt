@@ -9,8 +9,7 @@ use Prim.Native.Nat.{ℕ, _-_}
 use mathlib.Core.Bool.{Bool, not, _&&_}
 use Rattle.settings.specs.Settings.{sameSettings}
 use Rattle.control.specs.Answer.{withDefault}
-use Rattle.table.specs.Layout.{place}
-use Rattle.table.specs.Table.{countIn, portAt}
+use Rattle.table.specs.Table.{portAt}
 use Rattle.control.specs.declared.answer.Answer.the-variants.{Done}
 use Rattle.control.specs.Accepted.{accepted}
 use Rattle.control.specs.After.{answer}

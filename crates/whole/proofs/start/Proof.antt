@@ -1,5 +1,5 @@
 -- `start` meets its contract: the base's start, and the machines begun. Assumes nothing.
-use mathlib.Core.Path.{_≡_, refl, sym, ap, _∙_}
+use mathlib.Core.Path.{_≡_, sym, ap, _∙_}
 use lib.ListN.{length, take}
 use lib.Seq.{length-take-le}
 use denote.Ref.{now}
@@ -7,7 +7,7 @@ use borrow.Author.Tests.{not-true, not-false}
 use Rattle.control.specs.Call as call
 use native.Mathlib.Omega.{arith}
 use Rattle.control.specs.Accepted.{accepted}
-use Rattle.whole.proofs.CallLaws.{roomless, finished, room-size, room-few, restarted}
+use Rattle.whole.proofs.CallLaws.{roomless, finished, room-size, restarted}
 use borrow.Author.Needs.{needs}
 use Rattle.whole.proofs.start.Statement.{statement}
 use Rattle.whole.proofs.start.Tie as tie
