@@ -35,8 +35,8 @@ wire:
 	rt staticlib myrkosti
 	tools/outside.sh wire
 
-# Not in the gate: two links to Open vSwitch, tick by tick: a trunk, cuts, silence, a link on which it never hears us, restarts; then a switch that
-# never sends, which must be found.
+# Not in the gate: two links to Open vSwitch, tick by tick: a trunk, cuts, silence, a link on which it never hears us, restarts, new firmware under the
+# trunk and its way back; then a switch that never sends and new firmware that starts anew or takes too long, which must be found.
 peers:
 	rt staticlib myrkosti
 	tools/outside.sh peers

@@ -32,7 +32,7 @@ extern "C" {
  * The version of this interface. Its high octet changes where a program that was compiled with the header of before no longer fits; its low octet
  * where something is added: a call, an answer, fields behind the others of a record. Ask myrkosti_fits at start.
  */
-#define MYRKOSTI_VERSION 0x0101
+#define MYRKOSTI_VERSION 0x0102
 
 #define MYRKOSTI_PORTS 32  /* the most ports that a table has */
 #define MYRKOSTI_HEADER 11 /* octets before the first record of a table */
@@ -43,11 +43,15 @@ extern "C" {
 /* The size of a table whose port count is a constant, of this version. myrkosti_table_size gives that of the library which is linked. */
 #define MYRKOSTI_TABLE(ports) (MYRKOSTI_HEADER + MYRKOSTI_RECORD * (ports))
 
+/* The same of a table of the old form, that of version 0x0100; myrkosti_old_table_size gives it too. */
+#define MYRKOSTI_OLD_RECORD 57 /* its records end before the churn states */
+#define MYRKOSTI_OLD_TABLE(ports) (MYRKOSTI_HEADER + MYRKOSTI_OLD_RECORD * (ports))
+
 /* ---- answers ---- */
 
 enum {
     MYRKOSTI_DONE = 0,            /* done */
-    MYRKOSTI_TABLE_WRONG = 1,     /* the memory is no table: its size or port count is wrong, or a field is out of range */
+    MYRKOSTI_TABLE_WRONG = 1,     /* the memory is no table: its size or port count is wrong, or a field is out of range (forward and back: below) */
     MYRKOSTI_NO_SUCH_PORT = 2,    /* no port, or no aggregator, has this number; they count from 1 */
     MYRKOSTI_BUFFER_SHORT = 3,    /* `out` is too short for a frame (receive and fetch) */
     MYRKOSTI_DEFAULT_WRONG = 4,   /* in the default partner block Collecting and Synchronization differ (start and settings) */
@@ -90,7 +94,7 @@ enum {
  *   58       churn state of the partner: whether its Synchronization does
  *   59-60    churn timer of the actor, in ticks: how long it has left
  *   61-62    churn timer of the partner
- *   63-66    churn count of the actor: how often it has churned since the start; after 4294967295 comes 0
+ *   63-66    churn count of the actor: how often it has churned since the start, or since the table was moved forward; after 4294967295 comes 0
  *   67-70    churn count of the partner
  */
 enum {
@@ -274,6 +278,30 @@ uint32_t myrkosti_port(const uint8_t *table, size_t table_len, uint32_t port, ui
 uint32_t myrkosti_aggregator(const uint8_t *table, size_t table_len, uint32_t aggregator,
                              uint32_t *holding, uint32_t *attached, uint32_t *distributing,
                              uint32_t *count, uint32_t *lowest);
+
+/* ---- new firmware under live trunks ---- */
+
+/*
+ * A library of version 0x0100 has tables of the old form: what today's are without their churn monitors (docs/TABLE.md). The two calls below turn a table of
+ * either form into the other, so that no trunk is dropped when new firmware is loaded, nor when a crew backs out of it. Make them between two calls on
+ * the table, whatever its ports are doing: each goes on where it stood. docs/GUIDE-FIRMWARE.md has the steps.
+ *
+ * They read the table from one memory and write it into another, every octet of it, whatever that held. The source stays as it is. Answers 0 or 1:
+ * the source is no table of the form asked for (its size, port count or a field is wrong; a table of the other form has a wrong size), or the
+ * memory to write has not just the size of the other form for as many ports. Nothing is written then, and the source is as good as it was.
+ */
+
+/* The octets that the memory of a table of the old form of `ports` ports has, no more and no less; 0 for a count outside 1 to 32. */
+uint32_t myrkosti_old_table_size(uint32_t ports);
+
+/*
+ * Turns a table of the old form into one of today's, of myrkosti_table_size octets. Churn counts are 0 then, and each monitor begins afresh and looks once:
+ * in Synchronization with the link up it is at NO_CHURN, and otherwise it has a minute ahead.
+ */
+uint32_t myrkosti_forward(const uint8_t *old_table, size_t old_len, uint8_t *new_table, size_t new_len);
+
+/* Turns a table into one of the old form, of myrkosti_old_table_size octets. What the monitors knew is dropped. */
+uint32_t myrkosti_back(const uint8_t *new_table, size_t new_len, uint8_t *old_table, size_t old_len);
 
 /* ---- the calls with names for their arguments ---- */
 

@@ -10,6 +10,11 @@ for test in calls churn; do
     "${run[@]}" target/c/$test
 done
 
+# Moves between the two forms of a table, with a library of yesterday beside that of today.
+tools/yesterday.sh
+compile tests/c/moves.c target/c/moves target/yesterday/yesterday.o
+"${run[@]}" target/c/moves
+
 # The header in each language, with every warning that the compiler has for one of them and that says something of it.
 warnings=(-Wshadow -Wconversion -Wsign-conversion -Wcast-qual -Wcast-align=strict -Wundef -Wredundant-decls -Wlogical-op -Wduplicated-cond
     -Wduplicated-branches -Wnull-dereference -Wdouble-promotion -Wformat=2 -Wswitch-enum -Wwrite-strings -Wunused-macros -Wfloat-equal -Winline)

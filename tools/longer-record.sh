@@ -6,26 +6,13 @@ set -eu
 cd "$(dirname "$0")/.."
 tools/install.sh valgrind valgrind
 work=$PWD/target/c/longer
-rm -rf "$work"
-mkdir -p "$work"
-cp -r crates "$work/crates"
-
-# change FILE OLD NEW: in a file of the copy, where OLD stands once
-change() {
-    local file=$work/crates/$1
-    [ "$(grep -cF -- "$2" "$file")" = 1 ] || { echo "$1: not one place for: $2" >&2; exit 1; }
-    python3 - "$file" "$2" "$3" << 'END'
-import pathlib, sys
-file, old, new = sys.argv[1:]
-path = pathlib.Path(file)
-path.write_text(path.read_text().replace(old, new))
-END
-}
+. tools/other-library.sh
 change churn/src/group.rt 'GROUP: usize = 14;' 'GROUP: usize = 18;'
 change churn/src/group.rt '    put_long(out, 10, partner.count);' \
     '    put_long(out, 10, partner.count); octets::put(out, 14, &[0xe1, 0xe2, 0xe3, 0xe4]);'
 change whole/src/lib.rt 'WHOLE_RECORD: usize = 71;' 'WHOLE_RECORD: usize = 75;'
-change myrkosti/src/lib.rt '    0x0101' '    0x0102'
+next=$(printf '0x%04x' $((version + 1)))
+call_it "$next"
 tools/bench/native.sh "$work/crates" "$work/native"
 
 # build HEADERS SOURCE PROGRAM
@@ -46,7 +33,8 @@ fits() {
     build "$work/$1" "$work/fits.c" "$work/fits"
     "$work/fits"
 }
-if ! fits 0x0100 || ! fits 0x0101 || ! fits 0x0102 || fits 0x0103 || fits 0x0002 || fits 0x0200; then
+later=$(printf '0x%04x' $((version + 2)))
+if ! fits 0x0100 || ! fits "$version" || ! fits "$next" || fits "$later" || fits 0x0002 || fits 0x0200; then
     echo 'failed: what fits' && exit 1
 fi
 echo 'a longer record: memory that is too short is seen, and so are headers that do not fit'

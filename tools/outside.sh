@@ -1,6 +1,6 @@
 #!/usr/bin/env bash
 # outside.sh wire|peers: a test of the library against programs of others. Installs them where they are missing, builds
-# tests/outside/switch.c with the library, and runs tests/outside/wire.py or peers.py over it.
+# tests/outside/switch.c with the library and one of yesterday, and runs tests/outside/wire.py or peers.py over it.
 set -eu
 cd "$(dirname "$0")/.."
 [ -f target/staticlib/libmyrkosti.a ] || rt staticlib myrkosti
@@ -14,5 +14,6 @@ peers)
     ;;
 esac
 . tools/x86.sh
-compile tests/outside/switch.c target/outside/switch
+tools/yesterday.sh
+compile tests/outside/switch.c target/outside/switch -Itests/c target/yesterday/yesterday.o
 exec /usr/bin/python3 -B "tests/outside/$1.py" "${run[@]}" target/outside/switch

@@ -96,3 +96,28 @@ define i32 @myrkosti_due(ptr %table, i64 %length, ptr %ports) nounwind {
   %answer = call i32 @"myrkosti::myrkosti_due"(ptr %lent, ptr %ports)
   ret i32 %answer
 }
+
+; ---- moves between the two forms of a table
+
+define i32 @myrkosti_old_table_size(i32 %ports) nounwind {
+  %answer = call i32 @"myrkosti::myrkosti_old_table_size"(i32 %ports)
+  ret i32 %answer
+}
+
+define i32 @myrkosti_forward(ptr %old, i64 %old_length, ptr %new, i64 %new_length) nounwind {
+  %lent_old = alloca [16 x i8], align 8
+  %lent_new = alloca [16 x i8], align 8
+  call void @lend(ptr %lent_old, ptr %old, i64 %old_length)
+  call void @lend(ptr %lent_new, ptr %new, i64 %new_length)
+  %answer = call i32 @"myrkosti::myrkosti_forward"(ptr %lent_old, ptr %lent_new)
+  ret i32 %answer
+}
+
+define i32 @myrkosti_back(ptr %new, i64 %new_length, ptr %old, i64 %old_length) nounwind {
+  %lent_new = alloca [16 x i8], align 8
+  %lent_old = alloca [16 x i8], align 8
+  call void @lend(ptr %lent_new, ptr %new, i64 %new_length)
+  call void @lend(ptr %lent_old, ptr %old, i64 %old_length)
+  %answer = call i32 @"myrkosti::myrkosti_back"(ptr %lent_new, ptr %lent_old)
+  ret i32 %answer
+}

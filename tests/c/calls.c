@@ -4,6 +4,7 @@
 #include "check.h"
 #include "monitors.h"
 #include "neighbour.h"
+#include "ranges.h"
 
 #include <stdio.h>
 #include <string.h>
@@ -461,17 +462,7 @@ static void refuse_due(const uint8_t *table, size_t length)
     IS(ports, 0);
 }
 
-/* an octet that is out of range there, whatever stands beside it */
-static const struct {
-    unsigned at;
-    uint8_t octet;
-} OUT_OF_RANGE[] = {
-    {MYRKOSTI_AT_RECEIVE, 6}, {MYRKOSTI_AT_PERIODIC, 4}, {MYRKOSTI_AT_MUX, 5}, {MYRKOSTI_AT_SELECTED, 2},
-    {MYRKOSTI_AT_AGGREGATOR, 0}, {MYRKOSTI_AT_AGGREGATOR, PORTS + 1}, {MYRKOSTI_AT_NTT, 2}, {MYRKOSTI_AT_LINK, 2},
-    {MYRKOSTI_AT_DUPLEX, 2}, {MYRKOSTI_AT_CURRENT_WHILE, 4}, {MYRKOSTI_AT_PERIODIC_TIMER, 2}, {MYRKOSTI_AT_WAIT_TIMER, 21},
-    {MYRKOSTI_AT_AGES, 11}, {MYRKOSTI_AT_AGES + 1, 11}, {MYRKOSTI_AT_AGES + 2, 254},
-    {MYRKOSTI_AT_ACTOR_CHURN, 3}, {MYRKOSTI_AT_PARTNER_CHURN, 3}, {MYRKOSTI_AT_ACTOR_CHURN_TIMER, 3}, {MYRKOSTI_AT_PARTNER_CHURN_TIMER, 3},
-};
+static const struct wrong_octet OUT_OF_RANGE[] = OUT_OF_RANGE_OF(PORTS);
 
 /* no table, no set, though both ports had something to send: another size, another port count, and each field of each port */
 static void refuse_to_say_what_is_due(void)

@@ -100,26 +100,26 @@ static struct monitor reported(enum which which)
 /* a start begins both, on every port, whatever the default block says: its ports are down */
 static void begin(void)
 {
-    const struct monitor begun = {MYRKOSTI_CHURN_MONITOR, MINUTE, 0};
     const uint8_t *const defaults[2] = {NOBODY, IN_SYNC};
     memset(table, 0xa5, SIZE);
     for (unsigned i = 0; i < 2; i++) {
         start(defaults[i]);
         for (int ticks = 0; ticks < 30; ticks++) { /* at tick 20 the ports attach, with Synchronization, and that does not end it while they are down */
             for (uint32_t port = 1; port <= PORTS; port++) {
-                check(same(monitor_of(table, PORTS, port, ACTOR), begun), "the actor's monitor waits for a link");
-                check(same(monitor_of(table, PORTS, port, PARTNER), begun), "the partner's monitor waits for a link");
+                check(same(monitor_of(table, PORTS, port, ACTOR), BEGUN), "the actor's monitor waits for a link");
+                check(same(monitor_of(table, PORTS, port, PARTNER), BEGUN), "the partner's monitor waits for a link");
             }
             pass(1);
         }
     }
 }
 
-/* a partner that is never in sync: its monitor runs for 600 ticks from the link on, and at the last of them it churns, once; ours ends as we attach */
-static void churn_after_a_minute(void)
+/* a link comes up to a partner that is never in sync: its monitor runs for 600 ticks from then on, and at the last of them it churns, once; ours ends as
+   we attach */
+static void come_up_unheard(bool full)
 {
     start(NOBODY);
-    line(true, true);
+    line(true, full);
     for (uint16_t ticks = 0; ticks < MINUTE; ticks++) {
         MONITORS(PARTNER, MYRKOSTI_CHURN_MONITOR, MINUTE - ticks, 0);
         MONITORS(ACTOR, ticks < 20 ? MYRKOSTI_CHURN_MONITOR : MYRKOSTI_NO_CHURN, ticks < 20 ? MINUTE - ticks : 0, 0);
@@ -130,6 +130,17 @@ static void churn_after_a_minute(void)
         MONITORS(ACTOR, MYRKOSTI_NO_CHURN, 0, 0);
         pass(1);
     }
+}
+
+static void churn_after_a_minute(void)
+{
+    come_up_unheard(true);
+}
+
+/* a port at half duplex is not disabled: its monitors run, from the call on in which it comes up */
+static void run_at_half_duplex(void)
+{
+    come_up_unheard(false);
 }
 
 /* the link falls: both begin anew, though we stay attached with Synchronization, and do not run until it is up; what was counted stays */
@@ -180,62 +191,55 @@ static void settle_and_fall_out(void)
     MONITORS(PARTNER, MYRKOSTI_CHURN_MONITOR, MINUTE, 1);
 }
 
-/* A partner out of sync until tick `last`, then silent, and given up 60 ticks later for a default partner that is in sync. */
-static void partner_settles(uint16_t last)
+/* a partner out of sync, and if it is not heard again given up 60 ticks later for the default one */
+static void hear_out_of_sync(uint16_t ticks)
 {
-    start(IN_SYNC);
-    line(true, true);
-    for (uint16_t ticks = 1; ticks < MINUTE; ticks++) {
-        pass(1);
-        if (ticks <= last && ticks % 10 == last % 10)
-            hear(OUT_OF_SYNC_STATE);
-    }
-    MONITORS(PARTNER, MYRKOSTI_CHURN_MONITOR, 1, 0);
-    pass(1);
+    (void)ticks;
+    hear(OUT_OF_SYNC_STATE);
 }
 
-/* A port that has another key again and again until tick `last`, and so attaches 20 ticks later. */
-static void actor_settles(uint16_t last)
+/* a key of its own for each tick, so that the port attaches 20 ticks after the last */
+static void take_another_key(uint16_t ticks)
 {
-    start(NOBODY);
+    IS(set(1, 1 + ticks, NOBODY), MYRKOSTI_DONE);
+}
+
+/* of each monitor, what keeps its end out of Synchronization, and the ticks after which it has settled */
+static const struct {
+    const uint8_t *assumed; /* of the partner, while it is not heard */
+    void (*disturb)(uint16_t ticks);
+    uint16_t settles;
+} HELD_UP[2] = {
+    [ACTOR] = {NOBODY, take_another_key, 20},
+    [PARTNER] = {IN_SYNC, hear_out_of_sync, 60},
+};
+
+/* the end is kept out of Synchronization until tick `last`, every second; then what comes with the last tick of the minute */
+static void settle_after(enum which which, uint16_t last)
+{
+    start(HELD_UP[which].assumed);
     line(true, true);
     for (uint16_t ticks = 1; ticks < MINUTE; ticks++) {
         pass(1);
         if (ticks <= last && ticks % 10 == last % 10)
-            IS(set(1, 1 + ticks, NOBODY), MYRKOSTI_DONE);
+            HELD_UP[which].disturb(ticks);
     }
-    MONITORS(ACTOR, MYRKOSTI_CHURN_MONITOR, 1, 0);
+    MONITORS(which, MYRKOSTI_CHURN_MONITOR, 1, 0);
     pass(1);
 }
 
 /* Synchronization at the very tick of expiry goes before it, and nothing is counted; a tick later it is too late */
 static void settle_at_the_last_tick(void)
 {
-    partner_settles(MINUTE - 60);
-    MONITORS(PARTNER, MYRKOSTI_NO_CHURN, 0, 0);
-    partner_settles(MINUTE - 59);
-    MONITORS(PARTNER, MYRKOSTI_CHURN, 0, 1);
-    pass(1);
-    MONITORS(PARTNER, MYRKOSTI_NO_CHURN, 0, 1);
-    actor_settles(MINUTE - 20);
-    MONITORS(ACTOR, MYRKOSTI_NO_CHURN, 0, 0);
-    actor_settles(MINUTE - 19);
-    MONITORS(ACTOR, MYRKOSTI_CHURN, 0, 1);
-    pass(1);
-    MONITORS(ACTOR, MYRKOSTI_NO_CHURN, 0, 1);
-}
-
-/* a port at half duplex is not disabled: its monitors run, from the call on in which it comes up */
-static void run_at_half_duplex(void)
-{
-    start(NOBODY);
-    line(true, false);
-    for (uint16_t ticks = 0; ticks < MINUTE; ticks++) {
-        MONITORS(PARTNER, MYRKOSTI_CHURN_MONITOR, MINUTE - ticks, 0);
+    for (enum which which = ACTOR; which <= PARTNER; which++) {
+        const uint16_t last = MINUTE - HELD_UP[which].settles;
+        settle_after(which, last);
+        MONITORS(which, MYRKOSTI_NO_CHURN, 0, 0);
+        settle_after(which, last + 1);
+        MONITORS(which, MYRKOSTI_CHURN, 0, 1);
         pass(1);
+        MONITORS(which, MYRKOSTI_NO_CHURN, 0, 1);
     }
-    MONITORS(PARTNER, MYRKOSTI_CHURN, 0, 1);
-    MONITORS(ACTOR, MYRKOSTI_NO_CHURN, 0, 0);
 }
 
 /* a change of duplex on an up port is one call, after which its link is up: it begins nothing anew, though ours does if the port detaches */

@@ -6,6 +6,7 @@
 
 #include "myrkosti.h"
 
+#include "any.h"
 #include "check.h"
 #include "neighbour.h"
 
@@ -120,6 +121,14 @@ static void say(uint8_t *from, uint8_t *to)
     }
 }
 
+/* nobody hears it */
+static void say_in_vain(uint8_t *from)
+{
+    uint8_t frame[MYRKOSTI_FRAME];
+    for (uint32_t port = 1; port <= PORTS; port++)
+        myrkosti_fetch(from, SIZE, port, frame, sizeof frame);
+}
+
 /* until neither has anything to say */
 static void talk(void)
 {
@@ -217,16 +226,6 @@ static int ticks_to_a_trunk(bool each)
             return ticks;
     }
     return -1;
-}
-
-static uint32_t state = 43;
-
-static uint32_t any(uint32_t below)
-{
-    state ^= state << 13;
-    state ^= state >> 17;
-    state ^= state << 5;
-    return state % below;
 }
 
 /* a call on A that is no tick and no start: mostly a frame, of one of two neighbours with one of two keys, which says this or that */
@@ -403,12 +402,10 @@ static void come_and_go(void)
 /* A sleeps for five seconds, as B sees it: B has stopped sending to A, and A does not know */
 static void fall_asleep(void)
 {
-    uint8_t frame[MYRKOSTI_FRAME];
     trunk_of_two();
     for (int ticks = 0; ticks < 50; ticks++) {
         tick(B);
-        for (uint32_t port = 1; port <= PORTS; port++)
-            myrkosti_fetch(B, SIZE, port, frame, sizeof frame); /* nobody hears it */
+        say_in_vain(B);
     }
     IS(carrying(B), 0);
     IS(carrying(A), 3);
@@ -717,6 +714,117 @@ static void killed(void)
     munmap(kept, sizeof *kept);
 }
 
+/* ---- new firmware under live trunks ---- */
+
+enum { OLD_SIZE = MYRKOSTI_OLD_TABLE(PORTS) };
+
+/*
+ * So many ticks after a trunk formed, A's table is moved back; A says and does nothing for a while, and goes on with the table moved forward. The first
+ * LACPDU after that may get lost. Whether B carries all along.
+ */
+static bool stands_through(int ticks, int pause, bool lost)
+{
+    uint8_t old[OLD_SIZE];
+    bool stands = true;
+    trunk_of_two();
+    pass(ticks);
+    IS(myrkosti_back(A, SIZE, old, sizeof old), MYRKOSTI_DONE);
+    for (int paused = 0; paused < pause; paused++) {
+        tick(B);
+        stands &= carrying(B) == 3;
+    }
+    IS(myrkosti_forward(old, sizeof old, A, SIZE), MYRKOSTI_DONE);
+    talk();
+    for (int after = 0; after < 40; after++) {
+        tick(A);
+        tick(B);
+        stands &= carrying(B) == 3;
+        if (lost && due(A) != 0) {
+            say_in_vain(A);
+            lost = false;
+        }
+        talk();
+    }
+    return stands;
+}
+
+/* a pause is added to the second between two LACPDUs, wherever in it A stops: B gives A up at the third second, and not before */
+static void load_in_time(void)
+{
+    for (int ticks = 0; ticks < 10; ticks++) {
+        IS(stands_through(ticks, 19, false), true);
+        IS(stands_through(ticks, 20, false), false);
+        IS(stands_through(ticks, 9, true), true);
+        IS(stands_through(ticks, 10, true), false);
+    }
+}
+
+/* one memory for a table of either form, and for the time of the call as much again as an old table has */
+static uint32_t forward_in_place(uint8_t *table, uint32_t ports)
+{
+    uint8_t scratch[MYRKOSTI_OLD_TABLE(MYRKOSTI_PORTS)];
+    const size_t old_len = myrkosti_old_table_size(ports);
+    memcpy(scratch, table, old_len);
+    return myrkosti_forward(scratch, old_len, table, myrkosti_table_size(ports));
+}
+
+static uint32_t back_in_place(uint8_t *table, uint32_t ports)
+{
+    uint8_t scratch[MYRKOSTI_OLD_TABLE(MYRKOSTI_PORTS)];
+    const size_t old_len = myrkosti_old_table_size(ports);
+    const uint32_t answer = myrkosti_back(table, myrkosti_table_size(ports), scratch, old_len);
+    if (answer == MYRKOSTI_DONE)
+        memcpy(table, scratch, old_len);
+    return answer;
+}
+
+/* the trunk goes on; a table that is of the other form, and so is refused, stays as it is */
+static void one_memory(void)
+{
+    uint8_t before[SIZE];
+    trunk_of_two();
+    IS(back_in_place(A, PORTS), MYRKOSTI_DONE);
+    memset(A + OLD_SIZE, 0xa5, SIZE - OLD_SIZE); /* somebody else's, until there is a table of today again */
+    memcpy(before, A, SIZE);
+    IS(back_in_place(A, PORTS), MYRKOSTI_TABLE_WRONG);
+    IS(forward_in_place(A, 0), MYRKOSTI_TABLE_WRONG);
+    IS(memcmp(A, before, SIZE), 0);
+    IS(forward_in_place(A, PORTS), MYRKOSTI_DONE);
+    IS(memcmp(A, before, OLD_SIZE), 0);
+    pass(60);
+    IS(carrying(A), 3);
+    IS(carrying(B), 3);
+}
+
+/* how many LACPDUs port 1 of A can send at once, with another key each time */
+static int sends_at_once(void)
+{
+    uint8_t frame[MYRKOSTI_FRAME];
+    int sends = 0;
+    for (uint16_t key = 2; key < 8; key++) {
+        set_key(A, 1, key);
+        sends += myrkosti_fetch(A, SIZE, 1, frame, sizeof frame) == MYRKOSTI_DONE;
+    }
+    return sends;
+}
+
+/* a table that was moved and gone on with is the one that counts: the source of before does not know what was sent since */
+static void kept_for_too_long(void)
+{
+    uint8_t kept[OLD_SIZE], old[OLD_SIZE];
+    trunk_of_two();
+    pass(9);
+    IS(myrkosti_back(A, SIZE, kept, sizeof kept), MYRKOSTI_DONE);
+    IS(myrkosti_forward(kept, sizeof kept, A, SIZE), MYRKOSTI_DONE);
+    const int sends = sends_at_once();
+    check(sends > 0 && sends <= 3, "three LACPDUs in a second at most");
+    IS(myrkosti_back(A, SIZE, old, sizeof old), MYRKOSTI_DONE);
+    IS(myrkosti_forward(old, sizeof old, A, SIZE), MYRKOSTI_DONE);
+    IS(sends_at_once(), 0);
+    IS(myrkosti_forward(kept, sizeof kept, A, SIZE), MYRKOSTI_DONE);
+    check(sends + sends_at_once() > 3, "with a table kept from before more go");
+}
+
 int main(void)
 {
     keep_what_could_not_be_sent();
@@ -735,6 +843,9 @@ int main(void)
     flapping_link();
     collects_never();
     leave();
+    load_in_time();
+    one_memory();
+    kept_for_too_long();
     killed();
     return finish("what the guide says");
 }

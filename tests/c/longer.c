@@ -119,6 +119,26 @@ static void carry(void)
     free(out);
 }
 
+/* back and forward while port 2 carries: a table has the library's own size, and one of this header's is refused */
+static void move(void)
+{
+    const size_t old_size = myrkosti_old_table_size(PORTS);
+    uint8_t *old = lend(old_size), *again = lend(size);
+    IS(old_size, MYRKOSTI_OLD_TABLE(PORTS));
+    IS(myrkosti_back(table, size, old, old_size), MYRKOSTI_DONE);
+    IS(memcmp(old, table, old_size), 0);
+    IS(myrkosti_forward(old, old_size, again, MYRKOSTI_TABLE(PORTS)), MYRKOSTI_TABLE_WRONG);
+    IS(myrkosti_forward(old, old_size, again, size), MYRKOSTI_DONE);
+    IS(memcmp(old, again, old_size), 0);
+    free(old);
+    free(table);
+    table = again;
+    look_at_the_whole();
+    IS(field(1, MYRKOSTI_AT_ACTOR_CHURN), MYRKOSTI_CHURN_MONITOR);
+    IS(field(HEARD, MYRKOSTI_AT_ACTOR_CHURN), MYRKOSTI_NO_CHURN);
+    IS(field(HEARD, MYRKOSTI_AT_MUX), MYRKOSTI_MUX_DISTRIBUTING);
+}
+
 int main(int words, char **word)
 {
     const struct myrkosti_system us = myrkosti_usual_system(ADDRESS);
@@ -133,6 +153,7 @@ int main(int words, char **word)
     IS(myrkosti_start_with(table, size, PORTS, &us, &settings), MYRKOSTI_DONE);
     look_at_the_whole();
     carry();
+    move();
     if (words > 1 && strcmp(word[1], "short") == 0) {
         uint8_t *record = lend(MYRKOSTI_RECORD - 1);
         myrkosti_port(table, size, 1, record, MYRKOSTI_RECORD);

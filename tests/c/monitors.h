@@ -22,6 +22,9 @@ struct monitor {
     uint32_t count;
 };
 
+/* as it begins: nothing is counted, and the minute is ahead */
+static const struct monitor BEGUN = {MYRKOSTI_CHURN_MONITOR, MINUTE, 0};
+
 /* a monitor of a port, as it lies in a table */
 static inline struct monitor monitor_of(const uint8_t *table, uint32_t ports, uint32_t port, enum which which)
 {
@@ -71,6 +74,16 @@ static inline void watch_all(uint8_t *table, uint32_t ports, bool tick)
             put_monitor(table, ports, port, which, watched(m, up, in_sync));
         }
     }
+}
+
+/* both machines of every port anew, and a run of them */
+static inline void begin_all(uint8_t *table, uint32_t ports)
+{
+    for (uint32_t port = 1; port <= ports; port++) {
+        put_monitor(table, ports, port, ACTOR, BEGUN);
+        put_monitor(table, ports, port, PARTNER, BEGUN);
+    }
+    watch_all(table, ports, false);
 }
 
 #endif

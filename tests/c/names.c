@@ -47,6 +47,7 @@ static void versions_and_sizes(void)
     IS(myrkosti_table_size(MYRKOSTI_PORTS + 1), 0);
     IS(MYRKOSTI_BLOCK_STATE + 1, MYRKOSTI_BLOCK);
     IS(MYRKOSTI_AT_PARTNER + MYRKOSTI_BLOCK, MYRKOSTI_AT_ACTOR_CHURN);
+    IS(MYRKOSTI_OLD_RECORD, MYRKOSTI_AT_ACTOR_CHURN);
     IS(MYRKOSTI_AT_PARTNER_CHURN_COUNT + 4, MYRKOSTI_RECORD);
     IS(myrkosti_fetch(table, SIZE, 1, out, sizeof out - 1), MYRKOSTI_BUFFER_SHORT);
     IS(myrkosti_fetch(table, SIZE, 1, out, sizeof out), MYRKOSTI_NOTHING_TO_SEND);
@@ -317,6 +318,22 @@ static void churn_octets(void)
     IS(myrkosti_port(table, SIZE, 1, record, sizeof record), MYRKOSTI_TABLE_WRONG);
 }
 
+/* ---- the old form ---- */
+
+/* there and back: a table that was just started has monitors that begin, so it is the same in every octet */
+static void moves(void)
+{
+    uint8_t old[MYRKOSTI_OLD_TABLE(PORTS)], again[SIZE];
+    start();
+    IS(myrkosti_old_table_size(PORTS), sizeof old);
+    IS(myrkosti_back(table, SIZE, old, sizeof old), MYRKOSTI_DONE);
+    IS(memcmp(old, table, sizeof old), 0);
+    IS(myrkosti_back(old, sizeof old, again, SIZE), MYRKOSTI_TABLE_WRONG);
+    IS(myrkosti_forward(old, sizeof old, again, SIZE - 1), MYRKOSTI_TABLE_WRONG);
+    IS(myrkosti_forward(old, sizeof old, again, SIZE), MYRKOSTI_DONE);
+    IS(memcmp(again, table, SIZE), 0);
+}
+
 /* ---- answers ---- */
 
 static uint32_t answer_to(const uint8_t *frame, size_t length)
@@ -370,6 +387,7 @@ int main(void)
     mux_states();
     churn_states();
     churn_octets();
+    moves();
     answers();
     return finish("names of the header");
 }

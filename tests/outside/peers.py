@@ -3,10 +3,14 @@
 A tick of ours is a tenth of a second of the neighbour's clock, which stands still otherwise; so each run is the same, and the ticks at which
 something must happen are exact. Each part below starts from a trunk of both links and leaves one.
 
-Then the first part runs again with a switch that never sends. It must fail: the neighbour must not come to use a link.
+Then new firmware is loaded under the trunk: a switch that began with the library of yesterday has its table moved to that of today, and back.
+
+Last come switches with which these parts must fail: one that never sends, so that the neighbour must not come to use a link, and some that load new
+firmware in a way that the neighbour must notice.
 """
 
 import tempfile
+from contextlib import contextmanager
 
 from neighbour import KEY, MEMBERS, SYSTEM, SYSTEM_PRIORITY, Neighbour
 from switch import (CHURN, CHURN_MONITOR, CURRENT, DEFAULTED, DONE, EXPIRED, LACP_OFF, NO_CHURN, NOBODY, SLOW_ADDRESS, Aggregator, Block,
@@ -22,6 +26,8 @@ SETTINGS = Settings(bytes.fromhex("02005e102030"), 0x0099, 0x0088, True, True, T
 FAST, SLOW, SHORT, LONG, WAIT, MINUTE = 10, 300, 30, 900, 20, 600
 # In this time two ends that can hear each other have a trunk: one of them sends, and then Ready is waited for.
 SOON = FAST + WAIT
+# So long our switch may stand still: the next LACPDU comes a second and this after the one before, within the neighbour's short Timeout.
+PAUSE = SHORT - FAST - 1
 
 
 def other(port):
@@ -88,6 +94,13 @@ class World:
         self.neighbour.warp()
         self.settle()
 
+    def stand_still(self, ticks, what):
+        """Our switch does nothing for so long, and what the neighbour sends waits; what is to hold is checked after each tick."""
+        for _ in range(ticks):
+            self.now += 1
+            self.neighbour.warp()
+            what()
+
     def until(self, tick, *what):
         """Ticks up to the one given; what is to hold is checked after each."""
         while self.now < tick:
@@ -108,6 +121,13 @@ class World:
         """The ports of ours whose link the neighbour uses."""
         members = self.neighbour.members()
         return {port for port, name in self.cables.items() if members[name].carries()}
+
+    def theirs_stays(self):
+        """A check: the neighbour says of each link what it says now, in every word."""
+        def says():
+            return {name: vars(member) for name, member in self.neighbour.members().items()}
+        before = says()
+        return lambda: self.equal("what the neighbour says of its links", says(), before)
 
     def ours_is(self, trunks):
         """A check: which ports of ours distribute, on which aggregator."""
@@ -189,14 +209,31 @@ def tally(world):
     return [(world.sent[port], world.came[port], *world.neighbour.counts(name)) for port, name in world.cables.items()]
 
 
-def lasts(world):
-    """Ten seconds: nothing changes, each end sends once a second, as the other's short Timeout asks, and the neighbour takes every frame."""
-    before = tally(world)
-    world.until(world.now + 100, world.ours_is({FIRST: BOTH}), world.theirs_is(BOTH))
-    each = 100 // FAST
+def lasts(world, ticks=100, *what):
+    """For ten seconds, or as long as is said, nothing changes, each end sends once a second, as the other's short Timeout asks, and the neighbour takes
+    every frame."""
+    before, each = tally(world), ticks // FAST
+    world.until(world.now + ticks, world.ours_is({FIRST: BOTH}), world.theirs_is(BOTH), *what)
     for (sent, came, taken, _), counted in zip(before, tally(world), strict=True):
         world.equal("frames sent, come, taken by the neighbour, found bad by it", counted, (sent + each, came + each, taken + each, 0))
     return comes_back(world)
+
+
+def changed(world, change, pause):
+    """Our switch stands still for a while and is changed between two ticks. Gives a check, made meanwhile too: the neighbour says what it said before."""
+    stays = world.theirs_stays()
+    world.stand_still(pause, stays)
+    change()
+    world.settle()
+    return stays
+
+
+def moved(world, move, pause=0):
+    """The table takes the other form, and the library of that form goes on with it: for 30 seconds the neighbour notices nothing, and we send nothing more."""
+    sent = dict(world.sent)
+    stays = changed(world, move, pause)
+    world.equal("frames of ours before the next tick", world.sent, sent)
+    return lasts(world, 300, stays)
 
 
 def comes_back(world, *what):
@@ -352,20 +389,37 @@ PARTS = (
     ("the neighbour crashes and is back at once", quick_crash),
 )
 
+NEW_FIRMWARE = (
+    ("both links come up at a switch with the library of yesterday", forms),
+    ("its table is moved forward", lambda world: moved(world, world.switch.forward)),
+    ("the second link is cut", lambda world: cut(world, SECOND)),
+    ("its table is moved back", lambda world: moved(world, world.switch.back)),
+    ("the first link is silent", silence_on_first),
+    ("it stands still, and is moved forward", lambda world: moved(world, world.switch.forward, PAUSE)),
+    ("it stands still, and is moved back", lambda world: moved(world, world.switch.back, PAUSE)),
+)
 
-def all_parts(world):
-    """Everything, on a switch that answers."""
+
+def all_parts(world, parts):
+    """These parts, one after the other."""
     print(f"before any frame: negotiated {world.neighbour.negotiated()}, in use {world.theirs() or 'nothing'}")
-    for name, part in PARTS:
+    for name, part in parts:
         failed = world.checks.failed
         ticks = part(world)
         print(f"{name}: {'right' if world.checks.failed == failed else 'WRONG'}; ticks from its end to a trunk of both links: {ticks}", flush=True)
 
 
-def never_answers(command, checks):
+@contextmanager
+def between(command, checks):
+    """A world of a switch and a neighbour that are new."""
+    with tempfile.TemporaryDirectory(prefix="peers.") as folder, Neighbour(folder) as neighbour, Switch(command) as switch:
+        yield World(switch, neighbour, checks)
+
+
+def never_answers(command):
     """The first part on a switch that never sends: whether the check fails, and no link is in use at either end for ten seconds more."""
-    with tempfile.TemporaryDirectory(prefix="peers.") as folder, Neighbour(folder) as neighbour, Switch([*command, "--mute"]) as switch:
-        world = World(switch, neighbour, checks)
+    checks = Checks(quiet=True)
+    with between([*command, "--mute"], checks) as world:
         forms(world)
         for line in missing(world):
             print(f"  a switch that never sends: {line}")
@@ -374,16 +428,44 @@ def never_answers(command, checks):
         return checks.failed > 0 and not any(in_use)
 
 
+def starts_anew(world):
+    """New firmware that knows of no move: it starts its table, and tells it of the links."""
+    world.switch.start(PORTS, OURS, SETTINGS)
+    for port in BOTH:
+        world.switch.line(port, up=True, full=True)
+
+
+def is_noticed(command, change, pause):
+    """Whether the neighbour says something else within three seconds, after a trunk stood, of a switch that is changed so and stands still for so long."""
+    checks = Checks(quiet=True)
+    with between([*command, "--yesterday"], checks) as world:
+        forms(world)
+        stood = checks.failed == 0
+        stays = changed(world, lambda: change(world), pause)
+        world.until(world.now + SHORT, stays)
+        return stood and checks.failed > 0
+
+
+# What must be found out, and how.
+WRONG = (
+    ("a switch that never sends", never_answers),
+    ("new firmware that starts its table anew", lambda command: is_noticed(command, starts_anew, 0)),
+    ("new firmware that takes three seconds", lambda command: is_noticed(command, lambda world: world.switch.forward(), SHORT)),
+)
+
+
 def peers(command):
     """Everything, and the last line; whether all is well."""
-    checks = Checks()
-    with tempfile.TemporaryDirectory(prefix="peers.") as folder, Neighbour(folder) as neighbour, Switch(command) as switch:
-        world = World(switch, neighbour, checks)
-        all_parts(world)
-        print(f"{world.now} ticks, {sum(world.sent.values())} frames of ours, {sum(world.came.values())} of the neighbour's")
-    caught = never_answers(command, Checks(quiet=True))
-    print(f"peers: {checks.passed} checks passed, {checks.failed} failed; a switch that never sends was {'' if caught else 'NOT '}found out")
-    return checks.failed == 0 and caught
+    checks, ticks, ours, theirs = Checks(), 0, 0, 0
+    for words, parts in ((command, PARTS), ([*command, "--yesterday"], NEW_FIRMWARE)):
+        with between(words, checks) as world:
+            all_parts(world, parts)
+            ticks, ours, theirs = ticks + world.now, ours + sum(world.sent.values()), theirs + sum(world.came.values())
+    print(f"{ticks} ticks, {ours} frames of ours, {theirs} of the neighbour's")
+    missed = [name for name, found in WRONG if not found(command)]
+    print(f"peers: {checks.passed} checks passed, {checks.failed} failed;",
+          f"NOT found out: {', '.join(missed)}" if missed else f"found out: {', '.join(name for name, _ in WRONG)}")
+    return checks.failed == 0 and not missed
 
 
 if __name__ == "__main__":

@@ -11,10 +11,14 @@
  *   fetch PORT                        answer, LACPDU
  *   port PORT                         answer, record
  *   aggregator NUMBER                 answer, holding, attached, distributing, count, lowest
+ *   forward, back                     the table is moved to the other form, and the library of that form makes the calls from then on
  *
- * With the argument --mute it never sends: nothing is due, a fetch finds nothing, and a Marker gets no Response. A line that it cannot read ends it.
+ * With the argument --mute it never sends: nothing is due, a fetch finds nothing, and a Marker gets no Response. With --yesterday it begins with the
+ * library of yesterday, whose records have zeros where today's have churn fields. A line that it cannot read ends it.
  */
 #include "myrkosti.h"
+
+#include "yesterday.h"
 
 #include <stdio.h>
 #include <stdlib.h>
@@ -22,6 +26,7 @@
 
 enum { LINE = 8192, FRAME = 2048 };
 
+static const struct library *library = &TODAY;
 static uint8_t table[MYRKOSTI_TABLE(MYRKOSTI_PORTS)];
 static size_t size;
 static bool mute;
@@ -116,28 +121,27 @@ static void do_start(void)
     exactly(system, sizeof system);
     uint16_t delay = (uint16_t)number(UINT16_MAX);
     struct settings s = settings();
-    size = myrkosti_table_size(ports);
-    say(myrkosti_start(table, size, ports, priority, system, delay, s.address, s.key, s.priority, s.activity, s.timeout, s.aggregation,
-                       s.partner));
+    size = library->table_size(ports);
+    say(library->start(table, size, ports, priority, system, delay, s.address, s.key, s.priority, s.activity, s.timeout, s.aggregation, s.partner));
 }
 
 static void do_settings(void)
 {
     uint32_t port = number(UINT32_MAX);
     struct settings s = settings();
-    say(myrkosti_settings(table, size, port, s.address, s.key, s.priority, s.activity, s.timeout, s.aggregation, s.partner));
+    say(library->settings(table, size, port, s.address, s.key, s.priority, s.activity, s.timeout, s.aggregation, s.partner));
 }
 
 static void do_line(void)
 {
     uint32_t port = number(UINT32_MAX);
     bool up = flag();
-    say(myrkosti_line(table, size, port, up, flag()));
+    say(library->line(table, size, port, up, flag()));
 }
 
 static void do_tick(void)
 {
-    say(myrkosti_tick(table, size));
+    say(library->tick(table, size));
 }
 
 static void do_receive(void)
@@ -145,13 +149,13 @@ static void do_receive(void)
     uint8_t frame[FRAME], out[MYRKOSTI_FRAME];
     uint32_t sent, port = number(UINT32_MAX);
     size_t length = octets(frame, sizeof frame);
-    uint32_t answer = myrkosti_receive(table, size, port, frame, length, out, sizeof out, &sent);
+    uint32_t answer = library->receive(table, size, port, frame, length, out, sizeof out, &sent);
     say_octets(answer, out, mute ? 0 : sent);
 }
 
 static void do_due(void)
 {
-    uint32_t ports, answer = myrkosti_due(table, size, &ports);
+    uint32_t ports, answer = library->due(table, size, &ports);
     printf("%u %u\n", (unsigned)answer, mute ? 0 : (unsigned)ports);
 }
 
@@ -159,23 +163,47 @@ static void do_fetch(void)
 {
     uint8_t out[MYRKOSTI_FRAME];
     uint32_t port = number(UINT32_MAX);
-    uint32_t answer = mute ? MYRKOSTI_NOTHING_TO_SEND : myrkosti_fetch(table, size, port, out, sizeof out);
+    uint32_t answer = mute ? MYRKOSTI_NOTHING_TO_SEND : library->fetch(table, size, port, out, sizeof out);
     say_octets(answer, out, answer == MYRKOSTI_DONE ? sizeof out : 0);
 }
 
 static void do_port(void)
 {
-    uint8_t record[MYRKOSTI_RECORD];
-    uint32_t answer = myrkosti_port(table, size, number(UINT32_MAX), record, sizeof record);
+    uint8_t record[MYRKOSTI_RECORD] = {0};
+    uint32_t answer = library->port(table, size, number(UINT32_MAX), record, sizeof record);
     say_octets(answer, record, sizeof record);
 }
 
 static void do_aggregator(void)
 {
     uint32_t holding, attached, distributing, count, lowest;
-    uint32_t answer = myrkosti_aggregator(table, size, number(UINT32_MAX), &holding, &attached, &distributing, &count, &lowest);
+    uint32_t answer = library->aggregator(table, size, number(UINT32_MAX), &holding, &attached, &distributing, &count, &lowest);
     printf("%u %u %u %u %u %u\n", (unsigned)answer, (unsigned)holding, (unsigned)attached, (unsigned)distributing, (unsigned)count,
            (unsigned)lowest);
+}
+
+/* the table in the form of the other library, which goes on with it unless the move is refused */
+static void change_library(const struct library *other, uint32_t (*move)(const uint8_t *, size_t, uint8_t *, size_t))
+{
+    uint8_t target[sizeof table];
+    const size_t target_size = other->table_size(table[0]);
+    const uint32_t answer = move(table, size, target, target_size);
+    if (answer == MYRKOSTI_DONE) {
+        memcpy(table, target, target_size);
+        size = target_size;
+        library = other;
+    }
+    say(answer);
+}
+
+static void do_forward(void)
+{
+    change_library(&TODAY, myrkosti_forward);
+}
+
+static void do_back(void)
+{
+    change_library(&YESTERDAY, myrkosti_back);
 }
 
 static const struct {
@@ -184,6 +212,7 @@ static const struct {
 } COMMANDS[] = {
     {"start", do_start}, {"settings", do_settings}, {"line", do_line}, {"tick", do_tick},
     {"receive", do_receive}, {"due", do_due}, {"fetch", do_fetch}, {"port", do_port}, {"aggregator", do_aggregator},
+    {"forward", do_forward}, {"back", do_back},
 };
 
 static void obey(char *line)
@@ -201,6 +230,8 @@ int main(int count, char **arguments)
 {
     static char line[LINE];
     mute = count == 2 && strcmp(arguments[1], "--mute") == 0;
+    if (count == 2 && strcmp(arguments[1], "--yesterday") == 0)
+        library = &YESTERDAY;
     setvbuf(stdout, NULL, _IOLBF, 0);
     while (fgets(line, sizeof line, stdin) != NULL)
         obey(line);

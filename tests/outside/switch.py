@@ -209,6 +209,15 @@ class Switch:
         return Aggregator(members(holding), members(attached), members(distributing), count, lowest)
 
 
+    def forward(self):
+        """Moves the table from the form of yesterday's library to that of today's, which goes on with it."""
+        self.done("forward")
+
+    def back(self):
+        """Moves it back, and yesterday's library goes on."""
+        self.done("back")
+
+
 class Checks:
     """Counts what holds, and prints what does not unless it is quiet."""
 

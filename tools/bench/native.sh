@@ -1,7 +1,8 @@
 #!/usr/bin/env bash
-# native.sh [CRATES WORK]: compiles the library of the folder CRATES, without its proofs, for the machine at hand into WORK/libmyrkosti.a: to measure
-# it where that is no x86-64 (target/bench/native), or to try one that is changed, and for nothing else. The kit builds for x86-64 alone, so the module is caught on its way: `rt try` compiles a program without its proofs and
-# calls the kit's clang, and a stand-in for that clang keeps the module. The program is crates/myrkosti with an empty main.
+# native.sh [CRATES WORK [EXPORTS]]: compiles the library of the folder CRATES, without its proofs, for the machine at hand into WORK/libmyrkosti.a: to measure
+# it where that is no x86-64 (target/bench/native), or to try one that is changed, and for nothing else. The kit builds for x86-64 alone, so the module is
+# caught on its way: `rt try` compiles a program without its proofs and calls the kit's clang, and a stand-in for that clang keeps the module. The program is
+# crates/myrkosti with an empty main. EXPORTS has the C functions, where they are not those of tests/bench/exports.ll.
 # The module is also compiled for x86-64, into x86-64.o, to be held against the archive.
 set -eu
 cd "$(dirname "$0")/../.."
@@ -9,6 +10,7 @@ home=${RATTLE_HOME:-$(dirname "$(dirname "$(readlink -f "$(command -v rt)")")")}
 machine=$(uname -m)
 crates=${1:-$PWD/crates}
 work=${2:-$PWD/target/bench/native}
+exports=${3:-tests/bench/exports.ll}
 clang=$home/on/$machine/toolchain/bin/clang
 
 # Links in DIR to everything in FROM but NAME.
@@ -42,7 +44,7 @@ cp crates.txt "$repository/"
 # As text, with the exported functions behind it, and without a main and the words that name x86-64.
 "$clang" -S -emit-llvm -x ir "$work/module.bc" -O0 -Xclang -disable-llvm-passes -Wno-override-module -o "$work/module.ll"
 sed -e 's/^define i32 @main(/define internal i32 @main(/' -e '/^target /d' -e 's/ "target-cpu"="x86-64"//' "$work/module.ll" > "$work/library.ll"
-cat tests/bench/exports.ll >> "$work/library.ll"
+cat "$exports" >> "$work/library.ll"
 
 # The words are the kit's own for a static library, but for the machine.
 compile() { # TARGET OBJECT [WORDS...]

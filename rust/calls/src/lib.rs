@@ -83,6 +83,15 @@ pub enum Report {
     Due,
     /// The version of the interface, in place of an answer. Looks at no table.
     Version,
+    /// The octets of the memory of a table of that many ports in the old form, else as [`Report::TableSize`].
+    OldTableSize {
+        /// Port count.
+        ports: u32,
+    },
+    /// The table, of the old form, is written in the new form into the memory lent for that, if this has just the size. Answers 0 or 1.
+    Forward,
+    /// The table, of the new form, is written in the old form, else as [`Report::Forward`].
+    Back,
 }
 
 /// Settings as the calls take them.
@@ -105,8 +114,22 @@ pub struct SettingsArguments {
 }
 
 /// The names of the calls, each at its number.
-pub const NAMES: [&str; 11] =
-    ["table_size", "start", "receive", "tick", "line", "settings", "fetch", "port", "aggregator", "due", "version"];
+pub const NAMES: [&str; 14] = [
+    "table_size",
+    "start",
+    "receive",
+    "tick",
+    "line",
+    "settings",
+    "fetch",
+    "port",
+    "aggregator",
+    "due",
+    "version",
+    "old_table_size",
+    "forward",
+    "back",
+];
 
 impl Call<'_> {
     /// The call's number: its place in [`NAMES`], and what the bridge knows it by.
@@ -123,6 +146,9 @@ impl Call<'_> {
             Call::Report(Report::Aggregator { .. }) => 8,
             Call::Report(Report::Due) => 9,
             Call::Report(Report::Version) => 10,
+            Call::Report(Report::OldTableSize { .. }) => 11,
+            Call::Report(Report::Forward) => 12,
+            Call::Report(Report::Back) => 13,
         }
     }
 }
@@ -167,7 +193,8 @@ pub struct Request<'a> {
     pub call: Call<'a>,
     /// The table.
     pub table: Vec<u8>,
-    /// The outgoing buffer of receive and fetch, or the memory for a port's record; other calls have none.
+    /// The outgoing buffer of receive and fetch, the memory for a port's record, or that into which a table is moved; other calls have
+    /// none.
     pub out: Vec<u8>,
 }
 
@@ -178,7 +205,7 @@ pub struct Reply {
     pub outcome: Outcome,
     /// The table after the call.
     pub table: Vec<u8>,
-    /// The buffer, or the memory for a record, after the call.
+    /// The buffer, the memory for a record or that of a moved table, after the call.
     pub out: Vec<u8>,
 }
 

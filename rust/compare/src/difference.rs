@@ -5,6 +5,9 @@ use crate::world::{place, BASE, CHURN, HEADER};
 use calls::{Call, Reply, Report, Request};
 use std::fmt::Write;
 
+/// What the memory is called into which a table is moved.
+const MOVED: &str = "moved table";
+
 fn hex(octets: &[u8]) -> String {
     octets.iter().fold(String::new(), |mut text, octet| {
         let _ = write!(text, "{octet:02X}");
@@ -18,16 +21,16 @@ fn line<T: PartialEq + std::fmt::Debug>(text: &mut String, what: &str, model: &T
     }
 }
 
-/// The fields of a table that differ, with what they held before.
-fn tables(text: &mut String, before: &[u8], model: &[u8], library: &[u8]) {
-    line(text, "octets of the table", &model.len(), &library.len());
+/// The fields of a table, so called, that differ, with what they held before.
+fn tables(text: &mut String, called: &str, before: &[u8], model: &[u8], library: &[u8]) {
+    line(text, &format!("octets of the {called}"), &model.len(), &library.len());
     if model.get(..HEADER) != library.get(..HEADER) {
         let header = |table: &[u8]| hex(table.get(..HEADER).unwrap_or_default());
         let _ =
             writeln!(text, "  header: before {}, model {}, library {}", header(before), header(model), header(library));
     }
     if let Some(first) = model.iter().zip(library).position(|(model, library)| model != library) {
-        let _ = writeln!(text, "  octet {first} of the table is the first that differs");
+        let _ = writeln!(text, "  octet {first} of the {called} is the first that differs");
     }
     let ports = model.first().copied().map_or(0, usize::from);
     for port in 0..ports {
@@ -58,7 +61,11 @@ pub fn describe(request: &Request, model: &Reply, library: &Reply) -> String {
     if let Call::Receive { frame, .. } = &request.call {
         let _ = writeln!(text, "frame ({} octets): {}", frame.len(), hex(frame));
     }
-    let lent = if matches!(request.call, Call::Report(Report::Port { .. })) { "record" } else { "outgoing buffer" };
+    let lent = match request.call {
+        Call::Report(Report::Port { .. }) => "record",
+        Call::Report(Report::Forward | Report::Back) => MOVED,
+        _ => "outgoing buffer",
+    };
     let _ = writeln!(text, "{lent}: {} octets lent", request.out.len());
     let _ = writeln!(text, "table before ({} octets):", request.table.len());
     let (header, records) = request.table.split_at(request.table.len().min(HEADER));
@@ -79,6 +86,9 @@ pub fn describe(request: &Request, model: &Reply, library: &Reply) -> String {
     );
     line(&mut text, "due, as a set", &model.outcome.due, &library.outcome.due);
     line(&mut text, lent, &hex(&model.out), &hex(&library.out));
-    tables(&mut text, &request.table, &model.table, &library.table);
+    tables(&mut text, "table", &request.table, &model.table, &library.table);
+    if lent == MOVED {
+        tables(&mut text, MOVED, &request.out, &model.out, &library.out);
+    }
     text
 }

@@ -1,5 +1,5 @@
-//! Drives the library and the model side by side through random calls and compares every octet that is lent to be written (table,
-//! outgoing buffer, record), the answer, `sent`, the five numbers of an aggregator, and the set of what is due. A fetch that comes
+//! Drives the library and the model side by side through random calls and compares every octet that is lent (table, outgoing buffer,
+//! record, moved table), the answer, `sent`, the five numbers of an aggregator, and the set of what is due. A fetch that comes
 //! after the library said what is due must also be answered accordingly.
 //!
 //! The model goes first, and the library then performs the same calls in batches, each on the octets that stood before it. As long
@@ -92,7 +92,7 @@ impl Comparison {
             let mut step = 0;
             while let Some(request) = scenario.next(&mut random) {
                 let reply = request.performed_by(model::perform);
-                scenario.after(&mut random, &reply);
+                scenario.after(&mut random, &request, &reply);
                 self.requests.push(request);
                 self.pending.push(Pending { run, kind: scenario.kind, step, reply });
                 step += 1;
@@ -230,6 +230,7 @@ mod tests {
         assert!(comparison.tally.least_line() > 0, "{}", comparison.tally);
         assert!(comparison.tally.least_lent() > 0, "{}", comparison.tally);
         assert!(comparison.tally.least_churn() > 0, "{}", comparison.tally);
+        assert!(comparison.tally.least_move() > 0, "{}", comparison.tally);
         assert!(comparison.said.sent.min(comparison.said.refused) > 100, "{}", comparison.said);
     }
 
@@ -258,9 +259,13 @@ mod tests {
             reply.outcome.answer
         }
 
-        /// What both reply, on copies of the table.
+        /// What both reply, on copies of the table, with an outgoing buffer.
         fn reply(&self, call: Call) -> Reply {
-            let out = vec![0; world::FRAME];
+            self.reply_into(call, vec![0; world::FRAME])
+        }
+
+        /// What both reply, on copies of the table, with that lent to be written.
+        fn reply_into(&self, call: Call, out: Vec<u8>) -> Reply {
             let request = Request { call, table: self.0.clone(), out };
             let reply = request.performed_by(model::perform);
             assert_eq!(raw::perform_all(from_ref(&request)).unwrap(), from_ref(&reply));
@@ -279,6 +284,27 @@ mod tests {
             for _ in 0..count {
                 assert_eq!(self.call(Call::Tick), 0);
             }
+        }
+
+        /// A move into memory of so many octets: the table that it makes, or none if it is refused, when all is as it was.
+        fn moved(&self, to: Report, octets: usize) -> Option<Both> {
+            let reply = self.reply_into(to.into(), vec![0xA5; octets]);
+            assert_eq!(reply.table, self.0);
+            match reply.outcome.answer {
+                0 => Some(Both(reply.out)),
+                answer => {
+                    assert_eq!((answer, reply.out), (1, vec![0xA5; octets]));
+                    None
+                }
+            }
+        }
+
+        fn back(&self) -> Option<Both> {
+            self.moved(Report::Back, world::sizes(&self.0)[0])
+        }
+
+        fn forward(&self) -> Option<Both> {
+            self.moved(Report::Forward, world::sizes(&self.0)[1])
         }
 
         /// The port has this link and duplex; it distributes where it is up, and did where it is down.
@@ -410,6 +436,55 @@ mod tests {
                     assert_eq!(both.reply(call).outcome.answer, wrong);
                 }
             }
+        }
+    }
+
+    #[test]
+    fn a_move_wants_a_target_of_just_its_size() {
+        let new = Both::carrying((true, true));
+        let old = new.back().unwrap();
+        for octets in 0..=300 {
+            assert_eq!(new.moved(Report::Back, octets).is_some(), octets == 68);
+            assert_eq!(old.moved(Report::Forward, octets).is_some(), octets == 82);
+            assert!(new.moved(Report::Forward, octets).is_none() && old.moved(Report::Back, octets).is_none());
+        }
+        for octets in [0, 1, 68, 82] {
+            assert!(Both(Vec::new()).moved(Report::Forward, octets).is_none());
+            assert!(Both(vec![0; octets]).moved(Report::Back, 11).is_none());
+        }
+    }
+
+    #[test]
+    fn a_move_takes_what_is_in_range() {
+        let sound = Both::carrying((true, true));
+        for (at, octet) in (0..world::RECORD).flat_map(|at| [0, 1, 2, 3, 6, 11, 21, 254, 255].map(|octet| (at, octet)))
+        {
+            let mut new = Both(sound.0.clone());
+            new.0[world::HEADER + at] = octet;
+            let mut old = sound.back().unwrap();
+            if let Some(place) = old.0.get_mut(world::HEADER + at) {
+                *place = octet;
+            }
+            let in_range = new.reply(Report::Due.into()).outcome.answer == 0;
+            assert_eq!(new.back().map(|moved| moved.0), in_range.then_some(old.0.clone()), "octet {at} is {octet}");
+            assert_eq!(old.forward().is_some(), in_range || at >= world::BASE, "octet {at} is {octet}");
+        }
+    }
+
+    #[test]
+    fn monitors_begin_afresh_and_run_once_in_a_move() {
+        for (states, bits) in
+            [[0, 0], [1, 1], [2, 2]].into_iter().flat_map(|states| (0..8).map(move |bits| (states, bits)))
+        {
+            let new = watched(bits, states, 17, 0x0102_0304);
+            let old = new.back().unwrap();
+            let again = old.forward().unwrap();
+            assert_eq!((&old.0[..], again.back().unwrap().0), (&new.0[..68], old.0.clone()));
+            let settled = |sync: u8| bits & 1 == 1 && bits >> sync & 1 == 1;
+            let [actor, partner] = [1, 2].map(|sync| if settled(sync) { (0, [0, 0]) } else { (1, [2, 88]) });
+            let churn = [&[actor.0, partner.0][..], &actor.1, &partner.1, &[0; 8]].concat();
+            assert_eq!((&again.0[..68], again.churn()), (&old.0[..], &churn[..]));
+            assert_eq!(old.reply(Call::Tick).outcome.answer, 1);
         }
     }
 

@@ -63,7 +63,10 @@ pub fn change(random: &mut Random, table: &mut Vec<u8>, count: u32) -> bool {
             let length = table.len().saturating_sub(random.of(&[1, 1, 11, CHURN, BASE, RECORD, groups, groups]));
             table.truncate(length);
         }
-        95..=96 => table.resize(table.len() + random.of(&[1, 2, CHURN, BASE, RECORD, 1000]), 0),
+        95..=96 => {
+            let groups = CHURN * count as usize;
+            table.resize(table.len() + random.of(&[1, 2, CHURN, BASE, RECORD, 1000, groups, groups]), 0);
+        }
         97 => {
             if let Some(first) = table.first_mut() {
                 *first = random.of(&[0, 33, 255, *first ^ 1, first.wrapping_add(1)]);
@@ -74,11 +77,20 @@ pub fn change(random: &mut Random, table: &mut Vec<u8>, count: u32) -> bool {
             table.clear();
             table.resize_with(length, || random.octet());
             if let (Some(first), true) = (table.first_mut(), random.flag()) {
-                *first = (length.saturating_sub(HEADER) / RECORD) as u8;
+                *first = (length.saturating_sub(HEADER) / random.of(&[BASE, RECORD])) as u8;
             }
         }
     }
     random.percent(40)
+}
+
+/// Changes the table so that it seldom stays in range.
+pub fn damage(random: &mut Random, table: &mut [u8], count: u32) {
+    if random.flag() {
+        exceed_field(random, table, count);
+    } else {
+        change_octets(random, table);
+    }
 }
 
 /// One to five octets anywhere, small values more often.

@@ -45,6 +45,9 @@ enum Plan {
     /// Which ports have something to send; fetches that follow are held against it.
     Due,
     Fetch(u32),
+    /// The table goes into the old form, and from there forward again.
+    Back,
+    Forward,
 }
 
 /// A run.
@@ -53,6 +56,8 @@ pub struct Scenario {
     pub kind: Kind,
     world: World,
     table: Vec<u8>,
+    /// What a table was moved out of last, to be moved into again.
+    spare: Vec<u8>,
     plans: VecDeque<Plan>,
     left: u32,
 }
@@ -82,6 +87,8 @@ enum Action {
     Port,
     Aggregator,
     Due,
+    Back,
+    Forward,
     MoveCable,
     FarEnd,
     Restart,
@@ -113,6 +120,7 @@ const REALISTIC: &[(u32, Action)] = &[
     (16, Action::Port),
     (20, Action::Aggregator),
     (20, Action::Due),
+    (8, Action::Back),
     (16, Action::MoveCable),
     (24, Action::FarEnd),
     (2, Action::Restart),
@@ -137,6 +145,8 @@ const BALANCED: &[(u32, Action)] = &[
     (6, Action::Port),
     (8, Action::Aggregator),
     (8, Action::Due),
+    (12, Action::Back),
+    (2, Action::Forward),
     (1, Action::MoveCable),
     (2, Action::FarEnd),
     (1, Action::Restart),
@@ -154,7 +164,8 @@ impl Scenario {
             Kind::Refusals => random.between(50, 400),
             Kind::AnyMemory => random.between(100, 600),
         };
-        Scenario { kind, world: World::new(random), table: Vec::new(), plans: VecDeque::new(), left }
+        let world = World::new(random);
+        Scenario { kind, world, table: Vec::new(), spare: Vec::new(), plans: VecDeque::new(), left }
     }
 
     /// The next call, and none when the run is over.
@@ -170,8 +181,7 @@ impl Scenario {
             return Some(self.request(random, call));
         }
         if self.kind == Kind::AnyMemory && random.percent(25) {
-            self.plans.clear();
-            self.plans.extend(memory::change(random, &mut self.table, self.world.count).then_some(Plan::Tick));
+            self.change_memory(random);
         }
         let call = match (self.plans.pop_front(), self.kind) {
             (Some(plan), _) => self.planned(random, plan),
@@ -182,28 +192,79 @@ impl Scenario {
         Some(self.request(random, call))
     }
 
-    /// Takes note of what came of the last call. Memory that is no table is soon given up.
-    pub fn after(&mut self, random: &mut Random, reply: &Reply) {
-        if reply.outcome.answer == 1 && random.percent(40) {
-            self.table.clear();
+    /// The table becomes another. One that was to go forward still is, whatever became of it.
+    fn change_memory(&mut self, random: &mut Random) {
+        let tick = memory::change(random, &mut self.table, self.world.count);
+        if !matches!(self.plans.front(), Some(Plan::Forward)) {
             self.plans.clear();
-        } else if !self.table.is_empty() && reply.table.len() == self.table.len() {
-            self.table.clone_from(&reply.table);
+            self.plans.extend(tick.then_some(Plan::Tick));
         }
     }
 
-    /// The call on the present table, with an outgoing buffer or memory for a record if it takes one.
+    /// Takes note of what came of the last call: a run goes on in the table that a move made. Memory that is no table is soon given up.
+    pub fn after(&mut self, random: &mut Random, request: &Request, reply: &Reply) {
+        match (&request.call, reply.outcome.answer) {
+            (Call::Report(moved @ (Report::Back | Report::Forward)), 0) => {
+                self.spare = std::mem::replace(&mut self.table, reply.out.clone());
+                if *moved == Report::Back {
+                    self.move_on(random);
+                }
+            }
+            (_, 1) if random.percent(40) => {
+                self.table.clear();
+                self.plans.clear();
+            }
+            _ if !self.table.is_empty() && reply.table.len() == self.table.len() => {
+                self.table.clone_from(&reply.table);
+            }
+            _ => {}
+        }
+    }
+
+    /// A table of the old form can only go forward; seldom another call comes first, and is refused.
+    fn move_on(&mut self, random: &mut Random) {
+        self.plans.push_front(Plan::Forward);
+        if random.percent(10) {
+            let port = self.world.port(random);
+            let refused = [Plan::Tick, Plan::Hear(port), Plan::Link(port, true), Plan::Settings(port), Plan::Due];
+            self.plans.push_front(random.of(&refused));
+        }
+    }
+
+    /// The call on the present table, with an outgoing buffer, or memory for a record or a moved table, if it takes one.
     fn request(&self, random: &mut Random, call: Call<'static>) -> Request<'static> {
+        let mut table = self.table.clone();
+        let [old, new] = world::sizes(&table);
         let length = match call {
             Call::Receive { .. } | Call::Fetch { .. } => FRAME + random.of(&[0, 0, 0, 1, 7, 60]),
             Call::Report(Report::Port { .. }) => {
                 let any = random.place(91);
                 random.of(&[0, 1, RECORD - 1, RECORD, RECORD, RECORD, RECORD + 1, any, any, any, 10 * any])
             }
+            Call::Report(Report::Forward) => self.target(random, new),
+            Call::Report(Report::Back) => self.target(random, old),
             _ => 0,
         };
-        let out = vec![random.octet(); length];
-        Request { call, table: self.table.clone(), out }
+        let mut out = vec![random.octet(); length];
+        if self.spare.len() == length && random.flag() {
+            out.clone_from(&self.spare);
+        }
+        let moves = matches!(call, Call::Report(Report::Forward | Report::Back));
+        if moves && self.kind == Kind::AnyMemory && random.percent(30) {
+            memory::damage(random, &mut table, self.world.count);
+        }
+        Request { call, table, out }
+    }
+
+    /// Octets for a moved table: mostly those that it needs; else nearly so many, those of its present form, those of another count, or any.
+    fn target(&self, random: &mut Random, needed: usize) -> usize {
+        if self.kind == Kind::Realistic || random.percent(75) {
+            return needed;
+        }
+        let count = random.between(1, 32);
+        let other = random.of(&[model::table_size(count), model::old_table_size(count)]) as usize;
+        let any = random.place(2400);
+        random.of(&[0, 1, needed - 1, needed - 1, needed + 1, needed + 1, self.table.len(), other, any])
     }
 
     fn all_up(&mut self) {
@@ -235,6 +296,8 @@ impl Scenario {
             }
             Plan::Due => Report::Due.into(),
             Plan::Fetch(port) => Call::Fetch { port },
+            Plan::Back => Report::Back.into(),
+            Plan::Forward => Report::Forward.into(),
         }
     }
 
@@ -260,11 +323,12 @@ impl Scenario {
             self.ticks(some);
             ticks -= some;
         }
-        match random.below(6) {
+        match random.below(7) {
             0 => self.plans.push_back(Plan::HearCollecting(port, true)),
             1 => self.plans.push_back(Plan::Link(port, false)),
             2 => self.plans.push_back(Plan::Duplex(port, false)),
             3 => self.plans.push_back(Plan::Settings(port)),
+            4 => self.plans.push_back(Plan::Back),
             _ => {}
         }
         self.ticks(random.of(&[1, 20, 21]));
@@ -349,6 +413,8 @@ impl Scenario {
             Action::Port => return self.request(random, Report::Port { port }.into()),
             Action::Aggregator => return self.request(random, Report::Aggregator { aggregator: port }.into()),
             Action::Due => return self.request(random, Report::Due.into()),
+            Action::Back => self.plans.push_back(Plan::Back),
+            Action::Forward => self.plans.push_back(Plan::Forward),
             Action::MoveCable => self.world.move_cable(random),
             Action::FarEnd => self.world.change_far_end(random),
             Action::Restart => {
@@ -404,10 +470,9 @@ impl Scenario {
         if random.percent(60) {
             settings.partner[14] ^= random.of(&[0x08, 0x10, 0x18]);
         }
-        let call = match random.below(10) {
+        let call = match random.below(13) {
             0 if random.percent(10) => Report::Version.into(),
-            0 if random.percent(80) => Report::TableSize { ports: random.below(40) }.into(),
-            0 => Report::TableSize { ports: random.bits() as u32 }.into(),
+            0 => sizes(random).into(),
             1 => match self.world.start(random) {
                 Call::Start { system_priority, system, collector_max_delay, .. } => {
                     let ports = random.weighted(&[(4, count), (1, 0), (1, 33), (1, count + 1), (1, 256 + count)]);
@@ -422,6 +487,8 @@ impl Scenario {
             6 => Report::Port { port }.into(),
             7 => Report::Aggregator { aggregator: port }.into(),
             8 => Report::Due.into(),
+            9..=10 => Report::Back.into(),
+            11 => Report::Forward.into(),
             _ if random.flag() => Call::Receive { port, frame: self.world.lacpdu(random, &self.table, port).into() },
             _ => match self.damaged(random) {
                 Call::Receive { frame, .. } => Call::Receive { port, frame },
@@ -433,11 +500,22 @@ impl Scenario {
             request.out.truncate(random.of(&[0, 1, 14, 60, 122, 123, 124]));
         }
         if random.percent(20) {
-            let size = request.table.len() as u32;
-            let other = model::table_size(random.between(1, 32));
-            let length = random.of(&[0, 1, 10, 11, 12, size.saturating_sub(1), size + 1, other, other]);
-            request.table.resize(length as usize, 0);
+            let size = request.table.len();
+            let other = model::table_size(random.between(1, 32)) as usize;
+            let [old, new] = world::sizes(&request.table);
+            let length = random.of(&[0, 1, 10, 11, 12, size.saturating_sub(1), size + 1, other, other, old, old, new]);
+            request.table.resize(length, 0);
         }
         request
+    }
+}
+
+/// The size of a table of any count, in either form.
+fn sizes(random: &mut Random) -> Report {
+    let ports = if random.percent(80) { random.below(40) } else { random.bits() as u32 };
+    if random.flag() {
+        Report::TableSize { ports }
+    } else {
+        Report::OldTableSize { ports }
     }
 }

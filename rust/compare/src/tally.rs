@@ -17,6 +17,8 @@ pub struct Tally {
     lines: [[u64; 4]; 4],
     /// Reports of a port, done and refused, by the octets lent for the record.
     lent: [[u64; 4]; 2],
+    /// Moves, forward and back, by what came of them.
+    moves: [[u64; 5]; 2],
     /// Churn states entered: in tables that runs make or in any memory, by the actor's machine or the partner's.
     churn: [[[u64; 3]; 2]; 2],
 }
@@ -30,13 +32,18 @@ const LINES: [(&str, (bool, bool)); 4] = [
 
 /// Octets lent for a record.
 const LENT: [&str; 4] = ["0", "1 to 70", "71", "more"];
+/// Why a move was refused, if it was: the table has the size of the form into which it was to go, or of neither form, or only a field
+/// can be out of range; else the memory for the moved table has a wrong size.
+const MOVES: [&str; 5] = ["done", "other form", "neither form", "out of range", "target size"];
 const CHURN_STATES: [&str; 3] = ["NO_CHURN", "MONITOR", "CHURN"];
 
 impl Tally {
     /// Counts a call that was compared, of a run of that kind.
     pub fn count(&mut self, kind: Kind, request: &Request, reply: &Reply) {
-        let no_answer = matches!(request.call, Call::Report(Report::TableSize { .. } | Report::Version));
-        let answer = if no_answer { 0 } else { reply.outcome.answer };
+        let answer = match request.call {
+            Call::Report(Report::TableSize { .. } | Report::OldTableSize { .. } | Report::Version) => 0,
+            _ => reply.outcome.answer,
+        };
         *self.counts.entry((request.call.number(), answer)).or_default() += 1;
         if let (Call::Line { port, up, full }, 0) = (&request.call, reply.outcome.answer) {
             let place = |line| LINES.iter().position(|(_, other)| *other == line).unwrap_or(0);
@@ -45,6 +52,12 @@ impl Tally {
         if let Call::Report(Report::Port { .. }) = request.call {
             let column = [0, RECORD - 1, RECORD].iter().filter(|most| request.out.len() > **most).count();
             self.lent[usize::from(answer != 0)][column] += 1;
+        }
+        let [old, new] = world::sizes(&request.table);
+        match request.call {
+            Call::Report(Report::Forward) => raise(&mut self.moves[0], came_of_move(request, answer, old, new)),
+            Call::Report(Report::Back) => raise(&mut self.moves[1], came_of_move(request, answer, new, old)),
+            _ => {}
         }
         if reply.outcome.answer == 0 {
             self.count_states(&reply.table);
@@ -90,9 +103,26 @@ impl Tally {
         self.lent.iter().flatten().copied().min().unwrap_or(0)
     }
 
+    /// The least of what came of the moves in either direction.
+    #[cfg(test)]
+    pub fn least_move(&self) -> u64 {
+        self.moves.iter().flatten().copied().min().unwrap_or(0)
+    }
+
     /// All calls compared.
     pub fn total(&self) -> u64 {
         self.counts.values().sum()
+    }
+}
+
+/// The place in [`MOVES`] of a move from the form of one size into that of the other.
+fn came_of_move(request: &Request, answer: u32, from: usize, to: usize) -> u8 {
+    match request.table.len() {
+        _ if answer == 0 => 0,
+        length if length == to => 1,
+        length if length != from => 2,
+        _ if request.out.len() == to => 3,
+        _ => 4,
     }
 }
 
@@ -113,13 +143,13 @@ fn row<T: fmt::Display, const N: usize>(f: &mut fmt::Formatter<'_>, name: &str, 
 
 impl fmt::Display for Tally {
     fn fmt(&self, f: &mut fmt::Formatter<'_>) -> fmt::Result {
-        write!(f, "{:<11}", "answer")?;
+        write!(f, "{:<15}", "answer")?;
         for answer in 0..=12 {
             write!(f, "{answer:>9}")?;
         }
         writeln!(f)?;
         for (call, name) in (0..).zip(NAMES) {
-            write!(f, "{name:<11}")?;
+            write!(f, "{name:<15}")?;
             for answer in 0..=12 {
                 match self.counts.get(&(call, answer)) {
                     Some(count) => write!(f, "{count:>9}")?,
@@ -134,6 +164,10 @@ impl fmt::Display for Tally {
         }
         row(f, "port, lent", LENT)?;
         for (name, counts) in ["  done", "  refused"].iter().zip(self.lent) {
+            row(f, name, counts)?;
+        }
+        row(f, "moves", MOVES)?;
+        for (name, counts) in ["  forward", "  back"].iter().zip(self.moves) {
             row(f, name, counts)?;
         }
         for (name, counts) in ["churn, made", "churn, any"].iter().zip(self.churn) {

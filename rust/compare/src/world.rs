@@ -72,6 +72,12 @@ pub fn place(ports: usize, port: usize, at: usize) -> usize {
     }
 }
 
+/// The octets of a table with the port count of this one: in the old form, without churn, and in the new.
+pub fn sizes(table: &[u8]) -> [usize; 2] {
+    let ports = table.first().copied().map_or(0, usize::from);
+    [BASE, RECORD].map(|record| HEADER + record * ports)
+}
+
 /// The record of a port up to its partner, if there is such a port.
 fn base_of(table: &[u8], port: u32) -> Option<&[u8]> {
     let at = place(0, (port as usize).saturating_sub(1), 0);

@@ -35,6 +35,8 @@ impl End {
 #[derive(Clone, Copy, PartialEq, Eq)]
 pub struct PortLook {
     pub state: State,
+    /// The aggregator that it holds.
+    pub aggregator: u32,
     /// Whether its link churns at this end, and at the far end.
     churns: [bool; 2],
     /// The partner that it learned: system and port. None if it goes by the default.
@@ -47,6 +49,7 @@ impl PortLook {
         let learned = !record.actor_state.has(PortState::DEFAULTED);
         PortLook {
             state: state_of(record),
+            aggregator: u32::from(record.aggregator),
             churns: [record.churn.actor.churns(), record.churn.partner.churns()],
             partner: learned.then_some(partner),
         }
@@ -89,6 +92,8 @@ pub struct Network {
     cabling: Cabling,
     /// The ports to which frames are lost.
     deaf: [Vec<bool>; 2],
+    /// How many LACPDUs A and B have sent.
+    pub sent: [u64; 2],
     ports: u32,
 }
 
@@ -97,7 +102,7 @@ impl Network {
     pub fn start(ports: u32) -> Result<Network, Refusal> {
         let tables = [start_switch(ports, 0x0A)?, start_switch(ports, 0x0B)?];
         let deaf = [vec![false; ports as usize], vec![false; ports as usize]];
-        Ok(Network { tables, cabling: Cabling::straight(ports), deaf, ports })
+        Ok(Network { tables, cabling: Cabling::straight(ports), deaf, sent: [0; 2], ports })
     }
 
     /// A tick passes at both switches, and what is due goes over the cables.
@@ -108,13 +113,14 @@ impl Network {
         self.exchange()
     }
 
-    /// Performs a command other than a tick, and what is due goes over the cables.
+    /// Performs a command other than a tick, and what is due goes over the cables. A moved table has nothing due that it had not before.
     pub fn perform(&mut self, command: &Command) -> Result<(), Refusal> {
         match command {
             Command::Link(change, link) => self.change_link(*change, Port::a(*link))?,
             Command::Deaf(port) => self.set_deaf(*port, true),
             Command::Set(setting, port) => self.set(*setting, *port)?,
             Command::Move(port, to) => self.move_cable(port.cable_to(*to))?,
+            Command::Reload(switch) => return self.reload(*switch),
             Command::Tick(_) | Command::Note(_) => return Ok(()),
         }
         self.exchange()
@@ -173,6 +179,7 @@ impl Network {
                 let port = Port { switch, number };
                 let mut out = [0; FRAME];
                 self.table_mut(port).fetch(number, &mut out)?;
+                self.sent[switch.index()] += 1;
                 frames.push((port, out));
             }
         }
@@ -225,6 +232,13 @@ impl Network {
         self.cabling.join(a, b);
         self.change_link(LinkChange::Speak, a)?;
         self.change_link(LinkChange::Up, a)
+    }
+
+    /// Earlier firmware takes the table of a switch, and then that of today takes it back.
+    fn reload(&mut self, switch: Switch) -> Result<(), Refusal> {
+        let table = &mut self.tables[switch.index()];
+        *table = Table::from_old(&table.to_old()?)?;
+        Ok(())
     }
 }
 

@@ -13,7 +13,7 @@ const PORTS: RangeInclusive<u32> = 1..=8;
 const TICKS: RangeInclusive<u32> = 1..=100_000;
 const KEYS: RangeInclusive<u32> = 0..=65_535;
 const COMMANDS: &str =
-    "switches, tick, up, down, silence, deaf, speak, half, full, key, move, long, short, passive, active or note";
+    "switches, tick, up, down, silence, deaf, speak, half, full, key, move, long, short, passive, active, reload or note";
 
 /// A list of events that has been read.
 #[derive(Clone, Debug, PartialEq, Eq)]
@@ -33,6 +33,8 @@ pub enum Command {
     Set(Setting, Port),
     /// The cable of a port now ends at that port of the other switch.
     Move(Port, u32),
+    /// The table of a switch goes into the old form and into the new again.
+    Reload(Switch),
     Note(String),
 }
 
@@ -144,6 +146,7 @@ impl Line<'_> {
                 Command::Set(Setting::Key(self.number("a key", KEYS)? as u16), port)
             }
             "move" => Command::Move(self.port()?, self.number("a port of the other switch", 1..=self.ports)?),
+            "reload" => Command::Reload(self.switch()?),
             "note" => Command::Note(self.text()?),
             name => return Err(format!("expected {COMMANDS}, found '{name}'")),
         })
@@ -153,13 +156,16 @@ impl Line<'_> {
         self.number("a link", 1..=self.ports)
     }
 
+    fn switch(&mut self) -> Result<Switch, String> {
+        match self.words.next() {
+            Some("A") => Ok(Switch::A),
+            Some("B") => Ok(Switch::B),
+            found => Err(self.wants("a switch, A or B", found)),
+        }
+    }
+
     fn port(&mut self) -> Result<Port, String> {
-        let switch = match self.words.next() {
-            Some("A") => Switch::A,
-            Some("B") => Switch::B,
-            found => return Err(self.wants("a switch, A or B", found)),
-        };
-        Ok(Port { switch, number: self.number("a port", 1..=self.ports)? })
+        Ok(Port { switch: self.switch()?, number: self.number("a port", 1..=self.ports)? })
     }
 
     fn number(&mut self, what: &str, range: RangeInclusive<u32>) -> Result<u32, String> {
@@ -195,16 +201,18 @@ mod tests {
     #[test]
     fn every_command_is_read() {
         let text = "\u{feff}# all\r\nswitches 5\n\nup 1 # one\ndown 2\nsilence 3\nspeak 3\nhalf A 1\nfull B 5\nkey B 2 65535\n\
-                    move A 4 5\ndeaf B 5\nlong A 1\nshort A 1\npassive B 1\nactive B 1\nnote  all  is well # so far\ntick 100000";
+                    move A 4 5\ndeaf B 5\nlong A 1\nshort A 1\npassive B 1\nactive B 1\nreload B\nnote  all  is well # so far\ntick 100000";
         let script = parse(text).unwrap();
-        assert_eq!((script.ports, script.commands.len()), (5, 15));
+        assert_eq!((script.ports, script.commands.len()), (5, 16));
         assert_eq!(script.commands[6], Command::Set(Setting::Key(65_535), Port::b(2)));
         assert_eq!(script.commands[7], Command::Move(Port::a(4), 5));
         assert_eq!(script.commands[8], Command::Deaf(Port::b(5)));
-        assert_eq!(script.commands[13], Command::Note("all is well".into()));
+        assert_eq!(script.commands[13], Command::Reload(Switch::B));
+        assert_eq!(script.commands[14], Command::Note("all is well".into()));
         assert_eq!(parse("").unwrap(), Script { ports: 4, commands: vec![] });
         assert!(parse(BUILT_IN).is_ok() && parse(include_str!("../stories/silent-first-link.txt")).is_ok());
         assert!(parse(include_str!("../stories/never-settles.txt")).is_ok());
+        assert!(parse(include_str!("../stories/new-firmware.txt")).is_ok());
     }
 
     #[test]
@@ -219,6 +227,8 @@ mod tests {
         assert_eq!(message("passive B 5"), "line 1: 'passive' wants a port from 1 to 4, found '5'");
         assert_eq!(message("key A 1 -1"), "line 1: 'key' wants a key from 0 to 65535, found '-1'");
         assert_eq!(message("move A 1"), "line 1: 'move' wants a port of the other switch from 1 to 4, found nothing");
+        assert_eq!(message("reload"), "line 1: 'reload' wants a switch, A or B, found nothing");
+        assert_eq!(message("reload A 1"), "line 1: 'reload' wants nothing more, found '1'");
         assert_eq!(message("note # nothing"), "line 1: 'note' wants a text, found nothing");
         assert_eq!(message("up 1 2"), "line 1: 'up' wants nothing more, found '2'");
         assert_eq!(message("Tick 1"), format!("line 1: expected {COMMANDS}, found 'Tick'"));

@@ -7,11 +7,16 @@ use myrkosti::Refusal;
 use std::ops::Range;
 use std::rc::Rc;
 
+/// What is said of a table that was moved.
+const RELOADED: &str = "moved into the old form and into the new again, churn counts begin at 0";
+
 /// A script that was played.
 pub struct Story {
     pub(crate) ports: u32,
     /// What the reports showed after tick n and the events that came with it, n from 0.
     pub(crate) looks: Vec<Rc<Look>>,
+    /// How many LACPDUs A and B had sent by then.
+    sent: Vec<[u64; 2]>,
     pub(crate) events: Vec<Event>,
     /// When links churned, in the order of the ports.
     pub(crate) churning: Vec<Churning>,
@@ -41,11 +46,11 @@ pub struct Event {
 /// What the library refuses. It has no reason to, unless it cannot be reached.
 pub fn play(script: &Script) -> Result<Story, Refusal> {
     let mut network = Network::start(script.ports)?;
-    let mut story = Story { ports: script.ports, looks: Vec::new(), events: Vec::new(), churning: Vec::new() };
+    let mut story = Story::begun(script.ports);
     for command in &script.commands {
         if let Command::Tick(ticks) = command {
             for _ in 0..*ticks {
-                story.keep(network.look()?);
+                story.keep(&network)?;
                 network.tick()?;
             }
         } else {
@@ -54,7 +59,7 @@ pub fn play(script: &Script) -> Result<Story, Refusal> {
         }
     }
     if !matches!(script.commands.last(), Some(Command::Tick(_))) {
-        story.keep(network.look()?);
+        story.keep(&network)?;
     }
     for port in all_ports(script.ports) {
         End::BOTH.into_iter().for_each(|end| story.keep_churning(port, end));
@@ -63,6 +68,21 @@ pub fn play(script: &Script) -> Result<Story, Refusal> {
 }
 
 impl Story {
+    fn begun(ports: u32) -> Story {
+        Story { ports, looks: Vec::new(), sent: Vec::new(), events: Vec::new(), churning: Vec::new() }
+    }
+
+    /// The aggregators that the ports of A and of B held, in each tick.
+    pub fn held(&self) -> Vec<[Vec<u32>; 2]> {
+        let held = |look: &Look| look.ports.each_ref().map(|ports| ports.iter().map(|port| port.aggregator).collect());
+        self.looks.iter().map(|look| held(look)).collect()
+    }
+
+    /// How many LACPDUs A and B had sent, in each tick.
+    pub fn sent(&self) -> &[[u64; 2]] {
+        &self.sent
+    }
+
     /// What the reports showed from the event at this place to the next.
     pub(crate) fn span(&self, event: usize) -> &[Rc<Look>] {
         let from = self.events[event].tick;
@@ -70,9 +90,13 @@ impl Story {
         &self.looks[from..to]
     }
 
-    fn keep(&mut self, look: Look) {
+    /// What the reports show now is what they show in this tick.
+    fn keep(&mut self, network: &Network) -> Result<(), Refusal> {
+        let look = network.look()?;
         let same = self.looks.last().filter(|last| ***last == look).cloned();
         self.looks.push(same.unwrap_or_else(|| Rc::new(look)));
+        self.sent.push(network.sent);
+        Ok(())
     }
 
     /// Remembers when that end churned, which a report does not tell.
@@ -105,6 +129,7 @@ impl Event {
             Command::Deaf(port) => (port.to_string(), "deaf".into()),
             Command::Set(setting, port) => (port.to_string(), setting_words(*setting)),
             Command::Move(port, to) => (format!("cable of {port}"), format!("now ends at {}", port.opposite(*to))),
+            Command::Reload(switch) => (format!("table of {switch:?}"), RELOADED.into()),
         };
         self.acts.push(act);
     }

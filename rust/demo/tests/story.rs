@@ -47,6 +47,45 @@ fn a_link_that_never_settles() {
     assert_eq!(stripes(&svg(&story)), 2 + 4);
 }
 
+/// Both stories have the same ports in the same aggregators, and the same LACPDUs sent, in every tick.
+fn carry_alike(one: &Story, other: &Story) {
+    assert_eq!(one.held(), other.held());
+    assert_eq!(one.sent(), other.sent());
+}
+
+#[test]
+fn a_trunk_carries_on_while_its_table_is_moved() {
+    let script = include_str!("../stories/new-firmware.txt");
+    let unmoved: Vec<&str> = script.lines().filter(|line| !line.starts_with("reload")).collect();
+    let (story, unmoved) = (story(script), story(&unmoved.join("\n")));
+    carry_alike(&story, &unmoved);
+    let (told, unmoved) = (text(&story), text(&unmoved));
+    for port in ["A1", "A2", "A3", "B1", "B2", "B3", "width A", "width B"] {
+        assert_eq!(row(&told, port), row(&unmoved, port));
+    }
+    let said = words(&told);
+    let moved = "moved into the old form and into the new again, churn counts begin at 0]";
+    assert!(
+        said.contains(&format!("[table of A {moved}")) && said.contains(&format!("[table of A, table of B {moved}"))
+    );
+    assert_eq!(said.matches("A and B: aggregator 1 carries on ports 1 2 all the while.").count(), 2, "{said}");
+    assert!(said.contains("A3 churned from tick 600 (60 s) to tick 650 (65 s): the far end was out of sync."));
+    assert!(said.contains("A3 churns since tick 1250 (125 s): the far end is out of sync."));
+    assert!(said.contains("B3 churned from tick 600 (60 s) to tick 1290 (129 s): the far end was out of sync."));
+    assert!(words(&svg(&story)).contains("table of A"));
+}
+
+#[test]
+fn a_table_may_be_moved_in_every_tick() {
+    let every_tick = |line: &str| match line.strip_prefix("tick ") {
+        Some(ticks) => "reload A\nreload B\ntick 1\n".repeat(ticks.parse().unwrap()),
+        None => format!("{line}\n"),
+    };
+    for script in [BUILT_IN, include_str!("../stories/silent-first-link.txt")] {
+        carry_alike(&story(script), &story(&script.lines().map(every_tick).collect::<String>()));
+    }
+}
+
 #[test]
 fn both_ends_churn_where_a_key_is_changed_again_and_again() {
     let story = story(&format!("switches 1\nup 1\n{}tick 40", "key A 1 2\ntick 10\nkey A 1 1\ntick 10\n".repeat(32)));

@@ -110,11 +110,47 @@ pub enum Breakage {
     ChurnStateOf3Accepted,
     /// A stored churn timer of 601 is in range.
     ChurnTimerOf601Accepted,
+    /// A table that goes forward takes over the churn counts that the target held.
+    ForwardKeepsTargetsCounts,
+    /// Its Churn Detection machines begin and do not run.
+    ForwardRunsNoMonitors,
+    /// The fields that the old form has not are filled with zeros: NO_CHURN everywhere.
+    ForwardFillsZeros,
+    /// The churn timers begin run out.
+    ForwardTimersAtZero,
+    /// A table that goes forward forgets the sends that it remembered.
+    ForwardForgetsSends,
+    /// It has an LACPDU due on every port.
+    ForwardSetsNtt,
+    /// Steps 3 to 6 come before the Churn Detection machines in a move too.
+    ForwardSettles,
+    /// The churn of each port is put behind its record.
+    ForwardInterleavesChurn,
+    /// Forward takes a table of the new form: it goes by the count alone.
+    ForwardTakesTheNewForm,
+    /// Forward takes records that are out of range.
+    ForwardSkipsRecords,
+    /// Back takes a table of the old form and gives it as it is.
+    BackTakesTheOldForm,
+    /// Back takes churn that is out of range, for it is dropped.
+    BackSkipsMonitors,
+    /// Back takes records that are out of range.
+    BackSkipsRecords,
+    /// Back drops octets behind each record, as if the churn of its port stood there.
+    BackDropsInterleavedChurn,
+    /// A move takes a target that is too long, and writes the beginning of it.
+    LongTargetAccepted,
+    /// A move takes a target that is too short, and writes as much as fits.
+    ShortTargetAccepted,
+    /// A refused move fills the target with zeros.
+    RefusedMoveWritesTarget,
+    /// There is an old size for a count outside 1 to 32.
+    OldSizeOfAnyCount,
 }
 
 impl Breakage {
     /// Every breakage, with the name by which it is asked for.
-    pub const ALL: [(&'static str, Breakage); 52] = [
+    pub const ALL: [(&'static str, Breakage); 70] = [
         ("partners-timeout", Breakage::PartnersTimeout),
         ("compares-after-recording", Breakage::ComparesAfterRecording),
         ("expired-records-default", Breakage::ExpiredRecordsDefault),
@@ -167,6 +203,24 @@ impl Breakage {
         ("repeated-settings-run-monitors", Breakage::RepeatedSettingsRunMonitors),
         ("churn-state-of-3-accepted", Breakage::ChurnStateOf3Accepted),
         ("churn-timer-of-601-accepted", Breakage::ChurnTimerOf601Accepted),
+        ("forward-keeps-targets-counts", Breakage::ForwardKeepsTargetsCounts),
+        ("forward-runs-no-monitors", Breakage::ForwardRunsNoMonitors),
+        ("forward-fills-zeros", Breakage::ForwardFillsZeros),
+        ("forward-timers-at-zero", Breakage::ForwardTimersAtZero),
+        ("forward-forgets-sends", Breakage::ForwardForgetsSends),
+        ("forward-sets-ntt", Breakage::ForwardSetsNtt),
+        ("forward-settles", Breakage::ForwardSettles),
+        ("forward-interleaves-churn", Breakage::ForwardInterleavesChurn),
+        ("forward-takes-the-new-form", Breakage::ForwardTakesTheNewForm),
+        ("forward-skips-records", Breakage::ForwardSkipsRecords),
+        ("back-takes-the-old-form", Breakage::BackTakesTheOldForm),
+        ("back-skips-monitors", Breakage::BackSkipsMonitors),
+        ("back-skips-records", Breakage::BackSkipsRecords),
+        ("back-drops-interleaved-churn", Breakage::BackDropsInterleavedChurn),
+        ("long-target-accepted", Breakage::LongTargetAccepted),
+        ("short-target-accepted", Breakage::ShortTargetAccepted),
+        ("refused-move-writes-target", Breakage::RefusedMoveWritesTarget),
+        ("old-size-of-any-count", Breakage::OldSizeOfAnyCount),
     ];
 
     /// The breakage of that name.
@@ -184,7 +238,16 @@ pub fn set(breakage: Option<Breakage>) {
     IN_FORCE.set(breakage);
 }
 
+/// The error that the model is to make.
+pub(crate) fn in_force() -> Option<Breakage> {
+    if cfg!(feature = "breakages") {
+        IN_FORCE.get()
+    } else {
+        None
+    }
+}
+
 /// Whether the model is to make that error.
 pub(crate) fn is(breakage: Breakage) -> bool {
-    cfg!(feature = "breakages") && IN_FORCE.get() == Some(breakage)
+    in_force() == Some(breakage)
 }

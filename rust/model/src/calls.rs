@@ -3,15 +3,16 @@
 
 use crate::breakage::{self, Breakage};
 use crate::churn::Churn;
+use crate::moves;
 use crate::receive::displace;
 use crate::record::{
-    self, Mux, Periodic, Port, Receive, Settings, Table, BASE, CHURN, HEADER, OLDEST_AGE, OWN_BITS, RECORD,
+    Form, Mux, Periodic, Port, Receive, Settings, Table, BASE, CHURN, HEADER, OLDEST_AGE, OWN_BITS, RECORD,
 };
 use crate::wire::{self, Block, Frame, State, FRAME};
 use ::calls::{Call, Outcome, Report, SettingsArguments};
 
 /// The version of the interface that the model performs.
-const VERSION: u32 = 0x0101;
+const VERSION: u32 = 0x0102;
 
 /// Why a call was refused; the discriminants are the answer numbers.
 #[derive(Clone, Copy, Debug, PartialEq, Eq)]
@@ -38,7 +39,7 @@ fn number<T>(result: Result<T, Refusal>) -> u32 {
     }
 }
 
-/// Performs a call on this table, with this outgoing buffer, or memory for a record, if it has one.
+/// Performs a call on this table, with this outgoing buffer, or memory for a record or a moved table, if it has one.
 #[inline(always)] // so that whoever names the call, as bench-model does, has no dispatch
 pub fn perform(call: &Call, table: &mut [u8], out: &mut [u8]) -> Outcome {
     let mut outcome = Outcome::UNTOUCHED;
@@ -61,7 +62,7 @@ pub fn perform(call: &Call, table: &mut [u8], out: &mut [u8]) -> Outcome {
     outcome
 }
 
-/// Performs a call that only reads this table, with this memory for a record if it has one.
+/// Performs a call that only reads this table, with this memory for a record or a moved table if it has one.
 #[inline(always)]
 pub fn report(report: Report, table: &[u8], lent: &mut [u8]) -> Outcome {
     let mut outcome = Outcome::UNTOUCHED;
@@ -83,13 +84,24 @@ pub fn report(report: Report, table: &[u8], lent: &mut [u8]) -> Outcome {
             number(ports)
         }
         Report::Version => VERSION,
+        Report::OldTableSize { ports } => old_table_size(ports),
+        Report::Forward => number(moves::perform(Form::New, table, lent)),
+        Report::Back => number(moves::perform(Form::Old, table, lent)),
     };
     outcome
 }
 
 /// The octets of a table's memory; 0 for a count outside 1 to 32.
 pub fn table_size(ports: u32) -> u32 {
-    record::size(ports).map_or(0, |size| size as u32)
+    Form::New.size(ports).map_or(0, |size| size as u32)
+}
+
+/// The same of the old form.
+pub fn old_table_size(ports: u32) -> u32 {
+    if breakage::is(Breakage::OldSizeOfAnyCount) {
+        return ports.wrapping_mul(BASE as u32).wrapping_add(HEADER as u32);
+    }
+    Form::Old.size(ports).map_or(0, |size| size as u32)
 }
 
 /// Tests 1 and 2.
@@ -152,7 +164,7 @@ fn work(table: &mut Table) {
 
 /// The ports with which a table begins in this memory.
 fn begun(memory: &[u8], ports: u32, settings: &Settings) -> Result<Vec<Port>, Refusal> {
-    if record::size(ports) != Some(memory.len()) {
+    if Form::New.size(ports) != Some(memory.len()) {
         return Err(Refusal::TableWrong);
     }
     right_default(settings)?;

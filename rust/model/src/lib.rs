@@ -13,6 +13,7 @@
 //! | [`mux`] | Mux machine, independent control |
 //! | [`churn`] | Churn Detection machines |
 //! | [`select`] | the selection rule, Ready, steps 3 to 6 of the order of work, and what runs behind them |
+//! | [`moves`] | moves of a table from one form into the other |
 //! | [`calls`] | the calls, their refusals in document 01's order |
 //! | [`breakage`] | deliberate errors, to see that a comparison catches them |
 
@@ -21,6 +22,7 @@
 pub mod breakage;
 pub mod calls;
 pub mod churn;
+pub mod moves;
 pub mod mux;
 pub mod periodic;
 pub mod receive;
@@ -28,4 +30,4 @@ pub mod record;
 pub mod select;
 pub mod wire;
 
-pub use crate::calls::{perform, report, table_size};
+pub use crate::calls::{old_table_size, perform, report, table_size};

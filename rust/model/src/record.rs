@@ -186,8 +186,8 @@ impl Port {
         self.default = settings.default;
     }
 
-    /// The record in these octets, if every field is in its range for a table of `count` ports.
-    fn read(base: &[u8], churn: &[u8], count: u8) -> Option<Port> {
+    /// The record in these octets, with that churn, if every field is in its range for a table of `count` ports.
+    fn read(base: &[u8], churn: Churn, count: u8) -> Option<Port> {
         let mut reader = Reader(base);
         let port = Port {
             receive: *Receive::IN_MEMORY.get(usize::from(reader.octet()?))?,
@@ -208,7 +208,7 @@ impl Port {
             port_priority: reader.number()?,
             default: Block::read(&reader.octets::<BLOCK>()?),
             partner: Block::read(&reader.octets::<BLOCK>()?),
-            churn: Churn::read(churn)?,
+            churn,
         };
         let in_range = (1..=count).contains(&port.aggregator)
             && port.current_while <= LONG_TIMEOUT_TIME
@@ -242,7 +242,7 @@ impl Port {
 
 impl Churn {
     /// The churn in these octets, if every field is in its range: states, timers, counts, the actor's first each time.
-    fn read(octets: &[u8]) -> Option<Churn> {
+    pub(crate) fn read(octets: &[u8]) -> Option<Churn> {
         let mut reader = Reader(octets);
         let states = [reader.churn_state()?, reader.churn_state()?];
         let timers = [reader.churn_timer()?, reader.churn_timer()?];
@@ -251,7 +251,7 @@ impl Churn {
         Some(Churn { actor, partner })
     }
 
-    fn write(&self, to: &mut Vec<u8>) {
+    pub(crate) fn write(&self, to: &mut Vec<u8>) {
         let both = [self.actor, self.partner];
         to.extend(both.map(|monitor| monitor.state as u8));
         both.iter().for_each(|monitor| to.extend(monitor.timer.to_be_bytes()));
@@ -272,18 +272,38 @@ pub struct Table {
     pub ports: Vec<Port>,
 }
 
-/// The octets of the memory of a table of that many ports; none for a count outside 1 to 32.
-pub fn size(ports: u32) -> Option<usize> {
-    (1..=PORTS).contains(&ports).then(|| HEADER + RECORD * ports as usize)
+/// The two forms of a table (request M-106). Nothing in a table names its form: it is the one whose size fits the count.
+#[derive(Clone, Copy, Debug, PartialEq, Eq)]
+pub enum Form {
+    /// As before request M-105: without churn.
+    Old,
+    /// As every call but a move takes it.
+    New,
+}
+
+impl Form {
+    /// The octets of the memory of a table of that many ports; none for a count outside 1 to 32.
+    pub fn size(self, ports: u32) -> Option<usize> {
+        let record = match self {
+            Form::Old => BASE,
+            Form::New => RECORD,
+        };
+        (1..=PORTS).contains(&ports).then(|| HEADER + record * ports as usize)
+    }
 }
 
 impl Table {
     /// The table in this memory; none is answer 1.
     pub fn read(memory: &[u8]) -> Option<Table> {
+        Table::read_in(Form::New, memory)
+    }
+
+    /// The table of that form in this memory. Where the form has no churn, it begins.
+    pub fn read_in(form: Form, memory: &[u8]) -> Option<Table> {
         let (header, rest) = memory.split_first_chunk::<HEADER>()?;
         let mut reader = Reader(header);
         let count = reader.octet()?;
-        if memory.len() != size(u32::from(count))? {
+        if memory.len() != form.size(u32::from(count))? {
             return None;
         }
         let mut table = Table {
@@ -293,7 +313,9 @@ impl Table {
             ports: Vec::with_capacity(usize::from(count)),
         };
         let (records, groups) = rest.split_at_checked(BASE * usize::from(count))?;
-        for (base, churn) in records.chunks_exact(BASE).zip(groups.chunks_exact(CHURN)) {
+        let mut groups = groups.chunks_exact(CHURN);
+        for base in records.chunks_exact(BASE) {
+            let churn = groups.next().map_or(Some(Churn::begun()), Churn::read)?;
             table.ports.push(Port::read(base, churn, count)?);
         }
         Some(table)
@@ -301,7 +323,12 @@ impl Table {
 
     /// Writes the table over the memory from which it was read, or that has its size.
     pub fn write(&self, memory: &mut [u8]) {
-        let mut octets = Vec::with_capacity(memory.len());
+        memory.copy_from_slice(&self.octets(Form::New));
+    }
+
+    /// The table in that form.
+    pub fn octets(&self, form: Form) -> Vec<u8> {
+        let mut octets = Vec::with_capacity(HEADER + RECORD * self.ports.len());
         octets.push(self.ports.len() as u8);
         octets.extend(self.system_priority.to_be_bytes());
         octets.extend(self.system);
@@ -309,10 +336,10 @@ impl Table {
         for port in &self.ports {
             port.write(&mut octets);
         }
-        for port in &self.ports {
+        for port in self.ports.iter().filter(|_| form == Form::New) {
             port.churn.write(&mut octets);
         }
-        memory.copy_from_slice(&octets);
+        octets
     }
 
     /// What port n says of itself: the actor block of what it sends.

@@ -5,20 +5,22 @@
  * A batch is its length in octets (4), then its requests, one after the other. A request is
  *
  *    0       call: 0 table_size, 1 start, 2 receive, 3 tick, 4 line, 5 settings, 6 fetch, 7 port, 8 aggregator, 9 due,
- *            10 version
+ *            10 version, 11 old_table_size, 12 forward, 13 back
  *    1       flags: bit 0 activity or up; bit 1 timeout or full; bit 2 aggregation
  *    2-5     ports, port or aggregator
  *    6-7     system priority          8-9     CollectorMaxDelay
  *   10-11    key                     12-13    port priority
  *   14-19    system                  20-25    address
  *   26-40    partner
- *   41-44    octets of the table     45-48    octets of the frame      49-52    octets of the outgoing buffer, or of the memory for a record
+ *   41-44    octets of the table     45-48    octets of the frame
+ *   49-52    octets of what is written beside the table: the outgoing buffer, the record, or the table that a move makes of the first
  *
  * and then those octets. A reply is answer (4), sent (4), five numbers of an aggregator (4 each), the set of what is due (4), then the octets
- * of the table and of the buffer or record. A number that a call does not write comes back as 0xEE in each octet. Numbers are low octet first.
+ * of the table and of what is written beside it. A number that a call does not write comes back as 0xEE in each octet. Numbers are low octet
+ * first.
  *
- * The table, the frame and the buffer or record are lent so that they end where memory ends: a call that reads or writes past them is
- * stopped by the machine. Octets before them are looked at after each call.
+ * The three are lent so that they end where memory ends: a call that reads or writes past them is stopped by the machine. Octets before
+ * them are looked at after each call.
  */
 #define _GNU_SOURCE
 #include "myrkosti.h"
@@ -160,6 +162,9 @@ static uint8_t *perform(const uint8_t **request, const uint8_t *end, uint8_t *re
     case 8: answer = myrkosti_aggregator(table, table_len, n, &five[0], &five[1], &five[2], &five[3], &five[4]); break;
     case 9: answer = myrkosti_due(table, table_len, &due); break;
     case 10: answer = myrkosti_version(); break;
+    case 11: answer = myrkosti_old_table_size(n); break;
+    case 12: answer = myrkosti_forward(table, table_len, out, out_len); break;
+    case 13: answer = myrkosti_back(table, table_len, out, out_len); break;
     default: fail("no such call"); return reply;
     }
 

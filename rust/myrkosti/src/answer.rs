@@ -15,7 +15,8 @@ pub enum Answer {
 /// Why a call was refused. After it, table and outgoing buffer hold what they held before.
 #[derive(Clone, Copy, Debug, PartialEq, Eq, Hash)]
 pub enum Refusal {
-    /// 1: the memory is no table: its size or port count is wrong, or a field is out of range.
+    /// 1: the memory is no table: its size or port count is wrong, or a field is out of range. Of a move: it is none of the form that
+    /// is moved, or the memory for the other form has not just the size.
     TableWrong,
     /// 2: no port, or no aggregator, has this number; they count from 1.
     NoSuchPort,

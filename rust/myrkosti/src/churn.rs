@@ -20,7 +20,7 @@ pub struct ChurnMonitor {
     pub state: ChurnState,
     /// In MONITOR, the ticks after which that end churns unless it gets in sync; 0 otherwise.
     pub ticks_left: u16,
-    /// How often that end began to churn since the table was started, modulo 2^32.
+    /// How often that end began to churn since the table was started or came out of the old form, modulo 2^32.
     pub count: u32,
 }
 

@@ -41,6 +41,9 @@
 //!
 //! No call panics, whatever it is given. After a refused call, table and outgoing buffer hold what they held before.
 //!
+//! Before churn was watched for, a table had another form. [`Table::from_old`] and [`Table::to_old`] move one from either form into the
+//! other while its trunks carry: for firmware that is changed between two calls.
+//!
 //! The library is an archive for x86-64. On that architecture it is linked, and a call is a call. Elsewhere the same
 //! interface hands each call to a small program that links the archive and runs under an emulator: good for tests, too slow
 //! for a switch. Should that program not run, calls are refused with [`Refusal::Unreachable`].
@@ -61,7 +64,7 @@ pub use record::{Block, MuxState, PeriodicState, PortState, ReceiveState, Record
 pub use table::{AggregatorReport, PortSet, Received, Table, TableRef};
 
 /// The version of the library's interface that this crate was written for.
-pub const VERSION: u32 = 0x0101;
+pub const VERSION: u32 = 0x0102;
 /// The most ports that a table has.
 pub const PORTS: u32 = 32;
 /// Octets of a port's record.

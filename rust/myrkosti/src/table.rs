@@ -89,11 +89,49 @@ impl Table {
 
     /// The octets that the memory of a table of that many ports has, no more and no less; none for a count outside 1 to 32.
     pub fn size(ports: u32) -> Option<usize> {
-        /// No table is larger.
-        const LARGEST: u32 = 32_768;
-        let octets = raw::report(Report::TableSize { ports }, &[], &mut []).answer;
-        (1..=LARGEST).contains(&octets).then_some(octets as usize)
+        octets(Report::TableSize { ports })
     }
+
+    /// A table of the old form, of [`Table::old_size`] octets, moved into the form of today: what it holds is as it was, and so its
+    /// trunks go on. The monitors of churn begin afresh, with nothing counted, and have run once.
+    ///
+    /// ```
+    /// # use myrkosti::{Block, Refusal, Settings, SystemId, Table};
+    /// # fn main() -> Result<(), Refusal> {
+    /// # let settings = Settings { address: [0; 6], key: 1, port_priority: 1, activity: true, short_timeout: true,
+    /// #     aggregation: true, default_partner: Block::default() };
+    /// # let table = Table::start(2, SystemId::default(), 0, &settings)?;
+    /// let old = table.to_old()?; // to go back to earlier firmware
+    /// assert_eq!(Some(old.len()), Table::old_size(2));
+    /// let again = Table::from_old(&old)?; // for the firmware of today
+    /// assert_eq!(again.to_old()?, old);
+    /// # Ok(())
+    /// # }
+    /// ```
+    ///
+    /// # Errors
+    /// [`Refusal::TableWrong`] for what is no table of the old form, one of today's form among that.
+    pub fn from_old(old: &[u8]) -> Result<Table, Refusal> {
+        Table::from_old_in(vec![0; room(old, Table::size)].into_boxed_slice(), old)
+    }
+
+    /// The octets that a table of that many ports has in the old form; none for a count outside 1 to 32.
+    pub fn old_size(ports: u32) -> Option<usize> {
+        octets(Report::OldTableSize { ports })
+    }
+}
+
+/// A size that the library gives.
+fn octets(asked: Report) -> Option<usize> {
+    /// No table is larger.
+    const LARGEST: u32 = 32_768;
+    let octets = raw::report(asked, &[], &mut []).answer;
+    (1..=LARGEST).contains(&octets).then_some(octets as usize)
+}
+
+/// The octets that a move of this table needs, by its port count; none for what is no table, which is then refused.
+fn room(table: &[u8], size: fn(u32) -> Option<usize>) -> usize {
+    table.first().and_then(|ports| size(u32::from(*ports))).unwrap_or(0)
 }
 
 impl<M: AsRef<[u8]> + AsMut<[u8]>> Table<M> {
@@ -111,6 +149,35 @@ impl<M: AsRef<[u8]> + AsMut<[u8]>> Table<M> {
         let mut table = Table { memory };
         table.restart(ports, system, collector_max_delay, settings)?;
         Ok(table)
+    }
+
+    /// Moves a table of the old form into this memory, of [`Table::size`] octets; what it held before does not matter. Else as
+    /// [`Table::from_old`].
+    ///
+    /// # Errors
+    /// As [`Table::from_old`], and [`Refusal::TableWrong`] for memory of another size.
+    pub fn from_old_in(mut memory: M, old: &[u8]) -> Result<Table<M>, Refusal> {
+        accepted(raw::report(Report::Forward, old, memory.as_mut()))?;
+        Ok(Table { memory })
+    }
+
+    /// This table in the old form, which has no monitors of churn; all else is as it was.
+    ///
+    /// # Errors
+    /// [`Refusal::TableWrong`].
+    pub fn to_old(&self) -> Result<Vec<u8>, Refusal> {
+        let mut old = vec![0; room(self.as_octets(), Table::old_size)];
+        self.to_old_in(&mut old)?;
+        Ok(old)
+    }
+
+    /// As [`Table::to_old`], into this memory, of [`Table::old_size`] octets; what it held before does not matter.
+    ///
+    /// # Errors
+    /// [`Refusal::TableWrong`], also for memory of another size; then it holds what it held before.
+    pub fn to_old_in(&self, old: &mut [u8]) -> Result<(), Refusal> {
+        accepted(raw::report(Report::Back, self.as_octets(), old))?;
+        Ok(())
     }
 
     /// Takes memory for a table as it is. Every call looks whether it is one.

@@ -50,7 +50,7 @@ fn actor(table: &Table, port: u32) -> Block {
 
 #[test]
 fn the_version_is_the_one_written_for() {
-    assert_eq!((version(), VERSION), (Ok(0x0101), 0x0101));
+    assert_eq!((version(), VERSION), (Ok(0x0102), 0x0102));
 }
 
 #[test]
@@ -176,6 +176,82 @@ fn a_table_without_monitors_is_no_table() {
     assert_eq!(shorter.port(3), Err(Refusal::TableWrong));
 }
 
+/// Two ports: the first carries, the second has churned for a minute.
+fn one_carries() -> Table {
+    let mut table = Table::start(2, OURS, 0, &settings()).unwrap();
+    table.line(1, true, true).unwrap();
+    table.line(2, true, true).unwrap();
+    for tick in 0..600 {
+        if tick % 10 == 0 {
+            let frame = lacpdu(1, &actor(&table, 1));
+            table.receive(1, &frame, &mut [0; FRAME]).unwrap();
+        }
+        table.tick().unwrap();
+    }
+    assert_eq!(table.port(2).unwrap().churn.partner, monitor(ChurnState::Churn, 0, 1));
+    table
+}
+
+#[test]
+fn a_table_moves_into_the_old_form_and_back() {
+    let table = one_carries();
+    let old = table.to_old().unwrap();
+    assert_eq!((old.as_slice(), Table::old_size(2)), (&table.as_octets()[..11 + 57 * 2], Some(old.len())));
+    let mut moved = Table::from_old(&old).unwrap();
+    assert_eq!((&moved.as_octets()[..old.len()], moved.to_old()), (&old[..], Ok(old.clone())));
+    assert_eq!((moved.aggregator(1), moved.due()), (table.aggregator(1), table.due()));
+    let (settled, watched) = (monitor(ChurnState::NoChurn, 0, 0), monitor(ChurnState::Monitor, 600, 0));
+    let churns = [1, 2].map(|port| moved.port(port).unwrap().churn);
+    assert_eq!(churns, [settled, watched].map(|partner| Churn { actor: settled, partner }));
+    let mut unmoved = table;
+    for _ in 0..40 {
+        unmoved.tick().unwrap();
+        moved.tick().unwrap();
+        assert_eq!((moved.aggregator(1), moved.due()), (unmoved.aggregator(1), unmoved.due()));
+        assert_eq!(moved.to_old(), unmoved.to_old());
+    }
+}
+
+#[test]
+fn a_move_in_lent_memory() {
+    let table = one_carries();
+    let (mut old, mut new) = ([0xA5; 125], [0xA5; 153]);
+    table.to_old_in(&mut old).unwrap();
+    assert_eq!(table.to_old(), Ok(old.to_vec()));
+    let moved = TableRef::from_old_in(&mut new[..], &old).unwrap();
+    assert!(moved.port(1).unwrap().mux.attached());
+    assert_eq!(Table::from_old(&old).unwrap().as_octets(), moved.as_octets());
+}
+
+#[test]
+fn a_move_is_refused() {
+    assert_eq!([0, 33, u32::MAX].map(Table::old_size), [None; 3]);
+    assert_eq!((Table::old_size(1), Table::old_size(32)), (Some(68), Some(1835)));
+    let table = one_carries();
+    let old = table.to_old().unwrap();
+    for octets in (0..400).filter(|octets| *octets != old.len()) {
+        let mut lent = vec![0xA5; octets];
+        assert_eq!(table.to_old_in(&mut lent), Err(Refusal::TableWrong));
+        assert_eq!(lent, vec![0xA5; octets]);
+        let mut other = old.clone();
+        other.resize(octets, 0);
+        assert_eq!(Table::from_old(&other), Err(Refusal::TableWrong));
+        assert_eq!(Table::from_memory(other).to_old().is_ok(), octets == table.as_octets().len());
+    }
+    for octets in (0..400).filter(|octets| Some(*octets) != Table::size(2)) {
+        let mut lent = vec![0xA5; octets];
+        assert!(TableRef::from_old_in(&mut lent[..], &old).is_err());
+        assert_eq!(lent, vec![0xA5; octets]);
+    }
+    assert_eq!(Table::from_old(table.as_octets()), Err(Refusal::TableWrong));
+    for (at, octet) in [(0, 1), (0, 33), (11, 6), (11 + 57 + 13, 21), (11 + 57 * 2, 3), (11 + 57 * 2 + 4, 3)] {
+        let mut wrong = table.as_octets().to_vec();
+        wrong[at] = octet;
+        assert!(at >= old.len() || Table::from_old(&wrong[..old.len()]) == Err(Refusal::TableWrong));
+        assert_eq!(Table::from_memory(wrong).to_old(), Err(Refusal::TableWrong));
+    }
+}
+
 /// The ports that [`Table::due`] gives, which must be those on which a fetch, tried on a copy, is not refused.
 fn due(table: &Table) -> Vec<u32> {
     let due = table.due().unwrap();
@@ -262,6 +338,9 @@ fn any_memory() {
             wrong(table.port(1).map(|_| ()));
             wrong(table.aggregator(1).map(|_| ()));
             wrong(table.due().map(|_| ()));
+            wrong(table.to_old().map(|_| ()));
+            let of_old_form = length == 68 && octet == 1;
+            assert!(of_old_form || Table::from_old(table.as_octets()) == Err(Refusal::TableWrong));
             assert!(all_ones || table.as_octets().iter().all(|at| *at == octet));
         }
     }

@@ -187,3 +187,32 @@ pub fn marker(kind: u8) -> [u8; FRAME] {
     frame[14..18].copy_from_slice(&[2, 1, kind, 16]);
     frame
 }
+
+/// Numbers below a bound, the same each time.
+pub fn numbers() -> impl FnMut(u64) -> u64 {
+    let mut seed = 1_u64;
+    move |bound| {
+        seed = seed.wrapping_mul(6_364_136_223_846_793_005).wrapping_add(1_442_695_040_888_963_407);
+        (seed >> 33) % bound
+    }
+}
+
+/// A call at random on one of three ports, or on one that there is not; whether it was a tick or a start that was accepted.
+pub fn any_call(t: &mut Bench, below: &mut impl FnMut(u64) -> u64) -> (bool, bool) {
+    let n = below(4) as u32;
+    let set = Set { key: below(2) as u16, ..set(7 - below(2) as u8, [0, 0x3F, 0x07, 0x10][below(4) as usize]) };
+    match below(12) {
+        0..=5 => {
+            let states = [0x3F, 0x0F, 0x07, 0x39, 0x05];
+            let partner = if n > 0 && below(3) > 0 { t.table().actor(n.min(3)) } else { far(9, 1, 0) };
+            t.rx_both(n, far(5 + below(2) as u8, below(3) as u16, states[below(5) as usize]), partner);
+        }
+        6..=7 => drop(t.call(&Call::Line { port: n, up: below(4) > 0, full: below(2) == 1 })),
+        8 => drop(t.settings(n, set)),
+        9 => drop(t.fetch(n)),
+        10 => drop(t.hand(n, &marker(1))),
+        _ if below(20) == 0 => return (false, t.restart(3, set) == 0),
+        _ => return (t.call(&Call::Tick) == 0, false),
+    }
+    (false, false)
+}

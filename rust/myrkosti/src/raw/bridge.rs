@@ -110,10 +110,11 @@ fn arguments<'a>(call: &'a Call) -> Arguments<'a> {
         Call::Fetch { port } => Arguments { number: port, ..none },
         Call::Report(
             Report::TableSize { ports: number }
+            | Report::OldTableSize { ports: number }
             | Report::Port { port: number }
             | Report::Aggregator { aggregator: number },
         ) => Arguments { number, ..none },
-        Call::Report(Report::Due | Report::Version) => none,
+        Call::Report(Report::Due | Report::Version | Report::Forward | Report::Back) => none,
     }
 }
 
@@ -150,7 +151,7 @@ fn bridge() -> MutexGuard<'static, Option<Bridge>> {
     BRIDGE.lock().unwrap_or_else(PoisonError::into_inner)
 }
 
-/// Performs one call on this table, with this outgoing buffer, or memory for a record, if it has one.
+/// Performs one call on this table, with this outgoing buffer, or memory for a record or a moved table, if it has one.
 pub fn perform(call: &Call, table: &mut [u8], out: &mut [u8]) -> Outcome {
     let Some(reply) = alone(call.clone(), table, out) else {
         return Outcome::refused(UNREACHABLE);
@@ -160,12 +161,12 @@ pub fn perform(call: &Call, table: &mut [u8], out: &mut [u8]) -> Outcome {
     reply.outcome
 }
 
-/// Performs a call that only reads this table, with this memory for a record if it has one.
-pub fn report(report: Report, table: &[u8], record: &mut [u8]) -> Outcome {
-    let Some(reply) = alone(report.into(), table, record) else {
+/// Performs a call that only reads this table, with this memory for a record or a moved table if it has one.
+pub fn report(report: Report, table: &[u8], lent: &mut [u8]) -> Outcome {
+    let Some(reply) = alone(report.into(), table, lent) else {
         return Outcome::refused(UNREACHABLE);
     };
-    copy_back(record, &reply.out);
+    copy_back(lent, &reply.out);
     reply.outcome
 }
 

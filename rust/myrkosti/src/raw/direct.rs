@@ -58,10 +58,13 @@ mod library {
             lowest: *mut u32,
         ) -> u32;
         pub fn myrkosti_due(table: *const u8, table_len: usize, ports: *mut u32) -> u32;
+        pub fn myrkosti_old_table_size(ports: u32) -> u32;
+        pub fn myrkosti_forward(old_table: *const u8, old_len: usize, new_table: *mut u8, new_len: usize) -> u32;
+        pub fn myrkosti_back(new_table: *const u8, new_len: usize, old_table: *mut u8, old_len: usize) -> u32;
     }
 }
 
-/// Performs a call on this table, with this outgoing buffer, or memory for a record, if it has one.
+/// Performs a call on this table, with this outgoing buffer, or memory for a record or a moved table, if it has one.
 #[inline]
 pub fn perform(call: &Call, table: &mut [u8], out: &mut [u8]) -> Outcome {
     let mut outcome = Outcome::UNTOUCHED;
@@ -119,12 +122,12 @@ pub fn perform(call: &Call, table: &mut [u8], out: &mut [u8]) -> Outcome {
     outcome
 }
 
-/// Performs a call that only reads this table, with this memory for a record if it has one.
+/// Performs a call that only reads this table, with this memory for a record or a moved table if it has one.
 #[inline]
-pub fn report(report: Report, table: &[u8], record: &mut [u8]) -> Outcome {
+pub fn report(report: Report, table: &[u8], lent: &mut [u8]) -> Outcome {
     let mut outcome = Outcome::UNTOUCHED;
     let [holding, attached, distributing, count, lowest] = &mut outcome.aggregator;
-    // SAFETY: `table` is readable for its whole length and not written; `record` is writable for its whole length, and the five numbers
+    // SAFETY: `table` is readable for its whole length and not written; `lent` is writable for its whole length, and the five numbers
     // of an aggregator and the set are different writable ones. Exclusive borrows overlap nothing. A slice without octets has a pointer
     // that is not null, and none of it is read or written. The library keeps no pointer after the call, and is defined for every
     // content and number.
@@ -132,7 +135,7 @@ pub fn report(report: Report, table: &[u8], record: &mut [u8]) -> Outcome {
         match report {
             Report::TableSize { ports } => library::myrkosti_table_size(ports),
             Report::Port { port } => {
-                library::myrkosti_port(table.as_ptr(), table.len(), port, record.as_mut_ptr(), record.len())
+                library::myrkosti_port(table.as_ptr(), table.len(), port, lent.as_mut_ptr(), lent.len())
             }
             Report::Aggregator { aggregator } => library::myrkosti_aggregator(
                 table.as_ptr(),
@@ -146,6 +149,9 @@ pub fn report(report: Report, table: &[u8], record: &mut [u8]) -> Outcome {
             ),
             Report::Due => library::myrkosti_due(table.as_ptr(), table.len(), &mut outcome.due),
             Report::Version => library::myrkosti_version(),
+            Report::OldTableSize { ports } => library::myrkosti_old_table_size(ports),
+            Report::Forward => library::myrkosti_forward(table.as_ptr(), table.len(), lent.as_mut_ptr(), lent.len()),
+            Report::Back => library::myrkosti_back(table.as_ptr(), table.len(), lent.as_mut_ptr(), lent.len()),
         }
     };
     outcome
