@@ -1,7 +1,8 @@
 -- Churn detection (43.4.17, figures 43-15 and 43-16): one machine over link and Synchronization, which watches the actor's and the partner's alike.
-use Prim.Native.Nat.{ℕ, _+_, _%_}
+use Prim.Native.Nat.{ℕ}
 use mathlib.Core.Bool.{Bool, true, false}
 use Rattle.machine.specs.declared.states.Ticks.{Ticks}
+use Rattle.machine.specs.Count.{counted}
 use Rattle.machine.specs.States.{ticks}
 use Rattle.machine.specs.Time.{ranOut, fallen}
 use Rattle.port.specs.declared.record.Port.{Port}
@@ -32,10 +33,6 @@ churnNext true Monitor false true = Enter Churn
 churnNext true Monitor false false = Stay
 churnNext true Churn true out = Enter NoChurn
 churnNext true Churn false out = Stay
-
--- one more, in 32 bits
-abbrev pub counted : ℕ → ℕ
-counted n = (n + 1) % 4294967296
 
 -- the actions on entry: a timer belongs to MONITOR alone, and CHURN, which is the churn flag, counts
 abbrev pub churnEntered : State → Watch → Watch

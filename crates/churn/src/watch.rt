@@ -1,8 +1,9 @@
 // The churn detection machine (figures 43-15 and 43-16), once for the actor's Synchronization and once for the partner's.
 ghost use mathlib.Core.Path.{_≡_};
 ghost use mathlib.Core.Bool.{true};
-ghost use Rattle.churn.specs.Churn.{churnNext, counted, churnEntered, churnChoice, watched, watchFallen, monitorsFallen};
+ghost use Rattle.churn.specs.Churn.{churnNext, churnEntered, churnChoice, watched, watchFallen, monitorsFallen};
 use machine::ages::fallen;
+use machine::count::one_more;
 use machine::states::Ticks;
 
 // Churn_Detection_Time (43.4.4).
@@ -70,16 +71,6 @@ pub(crate) fn next(up: bool, state: Churn, sync: bool, out: bool) -> ChurnStep
         return next_up(state, sync, out);
     }
     ChurnStep::Enter(Churn::Monitor)
-}
-
-// One more, in 32 bits.
-fn one_more(n: u32) -> u32
-    ensures { λ r. ⌜ r ≡ counted n ⌝ }
-{
-    if n == 4294967295 {
-        return 0;
-    }
-    n + 1
 }
 
 impl Watch {

@@ -5,4 +5,5 @@ pub mod Periodic
 pub mod Mux
 pub mod Receive
 pub mod Compare
+pub mod Count
 pub mod Ages

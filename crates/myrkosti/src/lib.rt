@@ -1,12 +1,14 @@
 // The C interface (include/myrkosti.h): each call of `whole` with numbers and lent octets. A call answers its number (R2).
 ghost use mathlib.Core.Path.{_≡_};
-ghost use Rattle.control.specs.Call.{start as Call·start, receive as Call·receive, tick as Call·tick, line as Call·line, configure as Call·configure, fetch as Call·fetch};
-ghost use Rattle.whole.specs.Meets.{MeetsNumber, MeetsNumberOut, MeetsFrame, MeetsRecord, MeetsAggregator, MeetsDue};
+ghost use Rattle.control.specs.Call.{start as Call·start, tick as Call·tick, line as Call·line, configure as Call·configure};
+ghost use Rattle.whole.specs.Meets.{MeetsNumber, MeetsRecord, MeetsAggregator, MeetsDue};
 ghost use Rattle.whole.specs.Moves.{MeetsForwardNumber, MeetsBackNumber};
 ghost use Rattle.whole.specs.Report.{wholePublished};
 ghost use Rattle.table.specs.Layout.{publishedSize};
 ghost use Rattle.myrkosti.specs.Arguments.{settingsOf, systemOf, delayOf};
+ghost use Rattle.myrkosti.specs.Counted.{MeetsFetch, MeetsReceive};
 ghost use Rattle.myrkosti.specs.Version.{interfaceVersion};
+use counters::Counters;
 use frame::block::Address;
 use frame::block::Block;
 use frame::block::SystemId;
@@ -18,7 +20,7 @@ use settings::Settings;
 pub extern "C" fn myrkosti_version() -> u32
     ensures { λ r. ⌜ r ≡ interfaceVersion ⌝ }
 {
-    0x0102
+    0x0200
 }
 
 // The octets that a table of `ports` ports has; 0 for a count outside 1 to 32.
@@ -47,16 +49,59 @@ pub extern "C" fn myrkosti_line(table: &mut [u8], port: u32, up: bool, full: boo
     a.number() as u32
 }
 
-// Writes what is due on a port into `out`.
-#[no_mangle]
-pub extern "C" fn myrkosti_fetch(table: &mut [u8], port: u32, out: &mut [u8]) -> u32
-    ensures { λ r. ⌜ MeetsNumberOut (Call·fetch port (now (out .entry))) (now (table .entry)) r (now (table .exit)) (now (out .exit)) ⌝ }
-{
-    let a = whole::fetch(table, port, out);
-    a.number() as u32
+// What a call that counts answers, and the counters after it.
+pub struct Counted {
+    pub number: u32,
+    pub counters: Counters,
 }
 
-// A frame was received on a port. The Response to a Marker is written into `out`, and its length into `sent`.
+fn fetch_counted(table: &mut [u8], port: u32, out: &mut [u8], counters: Counters) -> Counted
+    ensures { λ r. ⌜ MeetsFetch port (now (out .entry)) (now (table .entry)) counters (r .number) (now (table .exit)) (now (out .exit)) (r .counters) ⌝ }
+{
+    let a = whole::fetch(table, port, out);
+    Counted {
+        number: a.number() as u32,
+        counters: counters.fetched(a),
+    }
+}
+
+// Writes what is due on a port into `out`. The port's counters are lent, and count it.
+#[no_mangle]
+pub extern "C" fn myrkosti_fetch(
+    table: &mut [u8],
+    port: u32,
+    out: &mut [u8],
+    counters: &mut Counters,
+) -> u32
+    ensures { λ r. ⌜ MeetsFetch port (now (out .entry)) (now (table .entry)) (now (counters .entry)) r (now (table .exit)) (now (out .exit)) (now (counters .exit)) ⌝ }
+{
+    let r = fetch_counted(table, port, out, *counters);
+    *counters = r.counters;
+    r.number
+}
+
+fn receive_counted(
+    table: &mut [u8],
+    port: u32,
+    frame: &[u8],
+    out: &mut [u8],
+    sent: &mut u32,
+    counters: Counters,
+) -> Counted
+    ensures { λ r. ⌜
+        MeetsReceive port (now (frame .entry)) (now (out .entry)) (now (table .entry)) counters
+        (r .number) (now (table .exit)) (now (out .exit)) (now (sent .exit)) (r .counters)
+        ⌝ }
+{
+    let a = whole::receive(table, port, frame, out);
+    *sent = a.length_sent() as u32;
+    Counted {
+        number: a.number() as u32,
+        counters: counters.received(a),
+    }
+}
+
+// A frame was received on a port. The Response to a Marker is written into `out`, and its length into `sent`. The port's counters are lent, and count it.
 #[no_mangle]
 pub extern "C" fn myrkosti_receive(
     table: &mut [u8],
@@ -64,12 +109,16 @@ pub extern "C" fn myrkosti_receive(
     frame: &[u8],
     out: &mut [u8],
     sent: &mut u32,
+    counters: &mut Counters,
 ) -> u32
-    ensures { λ r. ⌜ MeetsFrame (Call·receive port (now (frame .entry)) (now (out .entry))) (now (table .entry)) r (now (table .exit)) (now (out .exit)) (now (sent .exit)) ⌝ }
+    ensures { λ r. ⌜
+        MeetsReceive port (now (frame .entry)) (now (out .entry)) (now (table .entry)) (now (counters .entry))
+        r (now (table .exit)) (now (out .exit)) (now (sent .exit)) (now (counters .exit))
+        ⌝ }
 {
-    let a = whole::receive(table, port, frame, out);
-    *sent = a.length_sent() as u32;
-    a.number() as u32
+    let r = receive_counted(table, port, frame, out, sent, *counters);
+    *counters = r.counters;
+    r.number
 }
 
 // A port's settings as numbers and lent octets.

@@ -37,13 +37,15 @@ use Rattle.claims.specs.Speakers.{upFull, frame}
 use Rattle.claims.specs.Witness.{every}
 use Rattle.claims.proofs.Witness.{isOctet, octets}
 use Rattle.promises.specs.Run.{call, stepped, through, AllStepsTake, FromStart, HeldMade}
+use Rattle.counters.specs.Counters.{received as receivedCounts, fetched}
+use Rattle.promises.specs.Counts.{countersAfter, allOf}
 use Rattle.promises.specs.Churn.{Seen, history, churns, HasPort, shortened}
 use Rattle.promises.specs.Witness.{Witness, Applied, memory, begin, there-and-back, steps, memory2, begin2, steps2, steps3, linked}
 use Rattle.promises.proofs.Churn.{two-runs, two-runs-shortened}
 use Rattle.promises.proofs.Through.{goes-through}
 
 pub witness : Witness
-unfolding sameAddress sameSystem sameNumbers sameParty sameView maintained inSync sameState sameBlock recordDefault recordPdu updateSelected updateDefaultSelected updateNtt initialized portDisabled expired lacpDisabled defaulted pduRecorded current moved received receiveChoice receiveStep receiveRun lined periodicChoice periodicStep periodicRun due sent silent nttCleared ticked muxChoice muxStep detached placed attachedIf muxRun lawful blank started configured sameSettings sameGrouping regrouped advanced individual sameKeys sameGroup joins firstFrom lowest ruleOf waitsFor hasWaiting holdsBack heldBack ready mapFrom mustMove reselected selectedAll attachedAll muxed settled isDisplaced displacedIf displaced sameOctets foreign unknown wrongLength wrongMarkerType illegal classOf codesInRange timersInRange agesInRange valuesInRange recordInRange encoded decoded recordAt decodedAt portIn portsFrom ports recordsOctets tableOctets firstInRange tableInRange worked afterOne afterStart receivedAt afterReceived afterTick afterLine afterSettings afterSend answer effect after churnChoice watched watching monitorsFallen groupOctets groupOf groupInRange baseOf groupAt monitorsAt groupsTo withMonitors groupsInRange hasMonitors watchedAt watchedAll wholeAnswer wholeAfter movedForward forwardAnswer forwardTo backAnswer backTo stepped through history churns shortened
+unfolding sameAddress sameSystem sameNumbers sameParty sameView maintained inSync sameState sameBlock recordDefault recordPdu updateSelected updateDefaultSelected updateNtt initialized portDisabled expired lacpDisabled defaulted pduRecorded current moved received receiveChoice receiveStep receiveRun lined periodicChoice periodicStep periodicRun due sent silent nttCleared ticked muxChoice muxStep detached placed attachedIf muxRun lawful blank started configured sameSettings sameGrouping regrouped advanced individual sameKeys sameGroup joins firstFrom lowest ruleOf waitsFor hasWaiting holdsBack heldBack ready mapFrom mustMove reselected selectedAll attachedAll muxed settled isDisplaced displacedIf displaced sameOctets foreign unknown wrongLength wrongMarkerType illegal classOf codesInRange timersInRange agesInRange valuesInRange recordInRange encoded decoded recordAt decodedAt portIn portsFrom ports recordsOctets tableOctets firstInRange tableInRange worked afterOne afterStart receivedAt afterReceived afterTick afterLine afterSettings afterSend answer effect after churnChoice watched watching monitorsFallen groupOctets groupOf groupInRange baseOf groupAt monitorsAt groupsTo withMonitors groupsInRange hasMonitors watchedAt watchedAll wholeAnswer wholeAfter movedForward forwardAnswer forwardTo backAnswer backTo stepped through history churns shortened receivedCounts fetched countersAfter allOf
 witness = record {
   accepted-one = refl;
   accepted-two = refl;
@@ -56,6 +58,8 @@ witness = record {
   seen-two = refl;
   shorter-one = refl;
   shorter-two = refl;
+  counts = refl;
+  to-count = refl;
   taken = refl;
   none-ends = (refl, (refl, (refl, tt)));
 }

@@ -19,10 +19,12 @@ use Rattle.control.specs.declared.answer.Answer.the-variants.{Lacpdu}
 use Rattle.control.specs.Accepted.{accepted}
 use Rattle.control.specs.Call.{Call, start, receive, tick, line, fetch, report}
 use Rattle.control.specs.After.{after}
+use Rattle.counters.specs.Counters.{noneCounted}
 use Rattle.claims.specs.LivePartner.{NoneEnds, Live}
 use Rattle.claims.specs.Speakers.{system, noDelay, settings, keyedSettings, upFull, frame}
 use Rattle.promises.specs.Run.{Held, new, Step, call, forward, back, recordsOf, answerIn, stepped, through, callsOf}
 use Rattle.promises.specs.Churn.{Seen, seenIn, churnIn, Happening, history, churns, shortened}
+use Rattle.promises.specs.Counts.{countersAfter, heardOn, allOf}
 use Rattle.promises.specs.Through.{recordsAfter}
 
 -- one port, in memory of zeros; it hears a partner that is not in sync, goes back to the old form, ticks there and comes forward, has a further start, and is reported
@@ -67,6 +69,16 @@ both n = some (monitors (watch Monitor (ticks n) 0) (watch Monitor (ticks n) 0))
 abbrev pub linked : Held
 linked = through memory (call begin ∷ call (line 1 upFull) ∷ call tick ∷ [])
 
+-- one port that is heard: an LACPDU, one that names a port that is not there, a frame that is foreign, one of a subtype for others and one cut short, and one without room for
+-- an answer; then it sends, and has nothing more to send
+abbrev pub slow : ℕ → List ℕ
+slow subtype = 0x01 ∷ 0x80 ∷ 0xc2 ∷ 0 ∷ 0 ∷ 0x02 ∷ 0 ∷ 0 ∷ 0 ∷ 0 ∷ 0 ∷ 0 ∷ 0x88 ∷ 0x09 ∷ subtype ∷ []
+
+abbrev pub counted : List Step
+counted =
+    call (line 1 upFull) ∷ call heard ∷ call (receive 2 (frame 5 1 0x05 1 0x05) (zeros 124)) ∷ call (receive 1 [] (zeros 124)) ∷ call (receive 1 (slow 5) (zeros 124)) ∷ call (receive 1 (slow 1) (zeros 124))
+    ∷ call (receive 1 (slow 1) []) ∷ call (fetch 1 (zeros 124)) ∷ call (fetch 1 (zeros 124)) ∷ []
+
 -- what happens to the port in both: what each step is, and the link, with neither Synchronization, where the table has monitors
 abbrev pub sees : Bool → Option Seen
 sees up = some (record { up = up; actor = false; partner = false })
@@ -101,6 +113,10 @@ pub record Witness : Type 0 where
   pub seen-two : seenIn 1 (stepped (call begin2) memory2) ≡ sees false
   pub shorter-one : shortened (sees false) (history 0 (stepped (call begin) memory) steps) ≡ left
   pub shorter-two : shortened (sees false) (history 1 (stepped (call begin2) memory2) steps3) ≡ left
+  -- what is counted, and what there was to count
+  pub counts : countersAfter 1 memory (call begin ∷ counted) noneCounted
+      ≡ record { lacpdus = 1; markers = 0; responses = 0; unknown = 1; illegal = 1; sent = 1; answered = 0 }
+  pub to-count : allOf (heardOn 1) memory (call begin ∷ counted) ≡ 3
   -- an LACPDU is taken, and neither a tick nor a move ends what it said
   pub taken : answerIn heard linked ≡ Lacpdu
   pub none-ends : NoneEnds (after heard (recordsOf linked)) 0 (callsOf there-and-back)
