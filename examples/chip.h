@@ -39,4 +39,8 @@ void chip_distribute(uint32_t trunk, uint32_t ports);
 /* The links of these ports are up and have not settled for a minute: somebody should look. */
 void chip_unsettled(uint32_t ports);
 
+/* What the page of a port has to show from now on. */
+struct myrkosti_counters;
+void chip_page(uint32_t port, const struct myrkosti_counters *counters);
+
 #endif

@@ -5,6 +5,7 @@
 enum { FRAMES_A_TURN = 64 };
 
 static uint8_t table[MYRKOSTI_TABLE(CHIP_PORTS)];
+static struct myrkosti_counters counters[CHIP_PORTS + 1]; /* of each port, from zeros: they are kept for as long as this runs */
 static uint8_t unsent[CHIP_PORTS + 1][MYRKOSTI_FRAME]; /* of each port, what was fetched and could not be sent */
 static uint32_t waiting;                               /* the ports that have such a frame */
 static uint32_t collecting, distributing[CHIP_PORTS + 1]; /* as the chip is programmed: ports; ports of each trunk */
@@ -57,7 +58,7 @@ static void hear(void)
             uint32_t sent;
             if (length == 0)
                 break;
-            myrkosti_receive(table, sizeof table, port, frame, length, response, sizeof response, &sent);
+            myrkosti_receive(table, sizeof table, port, frame, length, response, sizeof response, &sent, &counters[port]);
             if (sent != 0)
                 chip_send(port, response); /* one that cannot go is lost: who sent the Marker asks again */
         }
@@ -70,7 +71,7 @@ static void send_what_is_due(void)
     uint32_t due;
     myrkosti_due(table, sizeof table, &due);
     for (uint32_t port = 1; port <= CHIP_PORTS; port++) {
-        if ((due & bit(port)) != 0 && myrkosti_fetch(table, sizeof table, port, unsent[port], MYRKOSTI_FRAME) == MYRKOSTI_DONE)
+        if ((due & bit(port)) != 0 && myrkosti_fetch(table, sizeof table, port, unsent[port], MYRKOSTI_FRAME, &counters[port]) == MYRKOSTI_DONE)
             waiting |= bit(port);
         if ((waiting & bit(port)) != 0 && chip_send(port, unsent[port]))
             waiting &= ~bit(port);
@@ -107,6 +108,12 @@ static void program_and_send(void)
     chip_unsettled(unsettled);
 }
 
+static void show_pages(void)
+{
+    for (uint32_t port = 1; port <= CHIP_PORTS; port++)
+        chip_page(port, &counters[port]);
+}
+
 /* So that every neighbour stops at once: another key, one for each port. */
 static void leave(void)
 {
@@ -125,6 +132,7 @@ int main(void)
         tell_links();
         hear();
         program_and_send();
+        show_pages();
     }
     leave();
     return 0;

@@ -1,7 +1,8 @@
 /*
  * A chip made of memory, for loop.c: four ports, joined to a neighbour that is a second table of the library. The cable of the last one carries to us
  * alone: that neighbour never hears what it sends. Time is turns of 20 ms. What happens is in `happen`; what the chip is told goes to the standard
- * output. It ends the program with 1 if an LACPDU says what is not so: that a port collects or has stopped distributing before the chip was told.
+ * output, and as the switch is to stop, what the ports' pages show. It ends the program with 1 if an LACPDU says what is not so: that a port collects or
+ * has stopped distributing before the chip was told.
  */
 #include "chip.h"
 #include "myrkosti.h"
@@ -10,7 +11,8 @@
 #include <stdlib.h>
 #include <string.h>
 
-enum { TURNS_A_TICK = 5, TICKS = 800, QUEUE = 8, ACTOR_STATE_AT = 32, ONE_WAY = CHIP_PORTS };
+enum { TURNS_A_TICK = 5, TICKS = 800, QUEUE = 8, ONE_WAY = CHIP_PORTS };
+enum { SUBTYPE_AT = 14, LACP = 1, ACTOR_STATE_AT = 32 }; /* of a frame */
 
 struct queue {
     uint8_t frames[QUEUE][MYRKOSTI_FRAME];
@@ -21,7 +23,9 @@ static unsigned turns, ticked;
 static bool links[CHIP_PORTS + 1], blocked;
 static struct queue in[CHIP_PORTS + 1];
 static uint32_t collecting, distributing[CHIP_PORTS + 1], unsettled;
+static struct myrkosti_counters pages[CHIP_PORTS + 1];
 static uint8_t neighbour[MYRKOSTI_TABLE(CHIP_PORTS)];
+static struct myrkosti_counters unread; /* the neighbour has no port pages: one record for all its ports, never read */
 
 static void show(const char *what, uint32_t ports)
 {
@@ -53,7 +57,7 @@ static void neighbour_speaks(void)
 {
     uint8_t frame[MYRKOSTI_FRAME];
     for (uint32_t port = 1; port <= CHIP_PORTS; port++)
-        if (myrkosti_fetch(neighbour, sizeof neighbour, port, frame, sizeof frame) == MYRKOSTI_DONE)
+        if (myrkosti_fetch(neighbour, sizeof neighbour, port, frame, sizeof frame, &unread) == MYRKOSTI_DONE)
             push(&in[port], frame);
 }
 
@@ -65,18 +69,35 @@ static void link(uint32_t port, bool up)
     printf("%5.1f s  link %u %s\n", turns / (10.0 * TURNS_A_TICK), (unsigned)port, up ? "up" : "down");
 }
 
+/* The neighbour sends a Marker, as it would before it moves a conversation to another link. */
+static void ask(uint32_t port)
+{
+    static const uint8_t marker[MYRKOSTI_FRAME] = {0x01, 0x80, 0xc2, 0, 0, 2, 2, 0, 0, 0, 0, 0xb, 0x88, 0x09, 2, 1, 1, 16};
+    push(&in[port], marker);
+}
+
 static void happen(unsigned tick)
 {
     if (tick == 1 || tick == 2)
         link(tick, true);
     if (tick == 20 || tick == 24)
         blocked = tick == 20; /* nothing can be sent for 400 ms, just when both ends have something to say */
+    if (tick == 40)
+        ask(1);
     if (tick == 50 || tick == 90)
         link(2, tick == 90);
     if (tick == 100)
         link(3, true);
     if (tick == 110 || tick == 750)
         link(ONE_WAY, tick == 110);
+}
+
+static void show_pages(void)
+{
+    for (uint32_t port = 1; port <= CHIP_PORTS; port++)
+        printf("%5.1f s  page of %u: LACPDUs %u in, %u out; Markers %u in; Responses %u out\n", turns / (10.0 * TURNS_A_TICK), (unsigned)port,
+               (unsigned)pages[port].lacpdus_received, (unsigned)pages[port].lacpdus_sent, (unsigned)pages[port].markers_received,
+               (unsigned)pages[port].marker_responses_sent);
 }
 
 /* ---- what loop.c asks for ---- */
@@ -91,7 +112,10 @@ bool chip_wait(void)
         myrkosti_tick(neighbour, sizeof neighbour);
     }
     neighbour_speaks();
-    return turns / TURNS_A_TICK < TICKS;
+    if (turns / TURNS_A_TICK < TICKS)
+        return true;
+    show_pages();
+    return false;
 }
 
 bool chip_tick_due(void)
@@ -134,20 +158,27 @@ size_t chip_receive(uint32_t port, uint8_t frame[CHIP_FRAME])
     return MYRKOSTI_FRAME;
 }
 
+/* Whether the chip does what a state octet says of a port. */
+static bool is_so(uint32_t port, uint8_t state)
+{
+    uint32_t sending = 0;
+    for (uint32_t trunk = 1; trunk <= CHIP_PORTS; trunk++)
+        sending |= distributing[trunk];
+    if ((state & MYRKOSTI_COLLECTING) != 0 && (collecting >> (port - 1) & 1) == 0)
+        return false;
+    return (state & MYRKOSTI_DISTRIBUTING) != 0 || (sending >> (port - 1) & 1) == 0;
+}
+
 bool chip_send(uint32_t port, const uint8_t *frame)
 {
     uint8_t out[MYRKOSTI_FRAME];
-    uint32_t sent, sending = 0;
-    for (uint32_t trunk = 1; trunk <= CHIP_PORTS; trunk++)
-        sending |= distributing[trunk];
-    if ((frame[ACTOR_STATE_AT] & MYRKOSTI_COLLECTING) != 0 && (collecting >> (port - 1) & 1) == 0)
-        exit(1);
-    if ((frame[ACTOR_STATE_AT] & MYRKOSTI_DISTRIBUTING) == 0 && (sending >> (port - 1) & 1) != 0)
+    uint32_t sent;
+    if (frame[SUBTYPE_AT] == LACP && !is_so(port, frame[ACTOR_STATE_AT]))
         exit(1);
     if (blocked || !links[port])
         return false;
     if (port != ONE_WAY)
-        myrkosti_receive(neighbour, sizeof neighbour, port, frame, MYRKOSTI_FRAME, out, sizeof out, &sent);
+        myrkosti_receive(neighbour, sizeof neighbour, port, frame, MYRKOSTI_FRAME, out, sizeof out, &sent, &unread);
     neighbour_speaks();
     return true;
 }
@@ -173,4 +204,9 @@ void chip_unsettled(uint32_t ports)
     if (ports != unsettled)
         show("does not settle:", ports);
     unsettled = ports;
+}
+
+void chip_page(uint32_t port, const struct myrkosti_counters *counters)
+{
+    pages[port] = *counters;
 }

@@ -3,12 +3,13 @@
  *
  * You lend the memory of a table of 1 to 32 ports, tell the library what happens (frames, ticks, link and duplex, settings), send what
  * it writes for you, and read from the reports which ports form one trunk. It keeps no memory of its own, allocates nothing, calls
- * nothing, and every call ends. One table is one Aggregation System; different tables may be used at the same time.
+ * nothing, and every call ends. One table is one Aggregation System; different tables may be used at the same time. What a port received
+ * and sent is counted in a small record that you keep beside the table.
  *
- * You may pass anything: frames of any length and content, any port number, any setting, any table memory. A call answers one of the
- * numbers below, and unless that is MYRKOSTI_DONE, table and outgoing buffer hold what they held before. Only this is asked of you:
- * memory that you lend is readable (the table and what is written, writable) for its whole length, nobody else uses it until the call
- * returns, and the areas that you lend to one call do not overlap.
+ * You may pass anything: frames of any length and content, any port number, any setting, any table memory, any numbers in counters. A call
+ * answers one of the numbers below, and unless that is MYRKOSTI_DONE, table and outgoing buffer hold what they held before: of what you
+ * keep, a refusal moves counters alone. Only this is asked of you: memory that you lend is readable (the table and what is written,
+ * writable) for its whole length, nobody else uses it until the call returns, and the areas that you lend to one call do not overlap.
  *
  * Link with target/staticlib/libmyrkosti.a, which `rt staticlib myrkosti` proves and builds. Then read, in this order: examples/loop.c, a driver's loop
  * to copy from; docs/GUIDE-FIRMWARE.md, why it is as it is and what to start with; 'What is left to the chip and the firmware' in
@@ -32,7 +33,7 @@ extern "C" {
  * The version of this interface. Its high octet changes where a program that was compiled with the header of before no longer fits; its low octet
  * where something is added: a call, an answer, fields behind the others of a record. Ask myrkosti_fits at start.
  */
-#define MYRKOSTI_VERSION 0x0102
+#define MYRKOSTI_VERSION 0x0200
 
 #define MYRKOSTI_PORTS 32  /* the most ports that a table has */
 #define MYRKOSTI_HEADER 11 /* octets before the first record of a table */
@@ -190,6 +191,24 @@ enum {
     MYRKOSTI_CHURN = 2          /* not in Synchronization for a minute or longer */
 };
 
+/*
+ * ---- the counters of a port (30.7.3) ----
+ *
+ * Seven uint32_t, one behind the other without padding. Keep a record for each port, outside the table, and lend it to myrkosti_receive and myrkosti_fetch
+ * on that port, which count where it stands. Nothing else moves it, no start and no move of a table either. It may hold any numbers: zero it when you begin
+ * the port's page. After 4294967295 comes 0, and no other counter moves for that. A driver that keeps none lends one record for all ports and never reads it;
+ * a null pointer is not allowed. What each counter tells of a link: docs/GUIDE-SUPPORT.md.
+ */
+struct myrkosti_counters {
+    uint32_t lacpdus_received;          /* LACPDUs: receive answered 0 to one, or 5 */
+    uint32_t markers_received;          /* Markers: answered 0 to one, or 9 */
+    uint32_t marker_responses_received; /* Marker Responses: answered 12 */
+    uint32_t unknown_received;          /* answered 7 */
+    uint32_t illegal_received;          /* answered 8 */
+    uint32_t lacpdus_sent;              /* fetch answered 0 */
+    uint32_t marker_responses_sent;     /* receive answered 0 to a Marker */
+};
+
 /* ---- calls ---- */
 
 /* The version of the library that is linked. */
@@ -214,10 +233,12 @@ uint32_t myrkosti_start(uint8_t *table, size_t table_len, uint32_t ports,
 /*
  * A frame came in on a port: hand over every frame to 01-80-C2-00-00-02, without FCS, as it came. `sent` is written at every call: 124 if
  * a Marker was answered, and then `out` begins with the Response, which you send on that port; otherwise 0. An LACPDU leaves `out` as it is.
- * After an answer 0, other ports may have changed too: read the reports that you follow. Answers 0 to 3, 5 to 9 and 12.
+ * The frame is counted, also beside a refusal: 1, 2, 3 and 6 alone count nowhere. After an answer 0, other ports may have changed too: read the
+ * reports that you follow. Answers 0 to 3, 5 to 9 and 12.
  */
 uint32_t myrkosti_receive(uint8_t *table, size_t table_len, uint32_t port,
-                          const uint8_t *frame, size_t frame_len, uint8_t *out, size_t out_len, uint32_t *sent);
+                          const uint8_t *frame, size_t frame_len, uint8_t *out, size_t out_len, uint32_t *sent,
+                          struct myrkosti_counters *counters);
 
 /*
  * A tenth of a second has passed. Call it ten times a second, for all ports at once, and no sooner than 100 ms after the tick before. Do not make
@@ -248,11 +269,12 @@ uint32_t myrkosti_settings(uint8_t *table, size_t table_len, uint32_t port,
                            bool activity, bool timeout, bool aggregation, const uint8_t partner[MYRKOSTI_BLOCK]);
 
 /*
- * The next LACPDU of a port. On answer 0 `out` begins with a frame of 124 octets, which you send on that port at once; octets after it are kept.
+ * The next LACPDU of a port. On answer 0 `out` begins with a frame of 124 octets, which you send on that port at once, and it is counted as sent; octets
+ * after it are kept.
  * Fetch on each port that myrkosti_due gives; but first let the chip receive on each port whose record has MYRKOSTI_COLLECTING in its state,
  * since the LACPDU says so, and stop it sending on each port that distributes no longer. Answers 0 to 3, 10 or 11.
  */
-uint32_t myrkosti_fetch(uint8_t *table, size_t table_len, uint32_t port, uint8_t *out, size_t out_len);
+uint32_t myrkosti_fetch(uint8_t *table, size_t table_len, uint32_t port, uint8_t *out, size_t out_len, struct myrkosti_counters *counters);
 
 /*
  * The ports that have something to send, as a set, bit 0 is port 1: exactly those on which myrkosti_fetch, with a buffer of 124 octets, would be

@@ -11,7 +11,8 @@ change churn/src/group.rt 'GROUP: usize = 14;' 'GROUP: usize = 18;'
 change churn/src/group.rt '    put_long(out, 10, partner.count);' \
     '    put_long(out, 10, partner.count); octets::put(out, 14, &[0xe1, 0xe2, 0xe3, 0xe4]);'
 change whole/src/lib.rt 'WHOLE_RECORD: usize = 71;' 'WHOLE_RECORD: usize = 75;'
-next=$(printf '0x%04x' $((version + 1)))
+of_version() { printf '0x%04x' $((version + $1)); } # so much above that of crates/
+next=$(of_version 1)
 call_it "$next"
 tools/bench/native.sh "$work/crates" "$work/native"
 
@@ -33,8 +34,8 @@ fits() {
     build "$work/$1" "$work/fits.c" "$work/fits"
     "$work/fits"
 }
-later=$(printf '0x%04x' $((version + 2)))
-if ! fits 0x0100 || ! fits "$version" || ! fits "$next" || fits "$later" || fits 0x0002 || fits 0x0200; then
+# today's and tomorrow's do; one that knows of more does not, nor those of the generations before and after
+if ! fits "$version" || ! fits "$next" || fits "$(of_version 2)" || fits "$(of_version -0x100)" || fits "$(of_version 0x100)"; then
     echo 'failed: what fits' && exit 1
 fi
 echo 'a longer record: memory that is too short is seen, and so are headers that do not fit'

@@ -4,14 +4,10 @@
 set -eu
 cd "$(dirname "$0")/.."
 [ -f target/staticlib/libmyrkosti.a ] || rt staticlib myrkosti
+tools/install.sh tshark tshark
 case $1 in
-wire)
-    tools/install.sh tshark tshark
-    tools/install.sh /usr/bin/scapy python3-scapy
-    ;;
-peers)
-    tools/install.sh ovs-vswitchd openvswitch-switch
-    ;;
+wire) tools/install.sh /usr/bin/scapy python3-scapy ;;
+peers) tools/install.sh ovs-vswitchd openvswitch-switch ;;
 esac
 . tools/x86.sh
 tools/yesterday.sh

@@ -28,14 +28,14 @@ define i32 @myrkosti_start(ptr %table, i64 %length, i32 %ports, i16 %system_prio
   ret i32 %answer
 }
 
-define i32 @myrkosti_receive(ptr %table, i64 %length, i32 %port, ptr %frame, i64 %frame_length, ptr %out, i64 %out_length, ptr %sent) nounwind {
+define i32 @myrkosti_receive(ptr %table, i64 %length, i32 %port, ptr %frame, i64 %frame_length, ptr %out, i64 %out_length, ptr %sent, ptr %counters) nounwind {
   %lent = alloca [16 x i8], align 8
   %lent_frame = alloca [16 x i8], align 8
   %lent_out = alloca [16 x i8], align 8
   call void @lend(ptr %lent, ptr %table, i64 %length)
   call void @lend(ptr %lent_frame, ptr %frame, i64 %frame_length)
   call void @lend(ptr %lent_out, ptr %out, i64 %out_length)
-  %answer = call i32 @"myrkosti::myrkosti_receive"(ptr %lent, i32 %port, ptr %lent_frame, ptr %lent_out, ptr %sent)
+  %answer = call i32 @"myrkosti::myrkosti_receive"(ptr %lent, i32 %port, ptr %lent_frame, ptr %lent_out, ptr %sent, ptr %counters)
   ret i32 %answer
 }
 
@@ -65,12 +65,12 @@ define i32 @myrkosti_settings(ptr %table, i64 %length, i32 %port, ptr %address, 
   ret i32 %answer
 }
 
-define i32 @myrkosti_fetch(ptr %table, i64 %length, i32 %port, ptr %out, i64 %out_length) nounwind {
+define i32 @myrkosti_fetch(ptr %table, i64 %length, i32 %port, ptr %out, i64 %out_length, ptr %counters) nounwind {
   %lent = alloca [16 x i8], align 8
   %lent_out = alloca [16 x i8], align 8
   call void @lend(ptr %lent, ptr %table, i64 %length)
   call void @lend(ptr %lent_out, ptr %out, i64 %out_length)
-  %answer = call i32 @"myrkosti::myrkosti_fetch"(ptr %lent, i32 %port, ptr %lent_out)
+  %answer = call i32 @"myrkosti::myrkosti_fetch"(ptr %lent, i32 %port, ptr %lent_out, ptr %counters)
   ret i32 %answer
 }
 

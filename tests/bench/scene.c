@@ -10,6 +10,9 @@ static const uint8_t NOBODY[MYRKOSTI_BLOCK] = {0, 0, 0, 0, 0, 0, 0, 0, 0, 0, 0, 
 /* the state of a port that carries traffic; ticks after which every port does; the last octet of a neighbour's address */
 enum { CARRYING = 0x3f, TICKS = 45, NEIGHBOUR = 50 };
 
+/* for calls that make tables and are not measured */
+static struct myrkosti_counters unread;
+
 /* the octets of a record that lie before all monitors */
 static uint8_t *record_of(uint8_t *table, uint32_t port)
 {
@@ -60,7 +63,7 @@ static void hear_all(uint8_t *table, const struct scene *scene, bool one_each)
     uint32_t sent;
     for (uint32_t port = 1; port <= scene->ports; port++) {
         write_lacpdu(frame, (uint8_t)port, (uint8_t)(NEIGHBOUR + (one_each ? port : 0)), 1);
-        SIDES[0].receive(table, scene->size, port, frame, sizeof frame, out, sizeof out, &sent);
+        SIDES[0].receive(table, scene->size, port, frame, sizeof frame, out, sizeof out, &sent, &unread);
     }
 }
 
@@ -70,7 +73,7 @@ static void tick_and_send(uint8_t *table, const struct scene *scene)
     uint8_t out[MYRKOSTI_FRAME];
     SIDES[0].tick(table, scene->size);
     for (uint32_t port = 1; port <= scene->ports; port++)
-        SIDES[0].fetch(table, scene->size, port, out, sizeof out);
+        SIDES[0].fetch(table, scene->size, port, out, sizeof out, &unread);
 }
 
 /* whether every port has this mux state and the aggregator that is given for it; if they distribute, NTT is clear but for the last port's */
@@ -131,7 +134,7 @@ static bool make_waiting(struct scene *scene)
     uint8_t out[MYRKOSTI_FRAME];
     uint32_t sent;
     memcpy(scene->waiting, scene->trunk, scene->size);
-    SIDES[0].receive(scene->waiting, scene->size, 1, scene->moving, MYRKOSTI_FRAME, out, sizeof out, &sent);
+    SIDES[0].receive(scene->waiting, scene->size, 1, scene->moving, MYRKOSTI_FRAME, out, sizeof out, &sent, &unread);
     return all_are(scene->waiting, scene, 1, first_or_second, 0);
 }
 
@@ -181,12 +184,12 @@ static const uint8_t *apart(const struct scene *scene)
 
 static uint32_t repeat(const struct side *side, const struct scene *scene, struct area *area)
 {
-    return side->receive(area->table, scene->size, 1, scene->repeated, MYRKOSTI_FRAME, area->out, MYRKOSTI_FRAME, &area->sent);
+    return side->receive(area->table, scene->size, 1, scene->repeated, MYRKOSTI_FRAME, area->out, MYRKOSTI_FRAME, &area->sent, &area->counters);
 }
 
 static uint32_t move(const struct side *side, const struct scene *scene, struct area *area)
 {
-    return side->receive(area->table, scene->size, 1, scene->moving, MYRKOSTI_FRAME, area->out, MYRKOSTI_FRAME, &area->sent);
+    return side->receive(area->table, scene->size, 1, scene->moving, MYRKOSTI_FRAME, area->out, MYRKOSTI_FRAME, &area->sent, &area->counters);
 }
 
 static uint32_t tick(const struct side *side, const struct scene *scene, struct area *area)
@@ -196,7 +199,7 @@ static uint32_t tick(const struct side *side, const struct scene *scene, struct 
 
 static uint32_t fetch(const struct side *side, const struct scene *scene, struct area *area)
 {
-    return side->fetch(area->table, scene->size, scene->ports, area->out, MYRKOSTI_FRAME);
+    return side->fetch(area->table, scene->size, scene->ports, area->out, MYRKOSTI_FRAME, &area->counters);
 }
 
 static uint32_t report_port(const struct side *side, const struct scene *scene, struct area *area)

@@ -26,6 +26,7 @@ struct area {
     uint32_t sets[5];
     uint32_t ports;
     uint32_t sent;
+    struct myrkosti_counters counters;
 };
 
 /* A call that is measured: the table before it, the call, and its answer. */

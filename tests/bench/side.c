@@ -7,13 +7,14 @@ uint32_t model_start(uint8_t *table, size_t table_len, uint32_t ports,
                      const uint8_t address[6], uint16_t key, uint16_t port_priority,
                      bool activity, bool timeout, bool aggregation, const uint8_t partner[MYRKOSTI_BLOCK]);
 uint32_t model_receive(uint8_t *table, size_t table_len, uint32_t port,
-                       const uint8_t *frame, size_t frame_len, uint8_t *out, size_t out_len, uint32_t *sent);
+                       const uint8_t *frame, size_t frame_len, uint8_t *out, size_t out_len, uint32_t *sent,
+                       struct myrkosti_counters *counters);
 uint32_t model_tick(uint8_t *table, size_t table_len);
 uint32_t model_line(uint8_t *table, size_t table_len, uint32_t port, bool up, bool full);
 uint32_t model_settings(uint8_t *table, size_t table_len, uint32_t port,
                         const uint8_t address[6], uint16_t key, uint16_t port_priority,
                         bool activity, bool timeout, bool aggregation, const uint8_t partner[MYRKOSTI_BLOCK]);
-uint32_t model_fetch(uint8_t *table, size_t table_len, uint32_t port, uint8_t *out, size_t out_len);
+uint32_t model_fetch(uint8_t *table, size_t table_len, uint32_t port, uint8_t *out, size_t out_len, struct myrkosti_counters *counters);
 uint32_t model_port(const uint8_t *table, size_t table_len, uint32_t port, uint8_t *record, size_t record_len);
 uint32_t model_aggregator(const uint8_t *table, size_t table_len, uint32_t aggregator,
                           uint32_t *holding, uint32_t *attached, uint32_t *distributing,

@@ -11,13 +11,14 @@ struct side {
                       const uint8_t address[6], uint16_t key, uint16_t port_priority,
                       bool activity, bool timeout, bool aggregation, const uint8_t partner[MYRKOSTI_BLOCK]);
     uint32_t (*receive)(uint8_t *table, size_t table_len, uint32_t port,
-                        const uint8_t *frame, size_t frame_len, uint8_t *out, size_t out_len, uint32_t *sent);
+                        const uint8_t *frame, size_t frame_len, uint8_t *out, size_t out_len, uint32_t *sent,
+                        struct myrkosti_counters *counters);
     uint32_t (*tick)(uint8_t *table, size_t table_len);
     uint32_t (*line)(uint8_t *table, size_t table_len, uint32_t port, bool up, bool full);
     uint32_t (*settings)(uint8_t *table, size_t table_len, uint32_t port,
                          const uint8_t address[6], uint16_t key, uint16_t port_priority,
                          bool activity, bool timeout, bool aggregation, const uint8_t partner[MYRKOSTI_BLOCK]);
-    uint32_t (*fetch)(uint8_t *table, size_t table_len, uint32_t port, uint8_t *out, size_t out_len);
+    uint32_t (*fetch)(uint8_t *table, size_t table_len, uint32_t port, uint8_t *out, size_t out_len, struct myrkosti_counters *counters);
     uint32_t (*port)(const uint8_t *table, size_t table_len, uint32_t port, uint8_t *record, size_t record_len);
     uint32_t (*aggregator)(const uint8_t *table, size_t table_len, uint32_t aggregator,
                            uint32_t *holding, uint32_t *attached, uint32_t *distributing,

@@ -1,10 +1,14 @@
-/* Drives every function of include/myrkosti.h, with its refusals. Prints one line for each check that fails, and how many passed. */
+/*
+ * Drives every function of include/myrkosti.h, with its refusals; what receive and fetch count is left to counters.c. Prints one line for each check that
+ * fails, and how many passed.
+ */
 #include "myrkosti.h"
 
 #include "check.h"
 #include "monitors.h"
 #include "neighbour.h"
 #include "ranges.h"
+#include "unread.h"
 
 #include <stdio.h>
 #include <string.h>
@@ -77,8 +81,8 @@ static void refuse_tables(void)
     IS(myrkosti_tick(table, SIZE), MYRKOSTI_TABLE_WRONG);
     IS(myrkosti_line(table, SIZE, 1, true, true), MYRKOSTI_TABLE_WRONG);
     IS(settings(table, 1, 1, NOBODY), MYRKOSTI_TABLE_WRONG);
-    IS(myrkosti_fetch(table, SIZE, 1, out, sizeof out), MYRKOSTI_TABLE_WRONG);
-    IS(myrkosti_receive(table, SIZE, 1, out, 0, out, sizeof out, &sent), MYRKOSTI_TABLE_WRONG);
+    IS(myrkosti_fetch(table, SIZE, 1, out, sizeof out, &unread), MYRKOSTI_TABLE_WRONG);
+    IS(myrkosti_receive(table, SIZE, 1, out, 0, out, sizeof out, &sent, &unread), MYRKOSTI_TABLE_WRONG);
     IS(sent, 0);
     IS(myrkosti_port(table, 0, 1, record, sizeof record), MYRKOSTI_TABLE_WRONG);
     memset(record, 0xff, sizeof record);
@@ -109,18 +113,18 @@ static void refuse_arguments(uint8_t *table)
     IS(settings(table, 1, 1, wrong), MYRKOSTI_DEFAULT_WRONG);
     IS(myrkosti_port(table, SIZE, 0, record, sizeof record), MYRKOSTI_NO_SUCH_PORT);
     IS(myrkosti_aggregator(table, SIZE, 3, &a, &b, &c, &d, &e), MYRKOSTI_NO_SUCH_PORT);
-    IS(myrkosti_fetch(table, SIZE, 1, out, 123), MYRKOSTI_BUFFER_SHORT);
-    IS(myrkosti_receive(table, SIZE, 1, frame, 5, out, 123, &sent), MYRKOSTI_BUFFER_SHORT);
-    IS(myrkosti_receive(table, SIZE, 1, frame, 13, out, sizeof out, &sent), MYRKOSTI_FOREIGN);
-    IS(myrkosti_receive(table, SIZE, 1, frame, 123, out, sizeof out, &sent), MYRKOSTI_ILLEGAL);
-    IS(myrkosti_receive(table, SIZE, 1, frame, 124, out, sizeof out, &sent), MYRKOSTI_LACP_OFF);
+    IS(myrkosti_fetch(table, SIZE, 1, out, 123, &unread), MYRKOSTI_BUFFER_SHORT);
+    IS(myrkosti_receive(table, SIZE, 1, frame, 5, out, 123, &sent, &unread), MYRKOSTI_BUFFER_SHORT);
+    IS(myrkosti_receive(table, SIZE, 1, frame, 13, out, sizeof out, &sent, &unread), MYRKOSTI_FOREIGN);
+    IS(myrkosti_receive(table, SIZE, 1, frame, 123, out, sizeof out, &sent, &unread), MYRKOSTI_ILLEGAL);
+    IS(myrkosti_receive(table, SIZE, 1, frame, 124, out, sizeof out, &sent, &unread), MYRKOSTI_LACP_OFF);
     frame[14] = 10;
-    IS(myrkosti_receive(table, SIZE, 1, frame, 124, out, sizeof out, &sent), MYRKOSTI_UNKNOWN);
+    IS(myrkosti_receive(table, SIZE, 1, frame, 124, out, sizeof out, &sent, &unread), MYRKOSTI_UNKNOWN);
     put_marker(frame, 1);
-    IS(myrkosti_receive(table, SIZE, 1, frame, 124, out, sizeof out, &sent), MYRKOSTI_NOT_COLLECTING);
+    IS(myrkosti_receive(table, SIZE, 1, frame, 124, out, sizeof out, &sent, &unread), MYRKOSTI_NOT_COLLECTING);
     put_marker(frame, 2);
-    IS(myrkosti_receive(table, SIZE, 1, frame, 124, out, sizeof out, &sent), MYRKOSTI_RESPONSE);
-    IS(myrkosti_fetch(table, SIZE, 1, out, sizeof out), MYRKOSTI_NOTHING_TO_SEND);
+    IS(myrkosti_receive(table, SIZE, 1, frame, 124, out, sizeof out, &sent, &unread), MYRKOSTI_RESPONSE);
+    IS(myrkosti_fetch(table, SIZE, 1, out, sizeof out, &unread), MYRKOSTI_NOTHING_TO_SEND);
     IS(sent, 0);
     IS(memcmp(table, before, SIZE), 0);
     for (unsigned i = 0; i < sizeof out; i++) {
@@ -133,7 +137,7 @@ static void hear(uint8_t *table, uint8_t port)
     uint8_t frame[MYRKOSTI_FRAME], out[MYRKOSTI_FRAME];
     uint32_t sent = 9;
     write_lacpdu(frame, port, field(table, port, MYRKOSTI_AT_ACTOR_STATE));
-    IS(myrkosti_receive(table, SIZE, port, frame, sizeof frame, out, sizeof out, &sent), MYRKOSTI_DONE);
+    IS(myrkosti_receive(table, SIZE, port, frame, sizeof frame, out, sizeof out, &sent, &unread), MYRKOSTI_DONE);
     IS(sent, 0);
 }
 
@@ -160,7 +164,7 @@ static void form_a_trunk(uint8_t *table)
     IS(lowest, 1);
     put_marker(frame, 1);
     memset(out, 0xff, sizeof out);
-    IS(myrkosti_receive(table, SIZE, 1, frame, sizeof frame, out, sizeof out, &sent), MYRKOSTI_DONE);
+    IS(myrkosti_receive(table, SIZE, 1, frame, sizeof frame, out, sizeof out, &sent, &unread), MYRKOSTI_DONE);
     IS(sent, MYRKOSTI_FRAME);
     IS(memcmp(out + 6, ADDRESS, 6), 0);
     IS(out[16], 2);
@@ -168,13 +172,13 @@ static void form_a_trunk(uint8_t *table)
     IS(out[MYRKOSTI_FRAME], 0xff);
     for (uint16_t i = 0; i < 3; i++) {
         IS(settings(table, 2, 2 + i, NOBODY), MYRKOSTI_DONE);
-        IS(myrkosti_fetch(table, SIZE, 2, out, sizeof out), MYRKOSTI_DONE);
+        IS(myrkosti_fetch(table, SIZE, 2, out, sizeof out, &unread), MYRKOSTI_DONE);
         IS(out[27], 2 + i);
         IS(out[51], 2);
         IS(out[52], field(table, 2, MYRKOSTI_AT_PARTNER + MYRKOSTI_BLOCK_STATE));
     }
     IS(settings(table, 2, 1, NOBODY), MYRKOSTI_DONE);
-    IS(myrkosti_fetch(table, SIZE, 2, out, sizeof out), MYRKOSTI_TOO_MANY_SENDS);
+    IS(myrkosti_fetch(table, SIZE, 2, out, sizeof out, &unread), MYRKOSTI_TOO_MANY_SENDS);
     IS(myrkosti_line(table, SIZE, 1, true, false), MYRKOSTI_DONE);
     IS(field(table, 1, MYRKOSTI_AT_RECEIVE), MYRKOSTI_RECEIVE_LACP_DISABLED);
     IS(myrkosti_aggregator(table, SIZE, 1, &holding, &attached, &distributing, &count, &lowest), MYRKOSTI_DONE);
@@ -195,7 +199,7 @@ static uint32_t fetch_anew(uint8_t *table, uint16_t key)
 {
     uint8_t out[MYRKOSTI_FRAME];
     IS(settings(table, 1, key, NOBODY), MYRKOSTI_DONE);
-    return myrkosti_fetch(table, SIZE, 1, out, sizeof out);
+    return myrkosti_fetch(table, SIZE, 1, out, sizeof out, &unread);
 }
 
 /* three LACPDUs go, a tick apart; a fourth once eleven ticks have come after the first, a fifth once they have after the second */
@@ -263,7 +267,7 @@ static uint32_t set_line(uint8_t *table, struct line line)
 static uint32_t fetch(uint8_t *table)
 {
     uint8_t out[MYRKOSTI_FRAME];
-    return myrkosti_fetch(table, SIZE, 1, out, sizeof out);
+    return myrkosti_fetch(table, SIZE, 1, out, sizeof out, &unread);
 }
 
 static void pass(uint8_t *table, int ticks)
@@ -445,7 +449,7 @@ static uint32_t due(const uint8_t *table, uint32_t count)
     IS(ask_due(table, MYRKOSTI_TABLE(count), &ports), MYRKOSTI_DONE);
     for (uint32_t port = 1; port <= count; port++) {
         memcpy(copy, table, MYRKOSTI_TABLE(count));
-        if (myrkosti_fetch(copy, MYRKOSTI_TABLE(count), port, out, sizeof out) == MYRKOSTI_DONE) {
+        if (myrkosti_fetch(copy, MYRKOSTI_TABLE(count), port, out, sizeof out, &unread) == MYRKOSTI_DONE) {
             fetched |= 1u << (port - 1);
         }
     }
@@ -563,10 +567,10 @@ static void say_what_is_due_on_32_ports(void)
         IS(due(table, MYRKOSTI_PORTS), 0xffffffffu << (port - 1));
     }
     for (uint32_t port = 1; port < MYRKOSTI_PORTS; port++) {
-        IS(myrkosti_fetch(table, LARGEST, port, out, sizeof out), MYRKOSTI_DONE);
+        IS(myrkosti_fetch(table, LARGEST, port, out, sizeof out, &unread), MYRKOSTI_DONE);
         IS(due(table, MYRKOSTI_PORTS), 0xffffffffu << port);
     }
-    IS(myrkosti_fetch(table, LARGEST, MYRKOSTI_PORTS, out, sizeof out), MYRKOSTI_DONE);
+    IS(myrkosti_fetch(table, LARGEST, MYRKOSTI_PORTS, out, sizeof out, &unread), MYRKOSTI_DONE);
     IS(due(table, MYRKOSTI_PORTS), 0);
 }
 

@@ -7,6 +7,7 @@
 #include "check.h"
 #include "monitors.h"
 #include "neighbour.h"
+#include "unread.h"
 
 #include <string.h>
 
@@ -67,7 +68,7 @@ static uint32_t hear_on(uint32_t port, uint8_t state)
     theirs[MYRKOSTI_BLOCK_STATE] = state;
     put_ours(ours, &system, (uint16_t)port, record);
     put_lacpdu(frame, theirs, ours);
-    return myrkosti_receive(table, SIZE, port, frame, sizeof frame, out, sizeof out, &sent);
+    return myrkosti_receive(table, SIZE, port, frame, sizeof frame, out, sizeof out, &sent, &unread);
 }
 
 static void hear(uint8_t state)
@@ -327,13 +328,13 @@ static uint32_t hear_marker(void)
     uint8_t frame[MYRKOSTI_FRAME], out[MYRKOSTI_FRAME];
     uint32_t sent;
     put_marker(frame, 1);
-    return myrkosti_receive(table, SIZE, 2, frame, sizeof frame, out, sizeof out, &sent);
+    return myrkosti_receive(table, SIZE, 2, frame, sizeof frame, out, sizeof out, &sent, &unread);
 }
 
 static uint32_t fetch(void)
 {
     uint8_t out[MYRKOSTI_FRAME];
-    return myrkosti_fetch(table, SIZE, 2, out, sizeof out);
+    return myrkosti_fetch(table, SIZE, 2, out, sizeof out, &unread);
 }
 
 static uint32_t ask_due(void)

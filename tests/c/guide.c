@@ -1,6 +1,6 @@
 /*
- * What docs/GUIDE-FIRMWARE.md says of the choices of a driver, and docs/GUIDE-SUPPORT.md of links that never settle, each shown by a run: two switches A
- * and B, whose ports are joined, port i to port i. Prints one line for each check that fails, and how many passed.
+ * What docs/GUIDE-FIRMWARE.md says of the choices of a driver, and docs/GUIDE-SUPPORT.md of links that never settle and of counters, each shown by a run:
+ * two switches A and B, whose ports are joined, port i to port i. Prints one line for each check that fails, and how many passed.
  */
 #define _DEFAULT_SOURCE
 
@@ -26,6 +26,15 @@ static uint8_t A[SIZE], B[SIZE];
 
 static const uint8_t NAMES[2][6] = {{2, 0, 0, 0, 0, 0xa}, {2, 0, 0, 0, 0, 0xb}};
 
+/* the counters of each port of A and of B, or of each switch one record for all its ports */
+static struct myrkosti_counters PAGES[2][PORTS + 1];
+static bool one_for_all;
+
+static struct myrkosti_counters *page(const uint8_t *table, uint32_t port)
+{
+    return &PAGES[table == B][one_for_all ? 0 : port];
+}
+
 static struct myrkosti_system named(const uint8_t *table)
 {
     return myrkosti_usual_system(NAMES[table == B]);
@@ -39,11 +48,12 @@ static struct myrkosti_port_settings settings_of(const uint8_t *table, uint32_t 
     return myrkosti_usual_settings(address, 1);
 }
 
-/* every port with the usual settings, but for the timeout */
+/* every port with the usual settings, but for the timeout, and a new page */
 static void begin(uint8_t *table, bool timeout)
 {
     const struct myrkosti_system system = named(table);
     struct myrkosti_port_settings settings = settings_of(table, 0);
+    memset(PAGES[table == B], 0, sizeof PAGES[0]);
     IS(myrkosti_start_with(table, SIZE, PORTS, &system, &settings), MYRKOSTI_DONE);
     for (uint32_t port = 1; port <= PORTS; port++) {
         settings = settings_of(table, port);
@@ -98,7 +108,7 @@ static void deliver(uint8_t *to, uint32_t port, const uint8_t frame[MYRKOSTI_FRA
 {
     uint8_t out[MYRKOSTI_FRAME];
     uint32_t sent;
-    IS(myrkosti_receive(to, SIZE, port, frame, MYRKOSTI_FRAME, out, sizeof out, &sent), MYRKOSTI_DONE);
+    IS(myrkosti_receive(to, SIZE, port, frame, MYRKOSTI_FRAME, out, sizeof out, &sent, page(to, port)), MYRKOSTI_DONE);
 }
 
 static uint32_t due(const uint8_t *table)
@@ -115,7 +125,7 @@ static void say(uint8_t *from, uint8_t *to)
     const uint32_t ports = due(from);
     for (uint32_t port = 1; port <= PORTS; port++) {
         if ((ports >> (port - 1) & 1) != 0) {
-            IS(myrkosti_fetch(from, SIZE, port, frame, sizeof frame), MYRKOSTI_DONE);
+            IS(myrkosti_fetch(from, SIZE, port, frame, sizeof frame, page(from, port)), MYRKOSTI_DONE);
             deliver(to, port, frame);
         }
     }
@@ -126,7 +136,7 @@ static void say_in_vain(uint8_t *from)
 {
     uint8_t frame[MYRKOSTI_FRAME];
     for (uint32_t port = 1; port <= PORTS; port++)
-        myrkosti_fetch(from, SIZE, port, frame, sizeof frame);
+        myrkosti_fetch(from, SIZE, port, frame, sizeof frame, page(from, port));
 }
 
 /* until neither has anything to say */
@@ -181,7 +191,7 @@ static int ticks_with_a_failed_send(bool keep)
         tick(B);
         say(B, A);
         if (due(A) != 0) {
-            IS(myrkosti_fetch(A, SIZE, 1, frame, sizeof frame), MYRKOSTI_DONE); /* a newer one takes the place of the one kept */
+            IS(myrkosti_fetch(A, SIZE, 1, frame, sizeof frame, page(A, 1)), MYRKOSTI_DONE); /* a newer one takes the place of the one kept */
             kept = ticks >= 20 && ticks < 26;
             if (!kept)
                 deliver(B, 1, frame);
@@ -200,7 +210,9 @@ static int ticks_with_a_failed_send(bool keep)
 static void keep_what_could_not_be_sent(void)
 {
     IS(ticks_with_a_failed_send(true), 26);
+    IS(page(A, 1)->lacpdus_sent, page(B, 1)->lacpdus_received);
     IS(ticks_with_a_failed_send(false), 300);
+    IS(page(A, 1)->lacpdus_sent, page(B, 1)->lacpdus_received + 1); /* it was fetched, and so counted */
 }
 
 /* ---- many frames, then the chip and the sends once ---- */
@@ -248,7 +260,7 @@ static void any_call(void)
         IS(myrkosti_port(A, SIZE, port, record, sizeof record), MYRKOSTI_DONE);
         put_ours(ours, &system, (uint16_t)port, record);
         put_lacpdu(frame, theirs, ours);
-        const uint32_t answer = myrkosti_receive(A, SIZE, port, frame, sizeof frame, out, sizeof out, &sent);
+        const uint32_t answer = myrkosti_receive(A, SIZE, port, frame, sizeof frame, out, sizeof out, &sent, page(A, port));
         IS(answer == MYRKOSTI_DONE || answer == MYRKOSTI_LACP_OFF, true);
     }
 }
@@ -308,13 +320,15 @@ static void leave_the_tag_on(void)
     begin(A, true);
     begin(B, true);
     plug(1);
-    IS(myrkosti_fetch(B, SIZE, 1, frame, sizeof frame), MYRKOSTI_DONE);
+    IS(myrkosti_fetch(B, SIZE, 1, frame, sizeof frame, page(B, 1)), MYRKOSTI_DONE);
     memcpy(tagged, frame, TYPE_AT);
     memcpy(tagged + TYPE_AT, TAG, sizeof TAG);
     memcpy(tagged + TYPE_AT + sizeof TAG, frame + TYPE_AT, sizeof frame - TYPE_AT);
-    IS(myrkosti_receive(A, SIZE, 1, tagged, sizeof tagged, out, sizeof out, &sent), MYRKOSTI_UNKNOWN);
+    IS(myrkosti_receive(A, SIZE, 1, tagged, sizeof tagged, out, sizeof out, &sent, page(A, 1)), MYRKOSTI_UNKNOWN);
+    IS(page(A, 1)->unknown_received, 1);
+    IS(page(A, 1)->lacpdus_received, 0);
     IS(field(A, 1, MYRKOSTI_AT_RECEIVE), MYRKOSTI_RECEIVE_EXPIRED);
-    IS(myrkosti_receive(A, SIZE, 1, frame, sizeof frame, out, sizeof out, &sent), MYRKOSTI_DONE);
+    IS(myrkosti_receive(A, SIZE, 1, frame, sizeof frame, out, sizeof out, &sent, page(A, 1)), MYRKOSTI_DONE);
     IS(field(A, 1, MYRKOSTI_AT_RECEIVE), MYRKOSTI_RECEIVE_CURRENT);
 }
 
@@ -564,6 +578,7 @@ static void two_neighbours_behind_one_cable(void)
     }
     churns(A, 1, true, false);
     IS(field(A, 1, MYRKOSTI_AT_MUX), MYRKOSTI_MUX_WAITING);
+    IS(page(A, 1)->lacpdus_received, 2 * 60); /* one a second from each */
 }
 
 /* two ports of one neighbour behind the cable of port 1: it waits again and again, and port 2 of the same aggregator, where all is well, with it */
@@ -613,6 +628,169 @@ static void collects_never(void)
     }
     IS(field(A, 1, MYRKOSTI_AT_MUX), MYRKOSTI_MUX_COLLECTING);
     IS(carrying(A), 0);
+}
+
+/* ---- what the counters tell ---- */
+
+/* a Marker (type 1), a Response (2) or none of them, with this subtype in its place, comes to port 1 of A; a Marker that is taken is answered */
+static void hear_frame(uint8_t subtype, uint8_t type, uint32_t answer)
+{
+    uint8_t frame[MYRKOSTI_FRAME], out[MYRKOSTI_FRAME];
+    uint32_t sent;
+    put_marker(frame, type);
+    frame[SUBTYPE_AT] = subtype;
+    IS(myrkosti_receive(A, SIZE, 1, frame, sizeof frame, out, sizeof out, &sent, page(A, 1)), answer);
+    IS(sent, subtype == 2 && type == 1 && answer == MYRKOSTI_DONE ? MYRKOSTI_FRAME : 0);
+}
+
+/* a minute of a link, from when it has settled: how many LACPDUs came to A, which are as many as went from it */
+static uint32_t lacpdus_a_minute(bool timeout)
+{
+    begin(A, timeout);
+    begin(B, timeout);
+    plug(1);
+    talk();
+    pass(100);
+    const struct myrkosti_counters before = *page(A, 1);
+    pass(MINUTE);
+    const uint32_t came = page(A, 1)->lacpdus_received - before.lacpdus_received;
+    IS(page(A, 1)->lacpdus_sent - before.lacpdus_sent, came);
+    return came;
+}
+
+static void pace(void)
+{
+    IS(lacpdus_a_minute(true), 60);
+    IS(lacpdus_a_minute(false), 2);
+}
+
+/* both pass so many ticks, and what A says gets lost on the way */
+static void pass_unheard(int ticks)
+{
+    while (ticks-- > 0) {
+        tick(A);
+        tick(B);
+        say_in_vain(A);
+        say(B, A);
+    }
+}
+
+/* what B hears stands still, and A hears on; to each of B's, which says that it hears nobody, A sends one more than its own of every second */
+static void lost_in_one_direction(void)
+{
+    trunk_of_two();
+    pass_unheard(100);
+    const struct myrkosti_counters at_a = *page(A, 1), at_b = *page(B, 1);
+    pass_unheard(MINUTE);
+    IS(page(A, 1)->lacpdus_received - at_a.lacpdus_received, 60);
+    IS(page(A, 1)->lacpdus_sent - at_a.lacpdus_sent, 120);
+    IS(page(B, 1)->lacpdus_sent - at_b.lacpdus_sent, 60);
+    IS(page(B, 1)->lacpdus_received, at_b.lacpdus_received);
+}
+
+/* at half duplex the neighbour's LACPDUs are counted and not heard, and none goes out */
+static void counted_at_half_duplex(void)
+{
+    begin(A, true);
+    begin(B, true);
+    plug(1);
+    IS(myrkosti_line(A, SIZE, 1, true, false), MYRKOSTI_DONE);
+    for (int ticks = 0; ticks < 100; ticks++) {
+        uint8_t frame[MYRKOSTI_FRAME], out[MYRKOSTI_FRAME];
+        uint32_t sent;
+        tick(A);
+        tick(B);
+        IS(due(A), 0);
+        if (myrkosti_fetch(B, SIZE, 1, frame, sizeof frame, page(B, 1)) == MYRKOSTI_DONE)
+            IS(myrkosti_receive(A, SIZE, 1, frame, sizeof frame, out, sizeof out, &sent, page(A, 1)), MYRKOSTI_LACP_OFF);
+    }
+    check(page(A, 1)->lacpdus_received >= 10, "LACPDUs came");
+    IS(page(A, 1)->lacpdus_received, page(B, 1)->lacpdus_sent);
+    IS(page(A, 1)->lacpdus_sent, 0);
+    IS(field(A, 1, MYRKOSTI_AT_ACTOR_STATE) & MYRKOSTI_DEFAULTED, MYRKOSTI_DEFAULTED);
+}
+
+/* Markers are answered where the port collects; before that they are counted and nothing is sent */
+static void markers_unanswered(void)
+{
+    begin(A, true);
+    IS(line(A, 1, true), MYRKOSTI_DONE);
+    hear_frame(2, 1, MYRKOSTI_NOT_COLLECTING);
+    IS(page(A, 1)->markers_received, 1);
+    IS(page(A, 1)->marker_responses_sent, 0);
+    trunk_of_two();
+    hear_frame(2, 1, MYRKOSTI_DONE);
+    IS(page(A, 1)->markers_received, 1);
+    IS(page(A, 1)->marker_responses_sent, 1);
+    hear_frame(2, 2, MYRKOSTI_RESPONSE);
+    IS(page(A, 1)->marker_responses_received, 1);
+}
+
+/* OAM (subtype 3) is unknown here; subtypes that nobody has, and Markers of another type, are illegal; the trunk stands through any number of either */
+static void other_senders(void)
+{
+    trunk_of_two();
+    for (int frames = 0; frames < 100; frames++) {
+        hear_frame(3, 1, MYRKOSTI_UNKNOWN);
+        hear_frame(11, 1, MYRKOSTI_ILLEGAL);
+        hear_frame(2, 9, MYRKOSTI_ILLEGAL);
+    }
+    IS(page(A, 1)->unknown_received, 100);
+    IS(page(A, 1)->illegal_received, 200);
+    pass(60);
+    IS(carrying(A), 3);
+}
+
+/* ---- how counters are kept ---- */
+
+/* what a driver publishes of a counter: how much it rose between two readings, in 32 bits, so that it may have passed 0 */
+static uint32_t rise(uint32_t before, uint32_t now)
+{
+    return now - before;
+}
+
+static void publish_differences(void)
+{
+    uint64_t published = 0;
+    trunk_of_two();
+    page(A, 1)->lacpdus_received = 4294967295u - 15;
+    for (int readings = 0; readings < 10; readings++) {
+        const uint32_t before = page(A, 1)->lacpdus_received;
+        pass(100);
+        published += rise(before, page(A, 1)->lacpdus_received);
+    }
+    IS(published, 100);
+    check(page(A, 1)->lacpdus_received < 100, "it passed 0");
+}
+
+/* a start of the table and moves of it leave the pages as they are */
+static void pages_outlive(void)
+{
+    uint8_t old[MYRKOSTI_OLD_TABLE(PORTS)];
+    const struct myrkosti_system system = named(A);
+    const struct myrkosti_port_settings settings = settings_of(A, 1);
+    struct myrkosti_counters before[PORTS + 1];
+    trunk_of_two();
+    memcpy(before, PAGES[0], sizeof before);
+    IS(myrkosti_back(A, SIZE, old, sizeof old), MYRKOSTI_DONE);
+    IS(myrkosti_forward(old, sizeof old, A, SIZE), MYRKOSTI_DONE);
+    IS(myrkosti_start_with(A, SIZE, PORTS, &system, &settings), MYRKOSTI_DONE);
+    IS(memcmp(PAGES[0], before, sizeof before), 0);
+    check(before[1].lacpdus_received > 0 && before[2].lacpdus_sent > 0, "something was counted");
+}
+
+/* a driver without port pages lends one record for all ports: its tables are the same */
+static void no_pages(void)
+{
+    uint8_t tables[2][SIZE];
+    trunk_of_two();
+    memcpy(tables[0], A, SIZE);
+    memcpy(tables[1], B, SIZE);
+    one_for_all = true;
+    trunk_of_two();
+    IS(memcmp(tables[0], A, SIZE), 0);
+    IS(memcmp(tables[1], B, SIZE), 0);
+    one_for_all = false;
 }
 
 /* ---- the end, and going on ---- */
@@ -803,7 +981,7 @@ static int sends_at_once(void)
     int sends = 0;
     for (uint16_t key = 2; key < 8; key++) {
         set_key(A, 1, key);
-        sends += myrkosti_fetch(A, SIZE, 1, frame, sizeof frame) == MYRKOSTI_DONE;
+        sends += myrkosti_fetch(A, SIZE, 1, frame, sizeof frame, page(A, 1)) == MYRKOSTI_DONE;
     }
     return sends;
 }
@@ -842,6 +1020,14 @@ int main(void)
     held_back_by_another();
     flapping_link();
     collects_never();
+    pace();
+    lost_in_one_direction();
+    counted_at_half_duplex();
+    markers_unanswered();
+    other_senders();
+    publish_differences();
+    pages_outlive();
+    no_pages();
     leave();
     load_in_time();
     one_memory();

@@ -1,7 +1,7 @@
 /*
  * A program of this header with a library whose record is longer than the header knows (tools/longer-record.sh). All memory that it lends is from the
- * heap and just as long as it says, so that a checker of memory sees an octet that is touched beyond it. With the word `short` it lends less than it
- * says for a record, which the checker must see.
+ * heap and just as long as it says, so that a checker of memory sees an octet that is touched beyond it; counters too. With the word `short` it lends
+ * less than it says for a record, which the checker must see.
  */
 #include "myrkosti.h"
 
@@ -18,6 +18,7 @@ static const struct myrkosti_system THEM = {{0, 0, 0, 0, 0, 5}, 1, 0};
 
 static size_t size, longer; /* the octets of the library's table and record */
 static uint8_t *table;
+static struct myrkosti_counters *counters; /* of port 2 */
 
 /* an octet of a record of the library's, where it lies: what this header calls the group is longer there */
 static uint8_t lies(uint32_t port, size_t at)
@@ -90,7 +91,7 @@ static void hear(void)
     put_ours(theirs, &THEM, 1, record);
     theirs[MYRKOSTI_BLOCK_STATE] = 0x3f;
     put_lacpdu(frame, theirs, ours);
-    IS(myrkosti_receive(table, size, HEARD, frame, MYRKOSTI_FRAME, out, MYRKOSTI_FRAME, &sent), MYRKOSTI_DONE);
+    IS(myrkosti_receive(table, size, HEARD, frame, MYRKOSTI_FRAME, out, MYRKOSTI_FRAME, &sent, counters), MYRKOSTI_DONE);
     free(record);
     free(frame);
     free(out);
@@ -113,7 +114,9 @@ static void carry(void)
     IS(field(HEARD, MYRKOSTI_AT_PARTNER + MYRKOSTI_BLOCK_SYSTEM + 5), 5);
     IS(myrkosti_due(table, size, &ports), MYRKOSTI_DONE);
     IS(ports, 2);
-    IS(myrkosti_fetch(table, size, HEARD, out, MYRKOSTI_FRAME), MYRKOSTI_DONE);
+    IS(myrkosti_fetch(table, size, HEARD, out, MYRKOSTI_FRAME, counters), MYRKOSTI_DONE);
+    IS(counters->lacpdus_received, 1);
+    IS(counters->lacpdus_sent, 1);
     IS(myrkosti_aggregator(table, size, 2, &holding, &attached, &distributing, &count, &lowest), MYRKOSTI_DONE);
     IS(distributing, 2);
     free(out);
@@ -149,6 +152,8 @@ int main(int words, char **word)
     IS(myrkosti_version(), MYRKOSTI_VERSION + 1);
     IS(myrkosti_fits(), true);
     table = lend(size);
+    counters = lend(sizeof *counters);
+    memset(counters, 0, sizeof *counters);
     IS(myrkosti_start_with(table, MYRKOSTI_TABLE(PORTS), PORTS, &us, &settings), MYRKOSTI_TABLE_WRONG);
     IS(myrkosti_start_with(table, size, PORTS, &us, &settings), MYRKOSTI_DONE);
     look_at_the_whole();
@@ -160,5 +165,6 @@ int main(int words, char **word)
         free(record);
     }
     free(table);
+    free(counters);
     return finish("a longer record");
 }

@@ -9,6 +9,7 @@
 #include "monitors.h"
 #include "neighbour.h"
 #include "ranges.h"
+#include "unread.h"
 #include "yesterday.h"
 
 #include <stdio.h>
@@ -247,7 +248,7 @@ static void hear(struct world *world, struct end *end, uint32_t port, const uint
     note->port = port;
     note->answer = LOST;
     if (!lost)
-        note->answer = end->library->receive(end->table, size_of(end), port, frame, MYRKOSTI_FRAME, response, sizeof response, &sent);
+        note->answer = end->library->receive(end->table, size_of(end), port, frame, MYRKOSTI_FRAME, response, sizeof response, &sent, &unread);
     if (sent != 0)
         hear(world, end == &world->ours ? &world->theirs : &world->ours, port, response, false);
 }
@@ -259,7 +260,7 @@ static void say(struct world *world, struct end *from, struct end *to, uint32_t 
     IS(from->library->due(from->table, size_of(from), &ports), MYRKOSTI_DONE);
     for (uint32_t port = 1; port <= PORTS; port++) {
         if ((ports & bit(port)) != 0) {
-            IS(from->library->fetch(from->table, size_of(from), port, frame, sizeof frame), MYRKOSTI_DONE);
+            IS(from->library->fetch(from->table, size_of(from), port, frame, sizeof frame, &unread), MYRKOSTI_DONE);
             hear(world, to, port, frame, (lost & bit(port)) != 0);
         }
     }

@@ -5,14 +5,17 @@
 #include "layout.h"
 #include "neighbour.h"
 
+#include <assert.h>
 #include <string.h>
 
 enum { PORTS = 2, SIZE = MYRKOSTI_TABLE(PORTS) };
 
 static const uint8_t ADDRESS[6] = {0x02, 0x00, 0x5e, 0x10, 0x20, 0x30};
 static const uint8_t OTHER[6] = {0x02, 0x00, 0x5e, 0x10, 0x20, 0x31};
+static const uint8_t NOBODY[MYRKOSTI_BLOCK] = {0};
 
 static uint8_t table[SIZE], record[MYRKOSTI_RECORD];
+static struct myrkosti_counters counters; /* of whichever port */
 
 /* the record of port 1 goes into `record` */
 static void look(void)
@@ -49,8 +52,8 @@ static void versions_and_sizes(void)
     IS(MYRKOSTI_AT_PARTNER + MYRKOSTI_BLOCK, MYRKOSTI_AT_ACTOR_CHURN);
     IS(MYRKOSTI_OLD_RECORD, MYRKOSTI_AT_ACTOR_CHURN);
     IS(MYRKOSTI_AT_PARTNER_CHURN_COUNT + 4, MYRKOSTI_RECORD);
-    IS(myrkosti_fetch(table, SIZE, 1, out, sizeof out - 1), MYRKOSTI_BUFFER_SHORT);
-    IS(myrkosti_fetch(table, SIZE, 1, out, sizeof out), MYRKOSTI_NOTHING_TO_SEND);
+    IS(myrkosti_fetch(table, SIZE, 1, out, sizeof out - 1, &counters), MYRKOSTI_BUFFER_SHORT);
+    IS(myrkosti_fetch(table, SIZE, 1, out, sizeof out, &counters), MYRKOSTI_NOTHING_TO_SEND);
 }
 
 static void numbers(void)
@@ -143,7 +146,7 @@ static void start_and_set(void)
     IS(memcmp(record + MYRKOSTI_AT_DEFAULT, settings.partner, MYRKOSTI_BLOCK), 0);
     IS(memcmp(record + MYRKOSTI_AT_PARTNER, settings.partner, MYRKOSTI_BLOCK), 0);
     IS(myrkosti_line(table, SIZE, 1, true, true), MYRKOSTI_DONE);
-    IS(myrkosti_fetch(table, SIZE, 1, out, sizeof out), MYRKOSTI_DONE);
+    IS(myrkosti_fetch(table, SIZE, 1, out, sizeof out, &counters), MYRKOSTI_DONE);
     look();
     put_ours(ours, &system, 1, record);
     IS(memcmp(out + ACTOR_AT, ours, MYRKOSTI_BLOCK), 0);
@@ -174,7 +177,7 @@ static void hear(uint8_t state)
     theirs[MYRKOSTI_BLOCK_STATE] = state;
     put_ours(ours, &system, 1, record);
     put_lacpdu(frame, theirs, ours);
-    IS(myrkosti_receive(table, SIZE, 1, frame, sizeof frame, out, sizeof out, &sent), MYRKOSTI_DONE);
+    IS(myrkosti_receive(table, SIZE, 1, frame, sizeof frame, out, sizeof out, &sent, &counters), MYRKOSTI_DONE);
 }
 
 static void start(void)
@@ -336,17 +339,21 @@ static void moves(void)
 
 /* ---- answers ---- */
 
-static uint32_t answer_to(const uint8_t *frame, size_t length)
+static uint32_t answer_on(uint32_t port, const uint8_t *frame, size_t length)
 {
     uint8_t out[MYRKOSTI_FRAME];
     uint32_t sent;
-    return myrkosti_receive(table, SIZE, 2, frame, length, out, sizeof out, &sent);
+    return myrkosti_receive(table, SIZE, port, frame, length, out, sizeof out, &sent, &counters);
+}
+
+static uint32_t answer_to(const uint8_t *frame, size_t length)
+{
+    return answer_on(2, frame, length);
 }
 
 /* on port 2, whose link is down; the numbers are those of document 01 */
 static void answers(void)
 {
-    static const uint8_t NOBODY[MYRKOSTI_BLOCK] = {0};
     uint8_t frame[MYRKOSTI_FRAME], out[MYRKOSTI_FRAME];
     uint32_t ports;
     start();
@@ -367,10 +374,57 @@ static void answers(void)
         IS(myrkosti_settings_with(table, SIZE, 2, &settings), MYRKOSTI_DONE);
         IS(myrkosti_due(table, SIZE, &ports), MYRKOSTI_DONE);
         IS(ports, key < 5 ? 2 : 0);
-        IS(myrkosti_fetch(table, SIZE, 2, out, sizeof out), key < 5 ? MYRKOSTI_DONE : MYRKOSTI_TOO_MANY_SENDS);
+        IS(myrkosti_fetch(table, SIZE, 2, out, sizeof out, &counters), key < 5 ? MYRKOSTI_DONE : MYRKOSTI_TOO_MANY_SENDS);
     }
     IS(MYRKOSTI_DONE, 0);
     IS(MYRKOSTI_RESPONSE, 12);
+}
+
+/* ---- counters ---- */
+
+#if defined __cplusplus || __STDC_VERSION__ >= 201112L /* C99 has no such assertion */
+#define STANDS_AT(member, octet) static_assert(offsetof(struct myrkosti_counters, member) == (octet), #member)
+static_assert(sizeof(struct myrkosti_counters) == 28, "seven numbers without padding");
+STANDS_AT(lacpdus_received, 0);
+STANDS_AT(markers_received, 4);
+STANDS_AT(marker_responses_received, 8);
+STANDS_AT(unknown_received, 12);
+STANDS_AT(illegal_received, 16);
+STANDS_AT(lacpdus_sent, 20);
+STANDS_AT(marker_responses_sent, 24);
+#endif
+
+static void answer_often(uint32_t port, const uint8_t *frame, size_t length, uint32_t answer, int times)
+{
+    while (times-- > 0) {
+        IS(answer_on(port, frame, length), answer);
+    }
+}
+
+/* each by its name, no two so often: frames on port 2, which a start left without a link, and Markers and a fetch on port 1, which distributes */
+static void counters_by_name(void)
+{
+    uint8_t frame[MYRKOSTI_FRAME];
+    mux_states();
+    memset(&counters, 0, sizeof counters);
+    put_lacpdu(frame, NOBODY, NOBODY);
+    answer_often(2, frame, sizeof frame, MYRKOSTI_LACP_OFF, 6);
+    answer_often(2, frame, sizeof frame - 1, MYRKOSTI_ILLEGAL, 5);
+    frame[SUBTYPE_AT] = 3;
+    answer_often(2, frame, sizeof frame, MYRKOSTI_UNKNOWN, 4);
+    put_marker(frame, 2);
+    answer_often(2, frame, sizeof frame, MYRKOSTI_RESPONSE, 3);
+    put_marker(frame, 1);
+    answer_often(2, frame, sizeof frame, MYRKOSTI_NOT_COLLECTING, 1);
+    answer_often(1, frame, sizeof frame, MYRKOSTI_DONE, 7);
+    IS(myrkosti_fetch(table, SIZE, 1, frame, sizeof frame, &counters), MYRKOSTI_DONE);
+    IS(counters.lacpdus_received, 6);
+    IS(counters.markers_received, 1 + 7);
+    IS(counters.marker_responses_received, 3);
+    IS(counters.unknown_received, 4);
+    IS(counters.illegal_received, 5);
+    IS(counters.lacpdus_sent, 1);
+    IS(counters.marker_responses_sent, 7);
 }
 
 int main(void)
@@ -389,5 +443,6 @@ int main(void)
     churn_octets();
     moves();
     answers();
+    counters_by_name();
     return finish("names of the header");
 }

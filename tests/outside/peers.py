@@ -5,16 +5,19 @@ something must happen are exact. Each part below starts from a trunk of both lin
 
 Then new firmware is loaded under the trunk: a switch that began with the library of yesterday has its table moved to that of today, and back.
 
+All that passed our ports meanwhile goes into a capture, and the counters of each port must be what tshark counts there.
+
 Last come switches with which these parts must fail: one that never sends, so that the neighbour must not come to use a link, and some that load new
-firmware in a way that the neighbour must notice.
+firmware in a way that the neighbour must notice; and a capture that misses frames.
 """
 
 import tempfile
 from contextlib import contextmanager
 
+from capture import CAPTURES, Captured, by_name, hold_counters, left_out
 from neighbour import KEY, MEMBERS, SYSTEM, SYSTEM_PRIORITY, Neighbour
 from switch import (CHURN, CHURN_MONITOR, CURRENT, DEFAULTED, DONE, EXPIRED, LACP_OFF, NO_CHURN, NOBODY, SLOW_ADDRESS, Aggregator, Block,
-                    Checks, Settings, Switch, System, bit, run)
+                    Checks, Settings, System, bit, run)
 
 # Two ports of four; the other two have no cable.
 FIRST, SECOND, PORTS = 2, 4, 4
@@ -412,7 +415,7 @@ def all_parts(world, parts):
 @contextmanager
 def between(command, checks):
     """A world of a switch and a neighbour that are new."""
-    with tempfile.TemporaryDirectory(prefix="peers.") as folder, Neighbour(folder) as neighbour, Switch(command) as switch:
+    with tempfile.TemporaryDirectory(prefix="peers.") as folder, Neighbour(folder) as neighbour, Captured(command) as switch:
         yield World(switch, neighbour, checks)
 
 
@@ -446,11 +449,28 @@ def is_noticed(command, change, pause):
         return stood and checks.failed > 0
 
 
+def counters_hold(world):
+    """Each port's counters are what tshark counts in a capture of what passed it; the capture's frames, each with its counter."""
+    world.switch.pages()
+    return hold_counters(world.checks, world.switch, CAPTURES / "peers.pcap")
+
+
+def misses_frames(command):
+    """Whether a capture that misses an LACPDU either way, of ten seconds of a trunk, is told from one that holds with the counters."""
+    checks = Checks(quiet=True)
+    with between(command, checks) as world:
+        forms(world)
+        lasts(world)
+        missed, noticed = left_out(world.switch, counters_hold(world), CAPTURES / "misses.pcap")
+        return checks.failed == 0 and missed == noticed == 2
+
+
 # What must be found out, and how.
 WRONG = (
     ("a switch that never sends", never_answers),
     ("new firmware that starts its table anew", lambda command: is_noticed(command, starts_anew, 0)),
     ("new firmware that takes three seconds", lambda command: is_noticed(command, lambda world: world.switch.forward(), SHORT)),
+    ("a capture that misses frames", misses_frames),
 )
 
 
@@ -460,6 +480,8 @@ def peers(command):
     for words, parts in ((command, PARTS), ([*command, "--yesterday"], NEW_FIRMWARE)):
         with between(words, checks) as world:
             all_parts(world, parts)
+            counted = by_name(counters_hold(world))
+            print("counted, by tshark and by the ports:", ", ".join(f"{number} {name}" for name, number in sorted(counted.items())))
             ticks, ours, theirs = ticks + world.now, ours + sum(world.sent.values()), theirs + sum(world.came.values())
     print(f"{ticks} ticks, {ours} frames of ours, {theirs} of the neighbour's")
     missed = [name for name, found in WRONG if not found(command)]

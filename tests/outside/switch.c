@@ -11,10 +11,11 @@
  *   fetch PORT                        answer, LACPDU
  *   port PORT                         answer, record
  *   aggregator NUMBER                 answer, holding, attached, distributing, count, lowest
+ *   counters PORT                     0, the seven counters of struct myrkosti_counters, from zeros at the start on
  *   forward, back                     the table is moved to the other form, and the library of that form makes the calls from then on
  *
  * With the argument --mute it never sends: nothing is due, a fetch finds nothing, and a Marker gets no Response. With --yesterday it begins with the
- * library of yesterday, whose records have zeros where today's have churn fields. A line that it cannot read ends it.
+ * library of yesterday, which counts nothing and whose records have zeros where today's have churn fields. A line that it cannot read ends it.
  */
 #include "myrkosti.h"
 
@@ -29,6 +30,7 @@ enum { LINE = 8192, FRAME = 2048 };
 static const struct library *library = &TODAY;
 static uint8_t table[MYRKOSTI_TABLE(MYRKOSTI_PORTS)];
 static size_t size;
+static struct myrkosti_counters counters[MYRKOSTI_PORTS + 1]; /* of each port; the first is lent where the number is of none */
 static bool mute;
 
 struct settings {
@@ -113,6 +115,11 @@ static void say_octets(uint32_t answer, const uint8_t *from, size_t count)
     printf("\n");
 }
 
+static struct myrkosti_counters *counters_of(uint32_t port)
+{
+    return &counters[port <= MYRKOSTI_PORTS ? port : 0];
+}
+
 static void do_start(void)
 {
     uint8_t system[6];
@@ -122,6 +129,7 @@ static void do_start(void)
     uint16_t delay = (uint16_t)number(UINT16_MAX);
     struct settings s = settings();
     size = library->table_size(ports);
+    memset(counters, 0, sizeof counters);
     say(library->start(table, size, ports, priority, system, delay, s.address, s.key, s.priority, s.activity, s.timeout, s.aggregation, s.partner));
 }
 
@@ -149,7 +157,7 @@ static void do_receive(void)
     uint8_t frame[FRAME], out[MYRKOSTI_FRAME];
     uint32_t sent, port = number(UINT32_MAX);
     size_t length = octets(frame, sizeof frame);
-    uint32_t answer = library->receive(table, size, port, frame, length, out, sizeof out, &sent);
+    uint32_t answer = library->receive(table, size, port, frame, length, out, sizeof out, &sent, counters_of(port));
     say_octets(answer, out, mute ? 0 : sent);
 }
 
@@ -163,7 +171,7 @@ static void do_fetch(void)
 {
     uint8_t out[MYRKOSTI_FRAME];
     uint32_t port = number(UINT32_MAX);
-    uint32_t answer = mute ? MYRKOSTI_NOTHING_TO_SEND : library->fetch(table, size, port, out, sizeof out);
+    uint32_t answer = mute ? MYRKOSTI_NOTHING_TO_SEND : library->fetch(table, size, port, out, sizeof out, counters_of(port));
     say_octets(answer, out, answer == MYRKOSTI_DONE ? sizeof out : 0);
 }
 
@@ -182,7 +190,15 @@ static void do_aggregator(void)
            (unsigned)lowest);
 }
 
-/* the table in the form of the other library, which goes on with it unless the move is refused */
+static void do_counters(void)
+{
+    const struct myrkosti_counters *c = counters_of(number(UINT32_MAX));
+    printf("%u %u %u %u %u %u %u %u\n", MYRKOSTI_DONE, (unsigned)c->lacpdus_received, (unsigned)c->markers_received,
+           (unsigned)c->marker_responses_received, (unsigned)c->unknown_received, (unsigned)c->illegal_received, (unsigned)c->lacpdus_sent,
+           (unsigned)c->marker_responses_sent);
+}
+
+/* the table in the form of the other library, which goes on with it unless the move is refused; counters stay */
 static void change_library(const struct library *other, uint32_t (*move)(const uint8_t *, size_t, uint8_t *, size_t))
 {
     uint8_t target[sizeof table];
@@ -212,7 +228,7 @@ static const struct {
 } COMMANDS[] = {
     {"start", do_start}, {"settings", do_settings}, {"line", do_line}, {"tick", do_tick},
     {"receive", do_receive}, {"due", do_due}, {"fetch", do_fetch}, {"port", do_port}, {"aggregator", do_aggregator},
-    {"forward", do_forward}, {"back", do_back},
+    {"counters", do_counters}, {"forward", do_forward}, {"back", do_back},
 };
 
 static void obey(char *line)

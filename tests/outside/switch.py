@@ -124,6 +124,17 @@ class Aggregator(NamedTuple):
     lowest: int
 
 
+class Counters(NamedTuple):
+    """The counters of a port, in the order of struct myrkosti_counters."""
+    lacpdus_received: int
+    markers_received: int
+    marker_responses_received: int
+    unknown_received: int
+    illegal_received: int
+    lacpdus_sent: int
+    marker_responses_sent: int
+
+
 def members(number):
     """The ports of a 32-bit set, bit 0 is port 1."""
     return {port for port in range(1, 33) if number >> (port - 1) & 1}
@@ -208,6 +219,9 @@ class Switch:
         holding, attached, distributing, count, lowest = map(int, self.done("aggregator", number))
         return Aggregator(members(holding), members(attached), members(distributing), count, lowest)
 
+    def counters(self, port):
+        """The counters of a port, since the start."""
+        return Counters(*map(int, self.done("counters", port)))
 
     def forward(self):
         """Moves the table from the form of yesterday's library to that of today's, which goes on with it."""

@@ -2,24 +2,23 @@
 
 Tables are led through many situations. Every LACPDU and every Marker Response that the library gives out goes into a capture, beside what
 the port's record and the requester's Marker say it must be; tshark reads the capture, and each field must be that. What the tables hear is
-built by scapy; what the records hold afterwards, and each answer, must be what document 01 says of the numbers that scapy was given.
+built by scapy; what the records hold afterwards, and each answer, must be what document 01 says of the numbers that scapy was given. All of both goes
+into another capture, and the counters of each port must be what tshark counts there.
 
-Then the same check runs on a sender that is wrong: each bit of an LACPDU and of a Response flipped, one at a time. It must find every one.
+Then the same checks run on what is wrong: each bit of an LACPDU and of a Response flipped, one at a time, and a capture that misses frames. They must
+find every one.
 """
 
 import json
 import random
-import struct
-import subprocess
-from pathlib import Path
 
 from scapy.contrib.lacp import LACP, MarkerProtocol, SlowProtocol
 from scapy.layers.l2 import Ether
 
+from capture import CAPTURES, Captured, by_name, hold_counters, left_out, tshark, write_capture
 from switch import (BITS, COLLECTING, CURRENT, DISTRIBUTING, DONE, FOREIGN, ILLEGAL, LACP_OFF, NOBODY, NOT_COLLECTING, RESPONSE,
-                    SLOW_ADDRESS, UNKNOWN, Block, Checks, Settings, Switch, System, bit, run)
+                    SLOW_ADDRESS, UNKNOWN, Block, Checks, Counters, Settings, System, bit, run)
 
-CAPTURES = Path("target/outside")
 WHOLE = 124
 PEER_ADDRESS = bytes.fromhex("02b1b2b3b4b5")
 TOURS, STEPS = 60, 25
@@ -82,12 +81,6 @@ def response_layers(source, port, system, transaction):
 
 # Reading a capture.
 
-def write_capture(path, frames):
-    """A capture file of Ethernet frames, all at time 0."""
-    records = (struct.pack("<4I", 0, 0, len(frame), len(frame)) + frame for frame in frames)
-    path.write_bytes(struct.pack("<IHHiIII", 0xa1b2c3d4, 2, 4, 0, 0, 65535, 1) + b"".join(records))
-
-
 def flat(tree):
     """The fields of a tree of fields, without the trees."""
     for name, value in tree.items():
@@ -108,9 +101,7 @@ def seen(packet):
 def read_capture(path, frames):
     """For each frame the fields that tshark shows of it."""
     write_capture(path, frames)
-    command = ["tshark", "-n", "-r", path, "-T", "json", "--no-duplicate-keys"]
-    output = subprocess.run(command, capture_output=True, check=True, text=True).stdout
-    return [seen(packet) for packet in json.loads(output)]
+    return [seen(packet) for packet in json.loads(tshark(path, "-T", "json", "--no-duplicate-keys"))]
 
 
 def wrong_fields(found, expected):
@@ -382,20 +373,27 @@ def show_state_bits(found, frame, right):
 def wire(command):
     """Everything, and the last line; whether all is well."""
     checks, chance = Checks(), random.Random(43)
-    with Switch(command) as switch:
+    with Captured(command) as switch:
         tour = Tour(switch, checks)
         for _ in range(TOURS):
             random_tour(tour, chance)
         hear_odd_frames(tour)
         walk(tour)
+        switch.pages()
     print(f"received: {checks.passed} checks on frames that scapy built")
     found = judge(checks, tour.frames, tour.expected)
     every_state_bit(checks, found)
     responses = sum(frame[14] == 2 for frame in tour.frames)
     print(f"sent: {len(found) - responses} LACPDUs and {responses} Marker Responses, every field read by tshark")
+    places = hold_counters(checks, switch, CAPTURES / "counted.pcap")
+    counted = by_name(places)
+    checks.equal("counters that counted something", set(counted), set(Counters._fields))
+    print("counted, by tshark and by the ports:", ", ".join(f"{counted[name]} {name}" for name in Counters._fields))
     wrong, caught = wrong_senders(tour.frames, tour.expected)
-    print(f"wire: {checks.passed} checks passed, {checks.failed} failed; of {wrong} frames with one wrong bit {caught} were found out")
-    return checks.failed == 0 and caught == wrong
+    missed, noticed = left_out(switch, places, CAPTURES / "misses.pcap")
+    print(f"wire: {checks.passed} checks passed, {checks.failed} failed; of {wrong} frames with one wrong bit {caught} were found out,",
+          f"and of {missed} that a capture misses, {noticed}")
+    return checks.failed == 0 and (caught, noticed) == (wrong, missed)
 
 
 if __name__ == "__main__":

@@ -8,9 +8,15 @@
 #![allow(clippy::missing_safety_doc)] // one duty for all functions, above
 #![allow(clippy::too_many_arguments)] // the signatures are those of the C interface
 
-use calls::{Call, Report, SettingsArguments, BLOCK};
+use calls::{Call, Counters, Report, SettingsArguments, BLOCK};
 use model::{perform, report};
 use std::slice::{from_raw_parts, from_raw_parts_mut};
+
+/// The answer to a call that writes nothing but the table.
+#[inline(always)]
+unsafe fn change(call: &Call, table: *mut u8, table_len: usize) -> u32 {
+    perform(call, from_raw_parts_mut(table, table_len), &mut [], &mut Counters::default()).answer
+}
 
 /// Starts a table.
 #[no_mangle]
@@ -32,7 +38,7 @@ pub unsafe extern "C" fn model_start(
     let (system, address, partner) = (*system, *address, *partner);
     let settings = SettingsArguments { address, key, port_priority, activity, timeout, aggregation, partner };
     let start = Call::Start { ports, system_priority, system, collector_max_delay, settings };
-    perform(&start, from_raw_parts_mut(table, table_len), &mut []).answer
+    change(&start, table, table_len)
 }
 
 /// A frame came in on a port.
@@ -46,9 +52,11 @@ pub unsafe extern "C" fn model_receive(
     out: *mut u8,
     out_len: usize,
     sent: &mut u32,
+    counters: &mut Counters,
 ) -> u32 {
     let receive = Call::Receive { port, frame: from_raw_parts(frame, frame_len).into() };
-    let outcome = perform(&receive, from_raw_parts_mut(table, table_len), from_raw_parts_mut(out, out_len));
+    let (table, out) = (from_raw_parts_mut(table, table_len), from_raw_parts_mut(out, out_len));
+    let outcome = perform(&receive, table, out, counters);
     *sent = outcome.sent;
     outcome.answer
 }
@@ -56,13 +64,13 @@ pub unsafe extern "C" fn model_receive(
 /// A tenth of a second has passed.
 #[no_mangle]
 pub unsafe extern "C" fn model_tick(table: *mut u8, table_len: usize) -> u32 {
-    perform(&Call::Tick, from_raw_parts_mut(table, table_len), &mut []).answer
+    change(&Call::Tick, table, table_len)
 }
 
 /// The link of a port is up or down now, and its duplex full or half.
 #[no_mangle]
 pub unsafe extern "C" fn model_line(table: *mut u8, table_len: usize, port: u32, up: bool, full: bool) -> u32 {
-    perform(&Call::Line { port, up, full }, from_raw_parts_mut(table, table_len), &mut []).answer
+    change(&Call::Line { port, up, full }, table, table_len)
 }
 
 /// A port has these settings from now on.
@@ -81,13 +89,21 @@ pub unsafe extern "C" fn model_settings(
 ) -> u32 {
     let (address, partner) = (*address, *partner);
     let settings = SettingsArguments { address, key, port_priority, activity, timeout, aggregation, partner };
-    perform(&Call::Settings { port, settings }, from_raw_parts_mut(table, table_len), &mut []).answer
+    change(&Call::Settings { port, settings }, table, table_len)
 }
 
 /// The next LACPDU of a port.
 #[no_mangle]
-pub unsafe extern "C" fn model_fetch(table: *mut u8, table_len: usize, port: u32, out: *mut u8, out_len: usize) -> u32 {
-    perform(&Call::Fetch { port }, from_raw_parts_mut(table, table_len), from_raw_parts_mut(out, out_len)).answer
+pub unsafe extern "C" fn model_fetch(
+    table: *mut u8,
+    table_len: usize,
+    port: u32,
+    out: *mut u8,
+    out_len: usize,
+    counters: &mut Counters,
+) -> u32 {
+    let (table, out) = (from_raw_parts_mut(table, table_len), from_raw_parts_mut(out, out_len));
+    perform(&Call::Fetch { port }, table, out, counters).answer
 }
 
 /// The record of a port.

@@ -6,6 +6,10 @@
 
 #![forbid(unsafe_code)]
 
+mod counters;
+
+pub use counters::Counters;
+
 use std::borrow::Cow;
 
 /// Octets of an information block.
@@ -196,6 +200,8 @@ pub struct Request<'a> {
     /// The outgoing buffer of receive and fetch, the memory for a port's record, or that into which a table is moved; other calls have
     /// none.
     pub out: Vec<u8>,
+    /// The counters of the port, for receive and fetch; other calls take none.
+    pub counters: Counters,
 }
 
 /// What came of a request.
@@ -207,13 +213,15 @@ pub struct Reply {
     pub table: Vec<u8>,
     /// The buffer, the memory for a record or that of a moved table, after the call.
     pub out: Vec<u8>,
+    /// The counters after the call: as they came with a call that takes none.
+    pub counters: Counters,
 }
 
 impl Request<'_> {
     /// The reply of whoever performs calls by this function, which works on copies of the memory.
-    pub fn performed_by(&self, perform: impl FnOnce(&Call, &mut [u8], &mut [u8]) -> Outcome) -> Reply {
-        let (mut table, mut out) = (self.table.clone(), self.out.clone());
-        let outcome = perform(&self.call, &mut table, &mut out);
-        Reply { outcome, table, out }
+    pub fn performed_by(&self, perform: impl FnOnce(&Call, &mut [u8], &mut [u8], &mut Counters) -> Outcome) -> Reply {
+        let (mut table, mut out, mut counters) = (self.table.clone(), self.out.clone(), self.counters);
+        let outcome = perform(&self.call, &mut table, &mut out, &mut counters);
+        Reply { outcome, table, out, counters }
     }
 }

@@ -2,7 +2,7 @@
 
 use crate::memory::FIELDS;
 use crate::world::{place, BASE, CHURN, HEADER};
-use calls::{Call, Reply, Report, Request};
+use calls::{Call, Counters, Reply, Report, Request};
 use std::fmt::Write;
 
 /// What the memory is called into which a table is moved.
@@ -51,6 +51,14 @@ fn tables(text: &mut String, called: &str, before: &[u8], model: &[u8], library:
     }
 }
 
+/// The counters that differ, with what they held before.
+fn counters(text: &mut String, before: &Counters, model: &Counters, library: &Counters) {
+    let numbers = before.numbers().into_iter().zip(model.numbers()).zip(library.numbers());
+    for (name, ((before, model), library)) in Counters::NAMES.iter().zip(numbers) {
+        line(text, &format!("{name}, before {before}"), &model, &library);
+    }
+}
+
 /// A description of a difference.
 pub fn describe(request: &Request, model: &Reply, library: &Reply) -> String {
     let mut text = String::new();
@@ -85,6 +93,7 @@ pub fn describe(request: &Request, model: &Reply, library: &Reply) -> String {
         &library.outcome.aggregator,
     );
     line(&mut text, "due, as a set", &model.outcome.due, &library.outcome.due);
+    counters(&mut text, &request.counters, &model.counters, &library.counters);
     line(&mut text, lent, &hex(&model.out), &hex(&library.out));
     tables(&mut text, "table", &request.table, &model.table, &library.table);
     if lent == MOVED {

@@ -66,12 +66,13 @@ impl fmt::Display for Said {
 #[cfg(test)]
 mod tests {
     use super::*;
-    use calls::Outcome;
+    use calls::{Counters, Outcome};
 
     /// Whether what is said, `due`, and then a fetch on port 2 with that answer go together.
     fn agree(due: Outcome, fetched: u32, out: usize) -> bool {
-        let ask = |call, out| Request { call, table: vec![1], out: vec![0; out] };
-        let tell = |outcome| Reply { outcome, table: vec![2], out: Vec::new() };
+        let counters = Counters::default();
+        let ask = |call, out| Request { call, table: vec![1], out: vec![0; out], counters };
+        let tell = |outcome| Reply { outcome, table: vec![2], out: Vec::new(), counters };
         let mut said = Said::default();
         assert_eq!(said.hold(&ask(Report::Due.into(), 0), &tell(due)), None);
         said.hold(&ask(Call::Fetch { port: 2 }, out), &tell(Outcome::refused(fetched))).is_none()
@@ -90,8 +91,9 @@ mod tests {
     fn a_set_holds_until_the_table_changes() {
         let mut said = Said::default();
         let mut hold = |call, table: u8, outcome, after: u8| {
-            let request = Request { call, table: vec![table], out: vec![0; FRAME] };
-            said.hold(&request, &Reply { outcome, table: vec![after], out: Vec::new() })
+            let counters = Counters::default();
+            let request = Request { call, table: vec![table], out: vec![0; FRAME], counters };
+            said.hold(&request, &Reply { outcome, table: vec![after], out: Vec::new(), counters })
         };
         let fetch = |port| Call::Fetch { port };
         assert_eq!(hold(Report::Due.into(), 1, Outcome { due: 0b11, ..Outcome::refused(0) }, 1), None);

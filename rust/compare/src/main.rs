@@ -1,6 +1,6 @@
 //! Drives the library and the model side by side through random calls and compares every octet that is lent (table, outgoing buffer,
-//! record, moved table), the answer, `sent`, the five numbers of an aggregator, and the set of what is due. A fetch that comes
-//! after the library said what is due must also be answered accordingly.
+//! record, moved table), the answer, `sent`, the five numbers of an aggregator, the set of what is due, and the counters. A fetch that
+//! comes after the library said what is due must also be answered accordingly.
 //!
 //! The model goes first, and the library then performs the same calls in batches, each on the octets that stood before it. As long
 //! as no difference was found these are the library's own octets, and at the first difference the comparison ends.
@@ -219,7 +219,7 @@ fn main() -> ExitCode {
 #[cfg(test)]
 mod tests {
     use super::*;
-    use calls::{Call, Report, SettingsArguments};
+    use calls::{Call, Counters, Report, SettingsArguments};
     use std::slice::from_ref;
 
     #[test]
@@ -231,6 +231,7 @@ mod tests {
         assert!(comparison.tally.least_lent() > 0, "{}", comparison.tally);
         assert!(comparison.tally.least_churn() > 0, "{}", comparison.tally);
         assert!(comparison.tally.least_move() > 0, "{}", comparison.tally);
+        assert!(comparison.tally.least_counter() > 0, "{}", comparison.tally);
         assert!(comparison.said.sent.min(comparison.said.refused) > 100, "{}", comparison.said);
     }
 
@@ -266,7 +267,12 @@ mod tests {
 
         /// What both reply, on copies of the table, with that lent to be written.
         fn reply_into(&self, call: Call, out: Vec<u8>) -> Reply {
-            let request = Request { call, table: self.0.clone(), out };
+            self.reply_counting(call, out, Counters::default())
+        }
+
+        /// The same with these counters lent too.
+        fn reply_counting(&self, call: Call, out: Vec<u8>, counters: Counters) -> Reply {
+            let request = Request { call, table: self.0.clone(), out, counters };
             let reply = request.performed_by(model::perform);
             assert_eq!(raw::perform_all(from_ref(&request)).unwrap(), from_ref(&reply));
             reply
@@ -486,6 +492,58 @@ mod tests {
             assert_eq!((&again.0[..68], again.churn()), (&old.0[..], &churn[..]));
             assert_eq!(old.reply(Call::Tick).outcome.answer, 1);
         }
+    }
+
+    /// The answer to a call, and what it adds to each counter, in the order of the record, whatever they hold.
+    fn added(both: &Both, call: &Call, out: usize) -> (u32, [u32; 7]) {
+        let begun = [0, 0xFFFF, u32::MAX].map(|begun| {
+            let reply = both.reply_counting(call.clone(), vec![0; out], [begun; 7].into());
+            (reply.outcome.answer, reply.counters.numbers().map(|number| number.wrapping_sub(begun)))
+        });
+        assert!(begun.iter().all(|added| *added == begun[0]), "{begun:?}");
+        begun[0]
+    }
+
+    #[test]
+    fn every_answer_counts_where_it_should() {
+        let lines = [(true, true), (true, false), (false, true), (false, false)];
+        let mut random = Random::new(1);
+        for both in lines.map(Both::carrying) {
+            let (lacp_on, collects) = (world::line_of(&both.0, 1) == (true, true), both.0[world::HEADER + 2] >= 3);
+            let lacpdu = world::frame(1, &[1; world::BLOCK], &[1; world::BLOCK]);
+            let [marker, response] = [1, 2].map(|kind| world::marker(&mut random, kind));
+            let with = |at: usize, octet| [&lacpdu[..at], &[octet], &lacpdu[at + 1..]].concat();
+            for (frame, counted) in [
+                (lacpdu.clone(), if lacp_on { (0, [1, 0, 0, 0, 0, 0, 0]) } else { (5, [1, 0, 0, 0, 0, 0, 0]) }),
+                (marker, if collects { (0, [0, 1, 0, 0, 0, 0, 1]) } else { (9, [0, 1, 0, 0, 0, 0, 0]) }),
+                (response, (12, [0, 0, 1, 0, 0, 0, 0])),
+                (with(14, 3), (7, [0, 0, 0, 1, 0, 0, 0])),
+                (with(13, 0), (7, [0, 0, 0, 1, 0, 0, 0])),
+                (with(14, 0), (8, [0, 0, 0, 0, 1, 0, 0])),
+                (with(17, 0), (8, [0, 0, 0, 0, 1, 0, 0])),
+                (with(5, 3), (6, [0; 7])),
+            ] {
+                let receive = |port| Call::Receive { port, frame: frame.clone().into() };
+                assert_eq!(added(&both, &receive(1), world::FRAME), counted);
+                assert_eq!(added(&both, &receive(2), world::FRAME), (2, [0; 7]));
+                assert_eq!(added(&both, &receive(1), world::FRAME - 1), (3, [0; 7]));
+                assert_eq!(added(&both.back().unwrap(), &receive(1), world::FRAME), (1, [0; 7]));
+            }
+        }
+    }
+
+    #[test]
+    fn a_fetch_counts_if_it_is_answered_0() {
+        let mut both = Both::start(settings(0));
+        let fetch = Call::Fetch { port: 1 };
+        assert_eq!(added(&both, &fetch, world::FRAME), (10, [0; 7]));
+        assert_eq!(both.call(Call::Line { port: 1, up: true, full: true }), 0);
+        assert_eq!(added(&both, &fetch, world::FRAME), (0, [0, 0, 0, 0, 0, 1, 0]));
+        assert_eq!(added(&both, &fetch, world::FRAME - 1), (3, [0; 7]));
+        assert_eq!(added(&both, &Call::Fetch { port: 2 }, world::FRAME), (2, [0; 7]));
+        assert_eq!(added(&both.back().unwrap(), &fetch, world::FRAME), (1, [0; 7]));
+        assert_eq!([1, 2, 3, 4].map(|address| both.fetch_anew(address)), [0, 0, 0, 11]);
+        assert_eq!(added(&both, &fetch, world::FRAME), (11, [0; 7]));
     }
 
     #[test]

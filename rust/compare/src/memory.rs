@@ -152,12 +152,12 @@ fn monitor_all(random: &mut Random, table: &mut [u8], count: u32) {
         };
         put(BASE + end, &[1]);
         put(BASE + 2 + 2 * end, &u16::to_be_bytes(random.of(&[0, 1, 1, 2, 5, 20, 600])));
-        put(BASE + 6 + 4 * end, &churn_count(random).to_be_bytes());
+        put(BASE + 6 + 4 * end, &any_count(random).to_be_bytes());
     }
 }
 
-/// A churn count, often one that carries.
-fn churn_count(random: &mut Random) -> u32 {
+/// A count of 32 bits, often one that carries.
+pub fn any_count(random: &mut Random) -> u32 {
     let any = random.bits() as u32;
     random.of(&[0, 1, 0xFF, 0xFFFF, 0x00FF_FFFF, u32::MAX, u32::MAX, any])
 }
@@ -177,7 +177,7 @@ fn put_field(random: &mut Random, table: &mut [u8], count: u32, port: u32, field
             place.copy_from_slice(&number.to_be_bytes()[4 - length..]);
         }
         (8 | 41 | 56, None) => place[0] = random.octet(),
-        (63 | 67, None) => place.copy_from_slice(&churn_count(random).to_be_bytes()),
+        (63 | 67, None) => place.copy_from_slice(&any_count(random).to_be_bytes()),
         (_, None) => {
             place.fill(0);
             place[random.of(&[0, length - 1, length - 1])] = random.of(&[0, 1, 1, 5, 6, 9]);

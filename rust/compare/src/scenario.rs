@@ -3,7 +3,8 @@
 use crate::memory;
 use crate::random::Random;
 use crate::world::{self, World, FRAME, RECORD};
-use calls::{Call, Reply, Report, Request};
+use calls::{Call, Counters, Reply, Report, Request};
+use std::array;
 use std::collections::VecDeque;
 
 /// What a run is about.
@@ -58,6 +59,8 @@ pub struct Scenario {
     table: Vec<u8>,
     /// What a table was moved out of last, to be moved into again.
     spare: Vec<u8>,
+    /// Those of each port, which no call but a receive or a fetch on it moves, also none that starts or moves a table.
+    counters: Vec<Counters>,
     plans: VecDeque<Plan>,
     left: u32,
 }
@@ -165,7 +168,8 @@ impl Scenario {
             Kind::AnyMemory => random.between(100, 600),
         };
         let world = World::new(random);
-        Scenario { kind, world, table: Vec::new(), spare: Vec::new(), plans: VecDeque::new(), left }
+        let counters = vec![Counters::default(); world.count as usize];
+        Scenario { kind, world, table: Vec::new(), spare: Vec::new(), counters, plans: VecDeque::new(), left }
     }
 
     /// The next call, and none when the run is over.
@@ -203,6 +207,9 @@ impl Scenario {
 
     /// Takes note of what came of the last call: a run goes on in the table that a move made. Memory that is no table is soon given up.
     pub fn after(&mut self, random: &mut Random, request: &Request, reply: &Reply) {
+        if let Some(counters) = counting(&request.call).and_then(|place| self.counters.get_mut(place)) {
+            *counters = reply.counters;
+        }
         match (&request.call, reply.outcome.answer) {
             (Call::Report(moved @ (Report::Back | Report::Forward)), 0) => {
                 self.spare = std::mem::replace(&mut self.table, reply.out.clone());
@@ -231,7 +238,7 @@ impl Scenario {
         }
     }
 
-    /// The call on the present table, with an outgoing buffer, or memory for a record or a moved table, if it takes one.
+    /// The call on the present table, with an outgoing buffer, or memory for a record or a moved table, and counters, if it takes them.
     fn request(&self, random: &mut Random, call: Call<'static>) -> Request<'static> {
         let mut table = self.table.clone();
         let [old, new] = world::sizes(&table);
@@ -253,7 +260,18 @@ impl Scenario {
         if moves && self.kind == Kind::AnyMemory && random.percent(30) {
             memory::damage(random, &mut table, self.world.count);
         }
-        Request { call, table, out }
+        let counters = self.lent_counters(random, &call);
+        Request { call, table, out, counters }
+    }
+
+    /// The counters of the port of a call that counts, as they stand; sometimes others, many of them about to carry, from which that port
+    /// then goes on.
+    fn lent_counters(&self, random: &mut Random, call: &Call) -> Counters {
+        match counting(call).map(|place| self.counters.get(place)) {
+            None => Counters::default(),
+            Some(Some(counters)) if random.percent(80) => *counters,
+            Some(_) => Counters::from(array::from_fn(|_| memory::any_count(random))),
+        }
     }
 
     /// Octets for a moved table: mostly those that it needs; else nearly so many, those of its present form, those of another count, or any.
@@ -507,6 +525,14 @@ impl Scenario {
             request.table.resize(length, 0);
         }
         request
+    }
+}
+
+/// The place of the counters that a call takes among those of the ports; none if it takes none.
+fn counting(call: &Call) -> Option<usize> {
+    match call {
+        Call::Receive { port, .. } | Call::Fetch { port } => Some((*port as usize).wrapping_sub(1)),
+        _ => None,
     }
 }
 

@@ -2,7 +2,7 @@
 
 use crate::scenario::Kind;
 use crate::world::{self, BASE, HEADER, RECORD};
-use calls::{Call, Reply, Report, Request, NAMES};
+use calls::{Call, Counters, Reply, Report, Request, NAMES};
 use std::collections::BTreeMap;
 use std::fmt;
 
@@ -21,6 +21,8 @@ pub struct Tally {
     moves: [[u64; 5]; 2],
     /// Churn states entered: in tables that runs make or in any memory, by the actor's machine or the partner's.
     churn: [[[u64; 3]; 2]; 2],
+    /// How often each counter moved, and how often it wrapped.
+    counters: [[u64; 2]; 7],
 }
 
 const LINES: [(&str, (bool, bool)); 4] = [
@@ -59,6 +61,7 @@ impl Tally {
             Call::Report(Report::Back) => raise(&mut self.moves[1], came_of_move(request, answer, new, old)),
             _ => {}
         }
+        self.count_counters(&request.counters, &reply.counters);
         if reply.outcome.answer == 0 {
             self.count_states(&reply.table);
             if !matches!(request.call, Call::Start { .. }) {
@@ -83,6 +86,20 @@ impl Tally {
                 raise(&mut counts[end], after[end]);
             }
         }
+    }
+
+    fn count_counters(&mut self, before: &Counters, after: &Counters) {
+        let numbers = before.numbers().into_iter().zip(after.numbers());
+        for ([moved, wrapped], (before, after)) in self.counters.iter_mut().zip(numbers) {
+            *moved += u64::from(before != after);
+            *wrapped += u64::from(before > after);
+        }
+    }
+
+    /// The least of how often a counter moved or wrapped.
+    #[cfg(test)]
+    pub fn least_counter(&self) -> u64 {
+        self.counters.iter().flatten().copied().min().unwrap_or(0)
     }
 
     /// The least of the churn states entered, by either machine, in either kind of memory.
@@ -175,6 +192,10 @@ impl fmt::Display for Tally {
             for (name, counts) in ["  actor", "  partner"].iter().zip(counts) {
                 row(f, name, counts)?;
             }
+        }
+        writeln!(f, "{:<28}{:>14}{:>14}", "counters", "moved", "wrapped")?;
+        for (name, [moved, wrapped]) in Counters::NAMES.iter().zip(self.counters) {
+            writeln!(f, "  {name:<26}{moved:>14}{wrapped:>14}")?;
         }
         writeln!(f, "records after an answer 0, by receive state 0 to 5: {:?}", self.receive)?;
         writeln!(f, "  by periodic state 0 to 3: {:?}, by mux state 0 to 4: {:?}", self.periodic, self.mux)?;

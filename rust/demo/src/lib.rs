@@ -1,5 +1,6 @@
 //! Two switches of ours, A and B, joined by cables: a plain-text list of events is played on two tables of the library, and
-//! what becomes of the trunk, and which links never settle, is shown as a timeline in text and as a picture.
+//! what becomes of the trunk, and which links never settle, is shown as a timeline in text and as a picture. The text ends with what each
+//! port has counted.
 //!
 //! ```
 //! let script = demo::parse("switches 2\nup 1\nup 2\ntick 30\n").unwrap();
@@ -12,6 +13,7 @@
 mod cabling;
 mod network;
 mod outcome;
+mod page;
 mod picture;
 mod script;
 mod story;

@@ -36,7 +36,7 @@ fn show(script: Option<&Path>, svg: &Path) -> Result<String, String> {
     let script = script.map_or_else(|| demo::parse(demo::BUILT_IN), read)?;
     let story = demo::play(&script).map_err(|refusal| format!("the library refused: {refusal}"))?;
     write(svg, &demo::svg(&story)).map_err(|why| format!("cannot write {}: {why}", svg.display()))?;
-    Ok(format!("{}\nThe same as a picture: {}\n", demo::text(&story), svg.display()))
+    Ok(format!("{}\nThe timeline as a picture: {}\n", demo::text(&story), svg.display()))
 }
 
 fn read(path: &Path) -> Result<demo::Script, String> {

@@ -2,7 +2,7 @@
 
 use crate::cabling::{all_ports, Cabling, Port, Switch};
 use crate::script::{Command, LinkChange, Setting};
-use myrkosti::{Block, MuxState, PortState, ReceiveState, Record, Refusal, Settings, SystemId, Table, FRAME};
+use myrkosti::{Block, Counters, MuxState, PortState, ReceiveState, Record, Refusal, Settings, SystemId, Table, FRAME};
 
 /// How a port stands, as the timeline shows it.
 #[derive(Clone, Copy, Debug, PartialEq, Eq)]
@@ -92,8 +92,8 @@ pub struct Network {
     cabling: Cabling,
     /// The ports to which frames are lost.
     deaf: [Vec<bool>; 2],
-    /// How many LACPDUs A and B have sent.
-    pub sent: [u64; 2],
+    /// Those of each port of A and of B.
+    counters: [Vec<Counters>; 2],
     ports: u32,
 }
 
@@ -101,8 +101,9 @@ impl Network {
     /// Two switches of that many ports, joined port by port, every link down.
     pub fn start(ports: u32) -> Result<Network, Refusal> {
         let tables = [start_switch(ports, 0x0A)?, start_switch(ports, 0x0B)?];
-        let deaf = [vec![false; ports as usize], vec![false; ports as usize]];
-        Ok(Network { tables, cabling: Cabling::straight(ports), deaf, sent: [0; 2], ports })
+        let deaf = Switch::BOTH.map(|_| vec![false; ports as usize]);
+        let counters = Switch::BOTH.map(|_| vec![Counters::default(); ports as usize]);
+        Ok(Network { tables, cabling: Cabling::straight(ports), deaf, counters, ports })
     }
 
     /// A tick passes at both switches, and what is due goes over the cables.
@@ -142,6 +143,16 @@ impl Network {
         Ok(look)
     }
 
+    /// What the ports of A and of B have counted.
+    pub fn counters(&self) -> [Vec<Counters>; 2] {
+        self.counters.clone()
+    }
+
+    /// How many LACPDUs A and B have sent.
+    pub fn sent(&self) -> [u64; 2] {
+        self.counters.each_ref().map(|ports| ports.iter().map(|port| u64::from(port.lacpdus_sent)).sum())
+    }
+
     fn mark_lost(&self, look: &mut Look) {
         let collects = |state| matches!(state, State::Collecting | State::Distributing);
         let seen = look.ports.clone();
@@ -162,6 +173,12 @@ impl Network {
         &mut self.tables[port.switch.index()]
     }
 
+    /// The table of a port, and the counters that a call on it is lent.
+    fn counting(&mut self, port: Port) -> (&mut Table, &mut Counters) {
+        let switch = port.switch.index();
+        (&mut self.tables[switch], &mut self.counters[switch][port.index()])
+    }
+
     /// Where a frame of this port arrives; none without a cable, or where it is lost.
     fn way_from(&self, port: Port) -> Option<Port> {
         self.cabling.far(port).filter(|far| !self.deaf[far.switch.index()][far.index()])
@@ -178,14 +195,15 @@ impl Network {
             for number in self.tables[switch.index()].due()?.iter() {
                 let port = Port { switch, number };
                 let mut out = [0; FRAME];
-                self.table_mut(port).fetch(number, &mut out)?;
-                self.sent[switch.index()] += 1;
+                let (table, counters) = self.counting(port);
+                table.fetch(number, &mut out, counters)?;
                 frames.push((port, out));
             }
         }
         for (port, frame) in frames {
             if let Some(far) = self.way_from(port) {
-                match self.table_mut(far).receive(far.number, &frame, &mut [0; FRAME]) {
+                let (table, counters) = self.counting(far);
+                match table.receive(far.number, &frame, &mut [0; FRAME], counters) {
                     Ok(_) | Err(Refusal::LacpOff) => {}
                     Err(refusal) => return Err(refusal),
                 }
@@ -234,7 +252,7 @@ impl Network {
         self.change_link(LinkChange::Up, a)
     }
 
-    /// Earlier firmware takes the table of a switch, and then that of today takes it back.
+    /// Earlier firmware takes the table of a switch, and then that of today takes it back. The counters stand outside the table and go on.
     fn reload(&mut self, switch: Switch) -> Result<(), Refusal> {
         let table = &mut self.tables[switch.index()];
         *table = Table::from_old(&table.to_old()?)?;

@@ -3,7 +3,7 @@
 use crate::cabling::{all_ports, Port};
 use crate::network::{End, Look, Network};
 use crate::script::{Command, LinkChange, Script, Setting};
-use myrkosti::Refusal;
+use myrkosti::{Counters, Refusal};
 use std::ops::Range;
 use std::rc::Rc;
 
@@ -20,6 +20,8 @@ pub struct Story {
     pub(crate) events: Vec<Event>,
     /// When links churned, in the order of the ports.
     pub(crate) churning: Vec<Churning>,
+    /// What the ports of A and of B had counted in the end.
+    counters: [Vec<Counters>; 2],
 }
 
 /// A time during which a port's link churned at one end.
@@ -61,6 +63,7 @@ pub fn play(script: &Script) -> Result<Story, Refusal> {
     if !matches!(script.commands.last(), Some(Command::Tick(_))) {
         story.keep(&network)?;
     }
+    story.counters = network.counters();
     for port in all_ports(script.ports) {
         End::BOTH.into_iter().for_each(|end| story.keep_churning(port, end));
     }
@@ -69,7 +72,14 @@ pub fn play(script: &Script) -> Result<Story, Refusal> {
 
 impl Story {
     fn begun(ports: u32) -> Story {
-        Story { ports, looks: Vec::new(), sent: Vec::new(), events: Vec::new(), churning: Vec::new() }
+        Story {
+            ports,
+            looks: Vec::new(),
+            sent: Vec::new(),
+            events: Vec::new(),
+            churning: Vec::new(),
+            counters: [Vec::new(), Vec::new()],
+        }
     }
 
     /// The aggregators that the ports of A and of B held, in each tick.
@@ -81,6 +91,11 @@ impl Story {
     /// How many LACPDUs A and B had sent, in each tick.
     pub fn sent(&self) -> &[[u64; 2]] {
         &self.sent
+    }
+
+    /// What the ports of A and of B had counted in the end.
+    pub fn counters(&self) -> &[Vec<Counters>; 2] {
+        &self.counters
     }
 
     /// What the reports showed from the event at this place to the next.
@@ -95,7 +110,7 @@ impl Story {
         let look = network.look()?;
         let same = self.looks.last().filter(|last| ***last == look).cloned();
         self.looks.push(same.unwrap_or_else(|| Rc::new(look)));
-        self.sent.push(network.sent);
+        self.sent.push(network.sent());
         Ok(())
     }
 

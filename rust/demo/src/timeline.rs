@@ -3,6 +3,7 @@
 use crate::cabling::{all_ports, Port, Switch};
 use crate::network::{End, State};
 use crate::outcome::{outcome, ticks};
+use crate::page::page;
 use crate::story::Story;
 
 /// Characters of a line at most.
@@ -27,7 +28,7 @@ pub const LEGEND: [(State, char, &str); 8] = [
 /// What the row under a port that churns shows.
 const CHURN: &str = "t f b  the link churns: for a minute and more t this end, f the far end, b both are out of sync";
 
-/// The legend, the timeline, and the events with what became of the trunk.
+/// The legend, the timeline, the events with what became of the trunk, and the port pages.
 pub fn text(story: &Story) -> String {
     let step = round_step(|step| story.looks.len().div_ceil(step) <= COLUMNS);
     let mut lines = introduction(story, step);
@@ -52,6 +53,7 @@ pub fn text(story: &Story) -> String {
         lines.extend(paragraph(&format!("{:>2}", at + 1), &words));
         lines.extend(paragraph("", &outcome(story, at)));
     }
+    lines.extend(Switch::BOTH.into_iter().zip(story.counters()).flat_map(|(switch, ports)| page(switch, ports)));
     lines.iter().map(|line| format!("{}\n", line.trim_end())).collect()
 }
 

@@ -47,10 +47,11 @@ fn a_link_that_never_settles() {
     assert_eq!(stripes(&svg(&story)), 2 + 4);
 }
 
-/// Both stories have the same ports in the same aggregators, and the same LACPDUs sent, in every tick.
+/// Both stories have the same ports in the same aggregators, and the same LACPDUs sent, in every tick, and the same port pages.
 fn carry_alike(one: &Story, other: &Story) {
     assert_eq!(one.held(), other.held());
     assert_eq!(one.sent(), other.sent());
+    assert_eq!(one.counters(), other.counters());
 }
 
 #[test]
@@ -101,6 +102,40 @@ fn what_settles_shows_nothing_of_churn() {
         let story = story(script);
         assert!(!text(&story).contains("churn") && !svg(&story).contains("churn"));
         assert_eq!(stripes(&svg(&story)), 0);
+    }
+}
+
+/// The LACPDUs that the ports of A, and those of B, received and sent.
+fn lacpdus(story: &Story) -> [Vec<(u32, u32)>; 2] {
+    story.counters().each_ref().map(|ports| {
+        let counted = ports.iter().map(|port| (port.lacpdus_received, port.lacpdus_sent));
+        counted.collect()
+    })
+}
+
+#[test]
+fn what_one_end_sends_the_other_counts() {
+    let [a, b] = lacpdus(&story("switches 2\nup 1\ntick 35\nhalf A 1\ntick 20"));
+    assert_eq!((a[0], a[1], b[1]), ((b[0].1, b[0].0), (0, 0), (0, 0)));
+    assert!(a[0].0 > a[0].1, "LACPDUs count while LACP is off too: {a:?}");
+    let [a, b] = lacpdus(&story("switches 1\nsilence 1\nup 1\ntick 35"));
+    assert!((a[0].0, b[0].0) == (0, 0) && a[0].1 > 2 && b[0].1 > 2);
+}
+
+#[test]
+fn the_text_ends_with_the_port_pages() {
+    let story = story(BUILT_IN);
+    let text = text(&story);
+    let pages: Vec<&str> = text.split("\nPort page of ").skip(1).collect();
+    assert_eq!(pages.len(), 2);
+    for ((switch, page), counters) in ["A", "B"].iter().zip(pages).zip(story.counters()) {
+        assert!(page.starts_with(&format!("{switch}: what has come in and gone out on each port\n")));
+        let rows = page.lines().filter(|line| line.starts_with(*switch)).skip(1);
+        let expected = (1..).zip(counters).map(|(number, port)| {
+            let numbers = port.numbers().map(|number| number.to_string());
+            format!("{switch}{number} {}", numbers.join(" "))
+        });
+        assert_eq!(rows.map(words).collect::<Vec<_>>(), expected.collect::<Vec<_>>());
     }
 }
 

@@ -146,11 +146,41 @@ pub enum Breakage {
     RefusedMoveWritesTarget,
     /// There is an old size for a count outside 1 to 32.
     OldSizeOfAnyCount,
+    /// A Marker Response (answer 12) counts as a Marker.
+    ResponseCountedAsMarker,
+    /// A Marker on a port that does not collect (9) counts nowhere.
+    RefusedMarkerUncounted,
+    /// An LACPDU while LACP is off (5) counts nowhere.
+    RefusedLacpduUncounted,
+    /// A frame that is not for this part (6) counts as unknown.
+    ForeignCountedAsUnknown,
+    /// An unknown frame (7) counts as illegal.
+    UnknownCountedAsIllegal,
+    /// An illegal frame (8) counts as unknown.
+    IllegalCountedAsUnknown,
+    /// A frame for whose answer the buffer is too short (3) counts.
+    ShortBufferCounted,
+    /// A frame counts where the memory is no table (1).
+    NoTableCounted,
+    /// A frame counts where there is no such port (2).
+    NoPortCounted,
+    /// The Response to a Marker is not counted as sent.
+    SentResponseUncounted,
+    /// A Marker that is refused counts as answered too.
+    UnsentResponseCounted,
+    /// A refused fetch counts as an LACPDU sent.
+    RefusedFetchCounted,
+    /// A counter stays at its highest value.
+    CounterSaturates,
+    /// A counter wraps at 16 bits.
+    CounterOfSixteenBits,
+    /// A counter that wraps carries into the next of the record.
+    CounterCarries,
 }
 
 impl Breakage {
     /// Every breakage, with the name by which it is asked for.
-    pub const ALL: [(&'static str, Breakage); 70] = [
+    pub const ALL: [(&'static str, Breakage); 85] = [
         ("partners-timeout", Breakage::PartnersTimeout),
         ("compares-after-recording", Breakage::ComparesAfterRecording),
         ("expired-records-default", Breakage::ExpiredRecordsDefault),
@@ -221,6 +251,21 @@ impl Breakage {
         ("short-target-accepted", Breakage::ShortTargetAccepted),
         ("refused-move-writes-target", Breakage::RefusedMoveWritesTarget),
         ("old-size-of-any-count", Breakage::OldSizeOfAnyCount),
+        ("response-counted-as-marker", Breakage::ResponseCountedAsMarker),
+        ("refused-marker-uncounted", Breakage::RefusedMarkerUncounted),
+        ("refused-lacpdu-uncounted", Breakage::RefusedLacpduUncounted),
+        ("foreign-counted-as-unknown", Breakage::ForeignCountedAsUnknown),
+        ("unknown-counted-as-illegal", Breakage::UnknownCountedAsIllegal),
+        ("illegal-counted-as-unknown", Breakage::IllegalCountedAsUnknown),
+        ("short-buffer-counted", Breakage::ShortBufferCounted),
+        ("no-table-counted", Breakage::NoTableCounted),
+        ("no-port-counted", Breakage::NoPortCounted),
+        ("sent-response-uncounted", Breakage::SentResponseUncounted),
+        ("unsent-response-counted", Breakage::UnsentResponseCounted),
+        ("refused-fetch-counted", Breakage::RefusedFetchCounted),
+        ("counter-saturates", Breakage::CounterSaturates),
+        ("counter-of-sixteen-bits", Breakage::CounterOfSixteenBits),
+        ("counter-carries", Breakage::CounterCarries),
     ];
 
     /// The breakage of that name.

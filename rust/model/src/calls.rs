@@ -3,16 +3,17 @@
 
 use crate::breakage::{self, Breakage};
 use crate::churn::Churn;
+use crate::counters;
 use crate::moves;
 use crate::receive::displace;
 use crate::record::{
     Form, Mux, Periodic, Port, Receive, Settings, Table, BASE, CHURN, HEADER, OLDEST_AGE, OWN_BITS, RECORD,
 };
 use crate::wire::{self, Block, Frame, State, FRAME};
-use ::calls::{Call, Outcome, Report, SettingsArguments};
+use ::calls::{Call, Counters, Outcome, Report, SettingsArguments};
 
 /// The version of the interface that the model performs.
-const VERSION: u32 = 0x0102;
+const VERSION: u32 = 0x0200;
 
 /// Why a call was refused; the discriminants are the answer numbers.
 #[derive(Clone, Copy, Debug, PartialEq, Eq)]
@@ -32,6 +33,15 @@ pub enum Refusal {
     Response = 12,
 }
 
+/// A received frame that is accepted.
+#[derive(Clone, Copy, Debug, PartialEq, Eq)]
+pub enum Accepted {
+    /// An LACPDU.
+    Lacpdu,
+    /// A Marker, whose Response is to be sent.
+    Marker,
+}
+
 fn number<T>(result: Result<T, Refusal>) -> u32 {
     match result {
         Ok(_) => 0,
@@ -39,9 +49,10 @@ fn number<T>(result: Result<T, Refusal>) -> u32 {
     }
 }
 
-/// Performs a call on this table, with this outgoing buffer, or memory for a record or a moved table, if it has one.
+/// Performs a call on this table, with this outgoing buffer, or memory for a record or a moved table, and these counters, if it takes
+/// them.
 #[inline(always)] // so that whoever names the call, as bench-model does, has no dispatch
-pub fn perform(call: &Call, table: &mut [u8], out: &mut [u8]) -> Outcome {
+pub fn perform(call: &Call, table: &mut [u8], out: &mut [u8], counters: &mut Counters) -> Outcome {
     let mut outcome = Outcome::UNTOUCHED;
     outcome.answer = match *call {
         Call::Start { ports, system_priority, system, collector_max_delay, ref settings } => {
@@ -49,14 +60,19 @@ pub fn perform(call: &Call, table: &mut [u8], out: &mut [u8]) -> Outcome {
             number(begun.map(|ports| start(table, Table { system_priority, system, collector_max_delay, ports })))
         }
         Call::Receive { port, ref frame } => {
-            let sent = receive(table, port, frame, out);
-            outcome.sent = sent.unwrap_or(0);
-            number(sent)
+            let received = receive(table, port, frame, out);
+            outcome.sent = if received == Ok(Accepted::Marker) { FRAME as u32 } else { 0 };
+            counters::received(counters, received);
+            number(received)
         }
         Call::Tick => number(tick(table)),
         Call::Line { port, up, full } => number(line(table, port, (up, full))),
         Call::Settings { port, ref settings } => number(set(table, port, &own(settings))),
-        Call::Fetch { port } => number(fetch(table, port, out)),
+        Call::Fetch { port } => {
+            let fetched = fetch(table, port, out);
+            counters::fetched(counters, fetched);
+            number(fetched)
+        }
         Call::Report(asked) => return report(asked, table, out),
     };
     outcome
@@ -211,8 +227,8 @@ fn begun_port(settings: &Settings) -> Port {
     port
 }
 
-/// A frame came in on a port; how many octets are to be sent.
-fn receive(memory: &mut [u8], n: u32, frame: &[u8], out: &mut [u8]) -> Result<u32, Refusal> {
+/// A frame came in on a port.
+fn receive(memory: &mut [u8], n: u32, frame: &[u8], out: &mut [u8]) -> Result<Accepted, Refusal> {
     let mut table = open(memory, n)?;
     if breakage::is(Breakage::BufferTestedAfterFrame) {
         wire::read(frame)?;
@@ -226,12 +242,12 @@ fn receive(memory: &mut [u8], n: u32, frame: &[u8], out: &mut [u8]) -> Result<u3
             port.current(&actor_of_n, &actor, &partner);
             displace(&mut table, n, &actor);
             finish(n, table, memory);
-            Ok(0)
+            Ok(Accepted::Lacpdu)
         }
         Frame::Marker(_) if !port.mux.collects() => Err(Refusal::NotCollecting),
         Frame::Marker(octets) => {
             *out = wire::marker_response(&port.address, octets);
-            Ok(FRAME as u32)
+            Ok(Accepted::Marker)
         }
         Frame::Response => Err(Refusal::Response),
     }

@@ -1,8 +1,9 @@
 //! An independent model of document 01 over IEEE Std 802.3ad-2000, Clause 43.
 //!
 //! It performs the calls of `include/myrkosti.h` over the same octets, and was written from the papers without sight of the
-//! library's source, so that each can check the other: they share the type of a call (`rust/calls`), and no rule. It reads the
-//! whole table into values, works on those, and writes the whole table back: plain before fast.
+//! library's source, so that each can check the other: they share the type of a call (`rust/calls`), and no rule. [`counters`] and
+//! [`moves`] were written after the library's definitions of them had been read, though not its code. It reads the whole table into values, works on those, and
+//! writes the whole table back: plain before fast.
 //!
 //! | File | Subject |
 //! |---|---|
@@ -14,6 +15,7 @@
 //! | [`churn`] | Churn Detection machines |
 //! | [`select`] | the selection rule, Ready, steps 3 to 6 of the order of work, and what runs behind them |
 //! | [`moves`] | moves of a table from one form into the other |
+//! | [`counters`] | the counters of a port, which stand outside the table |
 //! | [`calls`] | the calls, their refusals in document 01's order |
 //! | [`breakage`] | deliberate errors, to see that a comparison catches them |
 
@@ -22,6 +24,7 @@
 pub mod breakage;
 pub mod calls;
 pub mod churn;
+pub mod counters;
 pub mod moves;
 pub mod mux;
 pub mod periodic;

@@ -14,13 +14,14 @@
  *   26-40    partner
  *   41-44    octets of the table     45-48    octets of the frame
  *   49-52    octets of what is written beside the table: the outgoing buffer, the record, or the table that a move makes of the first
+ *   53-80    seven counters of a port
  *
- * and then those octets. A reply is answer (4), sent (4), five numbers of an aggregator (4 each), the set of what is due (4), then the octets
- * of the table and of what is written beside it. A number that a call does not write comes back as 0xEE in each octet. Numbers are low octet
- * first.
+ * and then those octets. A reply is answer (4), sent (4), five numbers of an aggregator (4 each), the set of what is due (4), the seven
+ * counters (4 each), then the octets of the table and of what is written beside it. A number that a call does not write comes back as 0xEE in
+ * each octet, a counter as it came. Numbers are low octet first.
  *
- * The three are lent so that they end where memory ends: a call that reads or writes past them is stopped by the machine. Octets before
- * them are looked at after each call.
+ * The three and the counters are lent so that they end where memory ends: a call that reads or writes past them is stopped by the machine.
+ * Octets before them are looked at after each call.
  */
 #define _GNU_SOURCE
 #include "myrkosti.h"
@@ -31,7 +32,9 @@
 #include <sys/mman.h>
 #include <unistd.h>
 
-enum { REQUEST = 53, PAGE = 65536, AREA = 4 * PAGE, BEFORE = 64, UNTOUCHED = 0xee, GUARD = 0xa5, BATCH = 1 << 24 };
+enum { COUNTERS = 7, REQUEST = 53 + 4 * COUNTERS, PAGE = 65536, AREA = 4 * PAGE, BEFORE = 64, UNTOUCHED = 0xee, GUARD = 0xa5, BATCH = 1 << 24 };
+
+_Static_assert(sizeof(struct myrkosti_counters) == COUNTERS * sizeof(uint32_t), "the record is its counters alone");
 
 static void fail(const char *why)
 {
@@ -122,7 +125,27 @@ static void look_before(const uint8_t *lent)
     }
 }
 
-static uint8_t *table_end, *frame_end, *out_end;
+static uint8_t *table_end, *frame_end, *out_end, *counters_end;
+
+/* lends the counters whose octets these are */
+static struct myrkosti_counters *lend_counters(const uint8_t *octets)
+{
+    uint32_t counters[COUNTERS];
+    for (unsigned i = 0; i < COUNTERS; i++) {
+        counters[i] = number(octets + 4 * i, 4);
+    }
+    return (void *)lend(counters_end, (const uint8_t *)counters, sizeof counters);
+}
+
+static uint8_t *put_counters(uint8_t *at, const struct myrkosti_counters *lent)
+{
+    uint32_t counters[COUNTERS];
+    memcpy(counters, lent, sizeof counters);
+    for (unsigned i = 0; i < COUNTERS; i++) {
+        at = put_number(at, counters[i]);
+    }
+    return at;
+}
 
 /* performs the request at *request, moves it on, and gives the place after the reply */
 static uint8_t *perform(const uint8_t **request, const uint8_t *end, uint8_t *reply)
@@ -138,6 +161,7 @@ static uint8_t *perform(const uint8_t **request, const uint8_t *end, uint8_t *re
     uint8_t *table = lend(table_end, r + REQUEST, table_len);
     uint8_t *frame = lend(frame_end, r + REQUEST + table_len, frame_len);
     uint8_t *out = lend(out_end, r + REQUEST + table_len + frame_len, out_len);
+    struct myrkosti_counters *counters = lend_counters(r + 53);
 
     uint32_t n = number(r + 2, 4), answer, sent, five[5], due;
     uint16_t system_priority = (uint16_t)number(r + 6, 2), delay = (uint16_t)number(r + 8, 2);
@@ -153,11 +177,11 @@ static uint8_t *perform(const uint8_t **request, const uint8_t *end, uint8_t *re
     case 1:
         answer = myrkosti_start(table, table_len, n, system_priority, system, delay, address, key, priority, first, second, third, partner);
         break;
-    case 2: answer = myrkosti_receive(table, table_len, n, frame, frame_len, out, out_len, &sent); break;
+    case 2: answer = myrkosti_receive(table, table_len, n, frame, frame_len, out, out_len, &sent, counters); break;
     case 3: answer = myrkosti_tick(table, table_len); break;
     case 4: answer = myrkosti_line(table, table_len, n, first, second); break;
     case 5: answer = myrkosti_settings(table, table_len, n, address, key, priority, first, second, third, partner); break;
-    case 6: answer = myrkosti_fetch(table, table_len, n, out, out_len); break;
+    case 6: answer = myrkosti_fetch(table, table_len, n, out, out_len, counters); break;
     case 7: answer = myrkosti_port(table, table_len, n, out, out_len); break;
     case 8: answer = myrkosti_aggregator(table, table_len, n, &five[0], &five[1], &five[2], &five[3], &five[4]); break;
     case 9: answer = myrkosti_due(table, table_len, &due); break;
@@ -174,12 +198,14 @@ static uint8_t *perform(const uint8_t **request, const uint8_t *end, uint8_t *re
     look_before(table);
     look_before(frame);
     look_before(out);
+    look_before((const uint8_t *)counters);
     reply = put_number(reply, answer);
     reply = put_number(reply, sent);
     for (unsigned i = 0; i < 5; i++) {
         reply = put_number(reply, five[i]);
     }
     reply = put_number(reply, due);
+    reply = put_counters(reply, counters);
     reply = put_octets(reply, table, table_len);
     *request = r + REQUEST + table_len + frame_len + out_len;
     return put_octets(reply, out, out_len);
@@ -195,6 +221,7 @@ int main(void)
     table_end = end_of_memory();
     frame_end = end_of_memory();
     out_end = end_of_memory();
+    counters_end = end_of_memory();
     while (read_all(length, sizeof length)) {
         uint32_t octets = number(length, 4);
         if (octets > BATCH) {

@@ -8,11 +8,11 @@ use std::fmt;
 pub enum Answer {
     /// Done: number 0.
     Done,
-    /// Refused; nothing was changed.
+    /// Refused; nothing was changed but counters.
     Refused(Refusal),
 }
 
-/// Why a call was refused. After it, table and outgoing buffer hold what they held before.
+/// Why a call was refused. After it, table and outgoing buffer hold what they held before; a refused frame may have been counted.
 #[derive(Clone, Copy, Debug, PartialEq, Eq, Hash)]
 pub enum Refusal {
     /// 1: the memory is no table: its size or port count is wrong, or a field is out of range. Of a move: it is none of the form that

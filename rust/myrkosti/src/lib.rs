@@ -5,7 +5,7 @@
 //! duplex, settings), send what it gives you to send, and read from its reports which ports form one trunk:
 //!
 //! ```
-//! use myrkosti::{Block, Received, Refusal, Settings, SystemId, Table, FRAME};
+//! use myrkosti::{Block, Counters, Refusal, Settings, SystemId, Table, FRAME};
 //!
 //! # fn main() -> Result<(), Refusal> {
 //! let ours = SystemId { priority: 0x8000, address: [0x02, 0, 0, 0, 0, 9] };
@@ -19,27 +19,33 @@
 //!     default_partner: Block::default(),
 //! };
 //! let mut table = Table::start(2, ours, 0, &settings)?;
+//! let mut counters = [Counters::default(); 2]; // of port 1, of port 2
 //! table.line(1, true, true)?; // up, at full duplex
 //!
 //! let mut out = [0; FRAME];
 //! assert_eq!(table.due()?.iter().collect::<Vec<_>>(), [1]);
-//! assert_eq!(table.fetch(1, &mut out)?.len(), FRAME); // send it on port 1
-//! assert_eq!(table.fetch(1, &mut out), Err(Refusal::NothingToSend));
-//! assert_eq!(table.receive(1, b"no frame of ours", &mut out), Err(Refusal::Foreign));
+//! assert_eq!(table.fetch(1, &mut out, &mut counters[0])?.len(), FRAME); // send it on port 1
+//! assert_eq!(table.fetch(1, &mut out, &mut counters[0]), Err(Refusal::NothingToSend));
+//! assert_eq!(table.receive(1, b"no frame of ours", &mut out, &mut counters[0]), Err(Refusal::Foreign));
 //!
 //! for _ in 0..20 {
 //!     table.tick()?; // ten times a second
 //!     for port in table.due()?.iter() {
-//!         table.fetch(port, &mut out)?; // send it on that port
+//!         table.fetch(port, &mut out, &mut counters[port as usize - 1])?; // send it on that port
 //!     }
 //! }
 //! assert!(table.port(1)?.mux.attached());
 //! assert_eq!(table.aggregator(1)?.distributing.iter().count(), 0);
+//! assert_eq!(counters.map(|port| port.lacpdus_sent), [3, 0]);
 //! # Ok(())
 //! # }
 //! ```
 //!
 //! No call panics, whatever it is given. After a refused call, table and outgoing buffer hold what they held before.
+//!
+//! [`Counters`] of each port are the caller's: what the support desk reads of received and sent frames. They stand outside the table, are
+//! lent to each [`Table::receive`] and [`Table::fetch`] on that port, and may hold any numbers then. Who keeps none lends some that nobody
+//! reads.
 //!
 //! Before churn was watched for, a table had another form. [`Table::from_old`] and [`Table::to_old`] move one from either form into the
 //! other while its trunks carry: for firmware that is changed between two calls.
@@ -58,13 +64,13 @@ mod table;
 
 pub use answer::{Answer, Refusal};
 #[doc(inline)]
-pub use calls::BLOCK;
+pub use calls::{Counters, BLOCK};
 pub use churn::{Churn, ChurnMonitor, ChurnSince, ChurnState};
 pub use record::{Block, MuxState, PeriodicState, PortState, ReceiveState, Record, Settings, SystemId};
 pub use table::{AggregatorReport, PortSet, Received, Table, TableRef};
 
 /// The version of the library's interface that this crate was written for.
-pub const VERSION: u32 = 0x0102;
+pub const VERSION: u32 = 0x0200;
 /// The most ports that a table has.
 pub const PORTS: u32 = 32;
 /// Octets of a port's record.

@@ -3,7 +3,7 @@
 use crate::answer::{Answer, Refusal};
 use crate::record::{Record, Settings, SystemId};
 use crate::{raw, FRAME, RECORD};
-use calls::{Call, Outcome, Report, SettingsArguments};
+use calls::{Call, Counters, Outcome, Report, SettingsArguments};
 
 /// A table of 1 to 32 ports: one Aggregation System, in the memory `M`.
 ///
@@ -214,17 +214,23 @@ impl<M: AsRef<[u8]> + AsMut<[u8]>> Table<M> {
     ) -> Result<(), Refusal> {
         let (system_priority, system) = (system.priority, system.address);
         let settings = arguments(settings);
-        self.perform(&Call::Start { ports, system_priority, system, collector_max_delay, settings }, &mut [])?;
-        Ok(())
+        self.change(&Call::Start { ports, system_priority, system, collector_max_delay, settings })
     }
 
     /// A frame came in on a port: hand over every frame to 01-80-C2-00-00-02, without FCS, as it came. The outgoing buffer has at
-    /// least [`FRAME`] octets, whatever the frame is.
+    /// least [`FRAME`] octets, whatever the frame is. `counters` are those of the port: the frame is counted, and the Response to a
+    /// Marker.
     ///
     /// # Errors
-    /// Refusals 1 to 3, 5 to 9 and 12.
-    pub fn receive<'o>(&mut self, port: u32, frame: &[u8], out: &'o mut [u8]) -> Result<Received<'o>, Refusal> {
-        let sent = self.perform(&Call::Receive { port, frame: frame.into() }, out)?.sent;
+    /// Refusals 1 to 3, 5 to 9 and 12. All but 1, 2, 3 and 6 are counted too.
+    pub fn receive<'o>(
+        &mut self,
+        port: u32,
+        frame: &[u8],
+        out: &'o mut [u8],
+        counters: &mut Counters,
+    ) -> Result<Received<'o>, Refusal> {
+        let sent = self.perform(&Call::Receive { port, frame: frame.into() }, out, counters)?.sent;
         let out: &'o [u8] = out;
         Ok(match (sent as usize, out.get(..FRAME)) {
             (FRAME, Some(response)) => Received::Marker(response),
@@ -238,8 +244,7 @@ impl<M: AsRef<[u8]> + AsMut<[u8]>> Table<M> {
     /// # Errors
     /// [`Refusal::TableWrong`].
     pub fn tick(&mut self) -> Result<(), Refusal> {
-        self.perform(&Call::Tick, &mut [])?;
-        Ok(())
+        self.change(&Call::Tick)
     }
 
     /// The link of a port is up or down now, and its duplex full or half: both as the driver reads them together. With both as they
@@ -249,8 +254,7 @@ impl<M: AsRef<[u8]> + AsMut<[u8]>> Table<M> {
     /// # Errors
     /// [`Refusal::TableWrong`], [`Refusal::NoSuchPort`].
     pub fn line(&mut self, port: u32, up: bool, full: bool) -> Result<(), Refusal> {
-        self.perform(&Call::Line { port, up, full }, &mut [])?;
-        Ok(())
+        self.change(&Call::Line { port, up, full })
     }
 
     /// A port has these settings from now on. The same again change nothing. Another key, port priority or Aggregation takes the
@@ -259,17 +263,16 @@ impl<M: AsRef<[u8]> + AsMut<[u8]>> Table<M> {
     /// # Errors
     /// [`Refusal::TableWrong`], [`Refusal::NoSuchPort`], [`Refusal::DefaultWrong`].
     pub fn settings(&mut self, port: u32, settings: &Settings) -> Result<(), Refusal> {
-        self.perform(&Call::Settings { port, settings: arguments(settings) }, &mut [])?;
-        Ok(())
+        self.change(&Call::Settings { port, settings: arguments(settings) })
     }
 
     /// The next LACPDU of a port, to be sent on it at once: the first [`FRAME`] octets of the outgoing buffer. Fetch on each port
-    /// that [`Table::due`] gives.
+    /// that [`Table::due`] gives. `counters` are those of the port: the LACPDU is counted.
     ///
     /// # Errors
-    /// Refusals 1 to 3, [`Refusal::NothingToSend`], [`Refusal::TooManySends`].
-    pub fn fetch<'o>(&mut self, port: u32, out: &'o mut [u8]) -> Result<&'o [u8], Refusal> {
-        self.perform(&Call::Fetch { port }, out)?;
+    /// Refusals 1 to 3, [`Refusal::NothingToSend`], [`Refusal::TooManySends`]. None is counted.
+    pub fn fetch<'o>(&mut self, port: u32, out: &'o mut [u8], counters: &mut Counters) -> Result<&'o [u8], Refusal> {
+        self.perform(&Call::Fetch { port }, out, counters)?;
         let out: &'o [u8] = out;
         out.get(..FRAME).ok_or(Refusal::BufferShort)
     }
@@ -310,8 +313,14 @@ impl<M: AsRef<[u8]> + AsMut<[u8]>> Table<M> {
         Ok(PortSet(self.report(Report::Due)?.due))
     }
 
-    fn perform(&mut self, call: &Call, out: &mut [u8]) -> Result<Outcome, Refusal> {
-        accepted(raw::perform(call, self.memory.as_mut(), out))
+    fn perform(&mut self, call: &Call, out: &mut [u8], counters: &mut Counters) -> Result<Outcome, Refusal> {
+        accepted(raw::perform(call, self.memory.as_mut(), out, counters))
+    }
+
+    /// Performs a call that writes nothing but the table.
+    fn change(&mut self, call: &Call) -> Result<(), Refusal> {
+        self.perform(call, &mut [], &mut Counters::default())?;
+        Ok(())
     }
 
     fn report(&self, report: Report) -> Result<Outcome, Refusal> {

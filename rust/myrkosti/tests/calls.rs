@@ -1,8 +1,8 @@
 //! Every method of a table, with its refusals, and the version.
 
 use myrkosti::{
-    raw, version, Block, Churn, ChurnMonitor, ChurnState, MuxState, PortState, ReceiveState, Received, Refusal,
-    Settings, SystemId, Table, TableRef, FRAME, RECORD, VERSION,
+    raw, version, Block, Churn, ChurnMonitor, ChurnState, Counters, MuxState, PortState, ReceiveState, Received,
+    Refusal, Settings, SystemId, Table, TableRef, FRAME, RECORD, VERSION,
 };
 
 const OURS: SystemId = SystemId { priority: 1, address: [0, 0, 0, 0, 0, 9] };
@@ -42,6 +42,11 @@ fn marker(kind: u8) -> [u8; FRAME] {
     frame
 }
 
+/// Counters that nobody reads.
+fn unread() -> Counters {
+    Counters::default()
+}
+
 /// What a port says of itself.
 fn actor(table: &Table, port: u32) -> Block {
     let record = table.port(port).unwrap();
@@ -50,7 +55,7 @@ fn actor(table: &Table, port: u32) -> Block {
 
 #[test]
 fn the_version_is_the_one_written_for() {
-    assert_eq!((version(), VERSION), (Ok(0x0102), 0x0102));
+    assert_eq!((version(), VERSION), (Ok(0x0200), 0x0200));
 }
 
 #[test]
@@ -60,7 +65,7 @@ fn two_links_become_a_trunk() {
     for port in [1, 2] {
         table.line(port, true, true).unwrap();
         let frame = lacpdu(port as u16, &actor(&table, port));
-        assert_eq!(table.receive(port, &frame, &mut out), Ok(Received::Lacpdu));
+        assert_eq!(table.receive(port, &frame, &mut out, &mut unread()), Ok(Received::Lacpdu));
         assert_eq!(out, [0xFF; FRAME + 1]);
     }
     for _ in 0..20 {
@@ -72,17 +77,19 @@ fn two_links_become_a_trunk() {
     assert_eq!((report.count, report.lowest, report.holding.0, report.attached.0), (2, Some(1), 3, 3));
     assert_eq!(table.port(1).unwrap().actor_state, PortState(0x3F));
 
-    let Ok(Received::Marker(response)) = table.receive(1, &marker(1), &mut out) else { panic!("no Response") };
+    let Ok(Received::Marker(response)) = table.receive(1, &marker(1), &mut out, &mut unread()) else {
+        panic!("no Response")
+    };
     assert_eq!((response.len(), response[16], response[29]), (FRAME, 2, 7));
-    assert_eq!(table.receive(1, &marker(2), &mut out), Err(Refusal::Response));
+    assert_eq!(table.receive(1, &marker(2), &mut out, &mut unread()), Err(Refusal::Response));
 
     for key in 2..5 {
         table.settings(2, &Settings { key, ..settings() }).unwrap();
-        assert_eq!(table.fetch(2, &mut out).unwrap()[26..28], key.to_be_bytes());
+        assert_eq!(table.fetch(2, &mut out, &mut unread()).unwrap()[26..28], key.to_be_bytes());
     }
-    assert_eq!(table.fetch(2, &mut out), Err(Refusal::NothingToSend));
+    assert_eq!(table.fetch(2, &mut out, &mut unread()), Err(Refusal::NothingToSend));
     table.settings(2, &settings()).unwrap();
-    assert_eq!(table.fetch(2, &mut out), Err(Refusal::TooManySends));
+    assert_eq!(table.fetch(2, &mut out, &mut unread()), Err(Refusal::TooManySends));
     table.line(1, true, false).unwrap();
     let record = table.port(1).unwrap();
     assert_eq!((record.receive, record.full_duplex), (ReceiveState::LacpDisabled, false));
@@ -97,15 +104,15 @@ fn a_fourth_lacpdu_goes_once_eleven_ticks_came_after_the_first() {
     table.line(1, true, true).unwrap();
     for key in 2..5 {
         table.settings(1, &Settings { key, ..settings() }).unwrap();
-        assert_eq!(table.fetch(1, &mut out).map(<[u8]>::len), Ok(FRAME));
+        assert_eq!(table.fetch(1, &mut out, &mut unread()).map(<[u8]>::len), Ok(FRAME));
     }
     table.settings(1, &settings()).unwrap();
     for age in 0..=10 {
         assert_eq!(table.port(1).unwrap().sends, [Some(age); 3]);
-        assert_eq!(table.fetch(1, &mut out), Err(Refusal::TooManySends));
+        assert_eq!(table.fetch(1, &mut out, &mut unread()), Err(Refusal::TooManySends));
         table.tick().unwrap();
     }
-    assert_eq!(table.fetch(1, &mut out).map(<[u8]>::len), Ok(FRAME));
+    assert_eq!(table.fetch(1, &mut out, &mut unread()).map(<[u8]>::len), Ok(FRAME));
     assert_eq!(table.port(1).unwrap().sends, [Some(0), None, None]);
 }
 
@@ -114,10 +121,10 @@ fn one_call_carries_link_and_duplex() {
     let mut table = Table::start(1, OURS, 0, &settings()).unwrap();
     let mut out = [0; FRAME];
     table.line(1, true, false).unwrap();
-    assert_eq!(table.fetch(1, &mut out), Err(Refusal::NothingToSend));
+    assert_eq!(table.fetch(1, &mut out, &mut unread()), Err(Refusal::NothingToSend));
     table.line(1, true, true).unwrap();
     let frame = lacpdu(1, &actor(&table, 1));
-    table.receive(1, &frame, &mut out).unwrap();
+    table.receive(1, &frame, &mut out, &mut unread()).unwrap();
     for _ in 0..20 {
         table.tick().unwrap();
     }
@@ -162,7 +169,7 @@ fn a_link_that_never_settles_churns() {
     assert_eq!(fallen.port(2).unwrap().churn, Churn { actor: held, partner: again });
 
     let frame = lacpdu(2, &actor(&table, 2));
-    table.receive(2, &frame, &mut [0; FRAME]).unwrap();
+    table.receive(2, &frame, &mut [0; FRAME], &mut unread()).unwrap();
     assert_eq!(table.port(2).unwrap().churn.partner, monitor(ChurnState::NoChurn, 0, 1));
     assert_eq!(table.port(2).unwrap().churn.partner.to_string(), "settled, churned once");
 }
@@ -184,7 +191,7 @@ fn one_carries() -> Table {
     for tick in 0..600 {
         if tick % 10 == 0 {
             let frame = lacpdu(1, &actor(&table, 1));
-            table.receive(1, &frame, &mut [0; FRAME]).unwrap();
+            table.receive(1, &frame, &mut [0; FRAME], &mut unread()).unwrap();
         }
         table.tick().unwrap();
     }
@@ -256,7 +263,11 @@ fn a_move_is_refused() {
 fn due(table: &Table) -> Vec<u32> {
     let due = table.due().unwrap();
     for port in 0..=33 {
-        assert_eq!(table.clone().fetch(port, &mut [0; FRAME]).is_ok(), due.contains(port), "port {port} of {due:?}");
+        assert_eq!(
+            table.clone().fetch(port, &mut [0; FRAME], &mut unread()).is_ok(),
+            due.contains(port),
+            "port {port} of {due:?}"
+        );
     }
     due.iter().collect()
 }
@@ -273,17 +284,17 @@ fn what_is_due_is_fetched() {
     table.line(2, true, false).unwrap();
     assert_eq!(due(&table), [1, 32]);
     for port in due(&table) {
-        assert_eq!(table.fetch(port, &mut out).map(<[u8]>::len), Ok(FRAME));
+        assert_eq!(table.fetch(port, &mut out, &mut unread()).map(<[u8]>::len), Ok(FRAME));
     }
     assert_eq!(due(&table), []);
     for key in 2..4 {
         table.settings(32, &Settings { key, ..settings() }).unwrap();
         assert_eq!(due(&table), [32]);
-        table.fetch(32, &mut out).unwrap();
+        table.fetch(32, &mut out, &mut unread()).unwrap();
     }
     table.settings(32, &settings()).unwrap();
     assert_eq!(due(&table), []);
-    assert_eq!(table.fetch(32, &mut out), Err(Refusal::TooManySends));
+    assert_eq!(table.fetch(32, &mut out, &mut unread()), Err(Refusal::TooManySends));
 }
 
 #[test]
@@ -298,25 +309,82 @@ fn refusals() {
     for port in [0, 3, u32::MAX] {
         assert_eq!(table.line(port, true, false), Err(Refusal::NoSuchPort));
         assert_eq!(table.settings(port, &wrong_default()), Err(Refusal::NoSuchPort));
-        assert_eq!(table.fetch(port, &mut out), Err(Refusal::NoSuchPort));
-        assert_eq!(table.receive(port, &frame, &mut out), Err(Refusal::NoSuchPort));
+        assert_eq!(table.fetch(port, &mut out, &mut unread()), Err(Refusal::NoSuchPort));
+        assert_eq!(table.receive(port, &frame, &mut out, &mut unread()), Err(Refusal::NoSuchPort));
         assert_eq!(table.port(port), Err(Refusal::NoSuchPort));
         assert_eq!(table.aggregator(port), Err(Refusal::NoSuchPort));
     }
     assert_eq!(table.settings(1, &wrong_default()), Err(Refusal::DefaultWrong));
-    assert_eq!(table.fetch(1, &mut out[1..]), Err(Refusal::BufferShort));
-    assert_eq!(table.fetch(1, &mut []), Err(Refusal::BufferShort));
-    assert_eq!(table.fetch(1, &mut out), Err(Refusal::NothingToSend));
-    assert_eq!(table.receive(1, &[], &mut []), Err(Refusal::BufferShort));
-    assert_eq!(table.receive(1, &[], &mut out), Err(Refusal::Foreign));
-    assert_eq!(table.receive(1, &frame[..123], &mut out), Err(Refusal::Illegal));
-    assert_eq!(table.receive(1, &frame, &mut out), Err(Refusal::LacpOff));
-    assert_eq!(table.receive(1, &marker(1), &mut out), Err(Refusal::NotCollecting));
+    assert_eq!(table.fetch(1, &mut out[1..], &mut unread()), Err(Refusal::BufferShort));
+    assert_eq!(table.fetch(1, &mut [], &mut unread()), Err(Refusal::BufferShort));
+    assert_eq!(table.fetch(1, &mut out, &mut unread()), Err(Refusal::NothingToSend));
+    assert_eq!(table.receive(1, &[], &mut [], &mut unread()), Err(Refusal::BufferShort));
+    assert_eq!(table.receive(1, &[], &mut out, &mut unread()), Err(Refusal::Foreign));
+    assert_eq!(table.receive(1, &frame[..123], &mut out, &mut unread()), Err(Refusal::Illegal));
+    assert_eq!(table.receive(1, &frame, &mut out, &mut unread()), Err(Refusal::LacpOff));
+    assert_eq!(table.receive(1, &marker(1), &mut out, &mut unread()), Err(Refusal::NotCollecting));
     let mut other = frame;
     other[14] = 3;
-    assert_eq!(table.receive(1, &other, &mut out), Err(Refusal::Unknown));
+    assert_eq!(table.receive(1, &other, &mut out, &mut unread()), Err(Refusal::Unknown));
     assert_eq!(table.restart(3, OURS, 0, &settings()), Err(Refusal::TableWrong));
     assert_eq!((table, out), (before, [0xFF; FRAME]));
+}
+
+/// Counters that all hold this number, and the same with these added, in the order of the record.
+fn counted(number: u32, added: [u32; 7]) -> [Counters; 2] {
+    [[number; 7], added.map(|one| number.wrapping_add(one))].map(Counters::from)
+}
+
+#[test]
+fn a_frame_is_counted_by_what_it_is() {
+    let mut table = one_carries();
+    table.line(2, false, true).unwrap();
+    let (lacpdu, marker, response) = (lacpdu(1, &actor(&table, 1)), marker(1), marker(2));
+    let [mut unknown, mut foreign] = [lacpdu; 2];
+    (unknown[14], foreign[5]) = (3, 3);
+    for (port, frame, out, answer, added) in [
+        (1, &lacpdu[..], FRAME, Ok(()), [1, 0, 0, 0, 0, 0, 0]),
+        (1, &marker, FRAME, Ok(()), [0, 1, 0, 0, 0, 0, 1]),
+        (2, &lacpdu, FRAME, Err(Refusal::LacpOff), [1, 0, 0, 0, 0, 0, 0]),
+        (2, &marker, FRAME, Err(Refusal::NotCollecting), [0, 1, 0, 0, 0, 0, 0]),
+        (1, &response, FRAME, Err(Refusal::Response), [0, 0, 1, 0, 0, 0, 0]),
+        (2, &unknown, FRAME, Err(Refusal::Unknown), [0, 0, 0, 1, 0, 0, 0]),
+        (1, &lacpdu[..123], FRAME, Err(Refusal::Illegal), [0, 0, 0, 0, 1, 0, 0]),
+        (1, &foreign, FRAME, Err(Refusal::Foreign), [0; 7]),
+        (1, &marker, FRAME - 1, Err(Refusal::BufferShort), [0; 7]),
+        (3, &lacpdu, FRAME, Err(Refusal::NoSuchPort), [0; 7]),
+    ] {
+        for number in [0, 41, u32::MAX] {
+            let [mut counters, after] = counted(number, added);
+            let before = table.clone();
+            assert_eq!(table.receive(port, frame, &mut vec![0; out], &mut counters).map(|_| ()), answer);
+            assert_eq!(counters, after, "{answer:?}");
+            assert!(answer.is_ok() || table == before);
+        }
+    }
+}
+
+#[test]
+fn a_fetch_that_is_not_refused_is_counted() {
+    let mut table = Table::start(1, OURS, 0, &settings()).unwrap();
+    table.line(1, true, true).unwrap();
+    let mut counters = Counters::from([7; 7]);
+    let mut fetch = |table: &mut Table, port, out: &mut [u8]| {
+        let answer = table.fetch(port, out, &mut counters).map(<[u8]>::len);
+        assert_eq!(counters, Counters { lacpdus_sent: counters.lacpdus_sent, ..Counters::from([7; 7]) });
+        (answer, counters.lacpdus_sent)
+    };
+    for (key, sent) in (2..5).zip(8..) {
+        table.settings(1, &Settings { key, ..settings() }).unwrap();
+        assert_eq!(fetch(&mut table, 2, &mut [0; FRAME]), (Err(Refusal::NoSuchPort), sent - 1));
+        assert_eq!(fetch(&mut table, 1, &mut [0; FRAME - 1]), (Err(Refusal::BufferShort), sent - 1));
+        assert_eq!(fetch(&mut table, 1, &mut [0; FRAME]), (Ok(FRAME), sent));
+        assert_eq!(fetch(&mut table, 1, &mut [0; FRAME]), (Err(Refusal::NothingToSend), sent));
+    }
+    table.settings(1, &settings()).unwrap();
+    assert_eq!(fetch(&mut table, 1, &mut [0; FRAME]), (Err(Refusal::TooManySends), 10));
+    let mut no_table = Table::from_memory(Box::default());
+    assert_eq!(fetch(&mut no_table, 1, &mut [0; FRAME]), (Err(Refusal::TableWrong), 10));
 }
 
 #[test]
@@ -325,7 +393,7 @@ fn any_memory() {
         for octet in [0, 1, 255] {
             let mut memory = vec![octet; length];
             let mut table: TableRef<'_> = Table::from_memory(&mut memory[..]);
-            let mut out = [0; FRAME];
+            let (mut out, mut counters) = ([0; FRAME], Counters::default());
             let all_ones = length == 82 && octet == 1;
             let wrong = |result: Result<(), Refusal>| {
                 assert!(all_ones || result == Err(Refusal::TableWrong), "{length} of {octet}: {result:?}");
@@ -333,8 +401,9 @@ fn any_memory() {
             wrong(table.tick());
             wrong(table.line(1, true, true));
             wrong(table.settings(1, &settings()));
-            wrong(table.fetch(1, &mut out).map(|_| ()));
-            wrong(table.receive(1, &[], &mut out).map(|_| ()));
+            wrong(table.fetch(1, &mut out, &mut counters).map(|_| ()));
+            wrong(table.receive(1, &[], &mut out, &mut counters).map(|_| ()));
+            assert!(all_ones || counters == Counters::default());
             wrong(table.port(1).map(|_| ()));
             wrong(table.aggregator(1).map(|_| ()));
             wrong(table.due().map(|_| ()));
@@ -388,11 +457,11 @@ fn long_areas() {
     let mut table = Table::start(1, OURS, 0, &settings()).unwrap();
     table.line(1, true, true).unwrap();
     let mut out = vec![0xFF; 1_000_000];
-    assert_eq!(table.fetch(1, &mut out).map(<[u8]>::len), Ok(FRAME));
+    assert_eq!(table.fetch(1, &mut out, &mut unread()).map(<[u8]>::len), Ok(FRAME));
     assert!(out[FRAME..].iter().all(|octet| *octet == 0xFF));
     let mut frame = lacpdu(1, &actor(&table, 1)).to_vec();
     frame.resize(1_000_000, 0xAA);
-    assert_eq!(table.receive(1, &frame, &mut out), Ok(Received::Lacpdu));
+    assert_eq!(table.receive(1, &frame, &mut out, &mut unread()), Ok(Received::Lacpdu));
     let report = raw::Report::Port { port: 1 };
     assert_eq!(raw::report(report, table.as_octets(), &mut out).answer, 0);
     assert_eq!(out[..RECORD], octets(table.as_octets(), 1));
@@ -402,13 +471,15 @@ fn long_areas() {
 #[test]
 fn many_at_once_and_from_many_threads() {
     let table = Table::start(4, OURS, 0, &settings()).unwrap().into_memory().into_vec();
-    let request = raw::Request { call: raw::Call::Tick, table, out: Vec::new() };
+    let counters = Counters::from([1, 2, 3, 4, 5, 6, 7]);
+    let request = raw::Request { call: raw::Call::Tick, table, out: Vec::new(), counters };
     std::thread::scope(|scope| {
         for _ in 0..4 {
             scope.spawn(|| {
                 let replies = raw::perform_all(&vec![request.clone(); 5000]).unwrap();
                 assert_eq!(replies.len(), 5000);
                 assert!(replies.iter().all(|reply| reply.outcome.answer == 0 && *reply == replies[0]));
+                assert_eq!(replies[0].counters, counters);
             });
         }
     });

@@ -2,7 +2,7 @@
 //! priority 1, own bits active 1, short 2, aggregatable 4.
 #![allow(dead_code, missing_docs)]
 
-use calls::{Call, Outcome, Report, SettingsArguments};
+use calls::{Call, Counters, Outcome, Report, SettingsArguments};
 use model::record::{Port, Table};
 use model::wire::{self, Block, State, FRAME};
 
@@ -75,8 +75,13 @@ impl Bench {
         self.perform(call, &mut [0xFF; FRAME]).answer
     }
 
+    /// With counters that nobody reads.
     pub fn perform(&mut self, call: &Call, out: &mut [u8]) -> Outcome {
-        model::perform(call, &mut self.memory, out)
+        self.counting(call, out, &mut Counters::default())
+    }
+
+    pub fn counting(&mut self, call: &Call, out: &mut [u8], counters: &mut Counters) -> Outcome {
+        model::perform(call, &mut self.memory, out, counters)
     }
 
     pub fn report(&self, report: Report) -> Outcome {

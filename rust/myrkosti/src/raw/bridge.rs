@@ -1,7 +1,7 @@
 //! The library in another process: `bridge/bridge.c` links the archive and runs under an emulator. That file describes the octets
 //! of requests and replies.
 
-use super::{Call, Outcome, Reply, Report, Request, SettingsArguments, Unreachable, UNREACHABLE};
+use super::{Call, Counters, Outcome, Reply, Report, Request, SettingsArguments, Unreachable, UNREACHABLE};
 use std::env;
 use std::ffi::OsString;
 use std::io::{self, BufReader, Read, Write};
@@ -49,12 +49,18 @@ impl Bridge {
     }
 
     fn reply(&mut self, request: &Request) -> io::Result<Reply> {
-        let mut outcome = Outcome { answer: self.number()?, sent: self.number()?, ..Outcome::UNTOUCHED };
-        for figure in &mut outcome.aggregator {
-            *figure = self.number()?;
+        let (answer, sent, aggregator, due) = (self.number()?, self.number()?, self.numbers()?, self.number()?);
+        let outcome = Outcome { answer, sent, aggregator, due };
+        let counters = Counters::from(self.numbers()?);
+        Ok(Reply { outcome, table: self.octets(request.table.len())?, out: self.octets(request.out.len())?, counters })
+    }
+
+    fn numbers<const N: usize>(&mut self) -> io::Result<[u32; N]> {
+        let mut numbers = [0; N];
+        for number in &mut numbers {
+            *number = self.number()?;
         }
-        outcome.due = self.number()?;
-        Ok(Reply { outcome, table: self.octets(request.table.len())?, out: self.octets(request.out.len())? })
+        Ok(numbers)
     }
 
     fn number(&mut self) -> io::Result<u32> {
@@ -142,6 +148,9 @@ fn encode(request: &Request, to: &mut Vec<u8>) {
     for lent in [&request.table, arguments.frame, &request.out] {
         to.extend((lent.len() as u32).to_le_bytes());
     }
+    for counter in request.counters.numbers() {
+        to.extend(counter.to_le_bytes());
+    }
     to.extend(&request.table);
     to.extend(arguments.frame);
     to.extend(&request.out);
@@ -151,19 +160,21 @@ fn bridge() -> MutexGuard<'static, Option<Bridge>> {
     BRIDGE.lock().unwrap_or_else(PoisonError::into_inner)
 }
 
-/// Performs one call on this table, with this outgoing buffer, or memory for a record or a moved table, if it has one.
-pub fn perform(call: &Call, table: &mut [u8], out: &mut [u8]) -> Outcome {
-    let Some(reply) = alone(call.clone(), table, out) else {
+/// Performs one call on this table, with this outgoing buffer, or memory for a record or a moved table, and these counters, if it takes
+/// them.
+pub fn perform(call: &Call, table: &mut [u8], out: &mut [u8], counters: &mut Counters) -> Outcome {
+    let Some(reply) = alone(call.clone(), table, out, *counters) else {
         return Outcome::refused(UNREACHABLE);
     };
     copy_back(table, &reply.table);
     copy_back(out, &reply.out);
+    *counters = reply.counters;
     reply.outcome
 }
 
 /// Performs a call that only reads this table, with this memory for a record or a moved table if it has one.
 pub fn report(report: Report, table: &[u8], lent: &mut [u8]) -> Outcome {
-    let Some(reply) = alone(report.into(), table, lent) else {
+    let Some(reply) = alone(report.into(), table, lent, Counters::default()) else {
         return Outcome::refused(UNREACHABLE);
     };
     copy_back(lent, &reply.out);
@@ -172,8 +183,8 @@ pub fn report(report: Report, table: &[u8], lent: &mut [u8]) -> Outcome {
 
 /// One call on copies of what is lent. The bridge copies all of it, so long areas are cut: no table, and no part of a frame, a buffer
 /// or memory for a record that the library looks at, is longer.
-fn alone(call: Call, table: &[u8], out: &[u8]) -> Option<Reply> {
-    exchange(&[Request { call, table: cut(table).into(), out: cut(out).into() }]).ok()?.pop()
+fn alone(call: Call, table: &[u8], out: &[u8], counters: Counters) -> Option<Reply> {
+    exchange(&[Request { call, table: cut(table).into(), out: cut(out).into(), counters }]).ok()?.pop()
 }
 
 fn cut(octets: &[u8]) -> &[u8] {

@@ -1,8 +1,10 @@
 //! The library, linked. The only module with unsafe code.
 
-use super::{Call, Outcome, Reply, Report, Request, Unreachable};
+use super::{Call, Counters, Outcome, Reply, Report, Request, Unreachable};
 
 mod library {
+    use super::Counters;
+
     extern "C" {
         pub fn myrkosti_version() -> u32;
         pub fn myrkosti_table_size(ports: u32) -> u32;
@@ -30,6 +32,7 @@ mod library {
             out: *mut u8,
             out_len: usize,
             sent: *mut u32,
+            counters: *mut Counters,
         ) -> u32;
         pub fn myrkosti_tick(table: *mut u8, table_len: usize) -> u32;
         pub fn myrkosti_line(table: *mut u8, table_len: usize, port: u32, up: bool, full: bool) -> u32;
@@ -45,7 +48,14 @@ mod library {
             aggregation: bool,
             partner: *const u8,
         ) -> u32;
-        pub fn myrkosti_fetch(table: *mut u8, table_len: usize, port: u32, out: *mut u8, out_len: usize) -> u32;
+        pub fn myrkosti_fetch(
+            table: *mut u8,
+            table_len: usize,
+            port: u32,
+            out: *mut u8,
+            out_len: usize,
+            counters: *mut Counters,
+        ) -> u32;
         pub fn myrkosti_port(table: *const u8, table_len: usize, port: u32, record: *mut u8, record_len: usize) -> u32;
         pub fn myrkosti_aggregator(
             table: *const u8,
@@ -64,14 +74,15 @@ mod library {
     }
 }
 
-/// Performs a call on this table, with this outgoing buffer, or memory for a record or a moved table, if it has one.
+/// Performs a call on this table, with this outgoing buffer, or memory for a record or a moved table, and these counters, if it takes
+/// them.
 #[inline]
-pub fn perform(call: &Call, table: &mut [u8], out: &mut [u8]) -> Outcome {
+pub fn perform(call: &Call, table: &mut [u8], out: &mut [u8], counters: &mut Counters) -> Outcome {
     let mut outcome = Outcome::UNTOUCHED;
     // SAFETY: `table` and `out` are writable and a frame readable for their whole lengths, and each array readable for the 6 or 15
-    // octets that the header names; `sent` is one writable number. Exclusive borrows overlap nothing. A slice without octets has a
-    // pointer that is not null, and none of it is read. A Rust bool is a C bool. The library keeps no pointer after the call, and is
-    // defined for every content.
+    // octets that the header names; `sent` is one writable number, and `counters` are seven, laid out as in C. Exclusive borrows overlap
+    // nothing. A slice without octets has a pointer that is not null, and none of it is read. A Rust bool is a C bool. The library keeps
+    // no pointer after the call, and is defined for every content.
     outcome.answer = unsafe {
         match call {
             Call::Start { ports, system_priority, system, collector_max_delay, settings } => library::myrkosti_start(
@@ -98,6 +109,7 @@ pub fn perform(call: &Call, table: &mut [u8], out: &mut [u8]) -> Outcome {
                 out.as_mut_ptr(),
                 out.len(),
                 &mut outcome.sent,
+                counters,
             ),
             Call::Tick => library::myrkosti_tick(table.as_mut_ptr(), table.len()),
             Call::Line { port, up, full } => library::myrkosti_line(table.as_mut_ptr(), table.len(), *port, *up, *full),
@@ -114,7 +126,7 @@ pub fn perform(call: &Call, table: &mut [u8], out: &mut [u8]) -> Outcome {
                 settings.partner.as_ptr(),
             ),
             Call::Fetch { port } => {
-                library::myrkosti_fetch(table.as_mut_ptr(), table.len(), *port, out.as_mut_ptr(), out.len())
+                library::myrkosti_fetch(table.as_mut_ptr(), table.len(), *port, out.as_mut_ptr(), out.len(), counters)
             }
             Call::Report(asked) => return report(*asked, table, out),
         }
