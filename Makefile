@@ -29,15 +29,15 @@ compare:
 	rt staticlib myrkosti
 	tools/compare.sh --seconds $(SECONDS_TO_COMPARE)
 
-# Not in the gate: frames of the library as tshark reads them, every field, frames of scapy as the library reads them, and the counters against what tshark
-# counts; then each bit of a frame flipped, and frames left out, which must be found.
+# Not in the gate: frames of the library as tshark reads them, every field, Markers among them; frames of scapy as the library reads them, Responses to its
+# Markers among them; and the counters against what tshark counts; then each bit of a frame flipped, and frames left out, which must be found.
 wire:
 	rt staticlib myrkosti
 	tools/outside.sh wire
 
-# Not in the gate: two links to Open vSwitch, tick by tick: a trunk, cuts, silence, a link on which it never hears us, restarts, new firmware under the
-# trunk and its way back, and the counters against tshark's; then a switch that never sends, new firmware that starts anew or takes too long, and a
-# capture that misses frames, which must be found.
+# Not in the gate: two links to Open vSwitch, tick by tick: a trunk, cuts, silence, a link on which it never hears us, restarts, Markers that it does not
+# answer, new firmware under the trunk and its way back, and the counters against tshark's; Markers that a second switch of ours answers; then a switch that
+# never sends, new firmware that starts anew or takes too long, Responses that get lost, and a capture that misses frames, which must be found.
 peers:
 	rt staticlib myrkosti
 	tools/outside.sh peers

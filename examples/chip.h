@@ -36,6 +36,12 @@ void chip_collect(uint32_t ports);
 /* Traffic of this trunk goes out on these ports alone. */
 void chip_distribute(uint32_t trunk, uint32_t ports);
 
+/* The ports from which the chip wants to move conversations, as a set: it sends nothing more of these conversations until it may move them. */
+uint32_t chip_leaving(void);
+
+/* They may be moved from this port: what was sent there before has arrived, or as far as anybody knows nothing of it is under way any more. */
+void chip_may_move(uint32_t port, bool arrived);
+
 /* The links of these ports are up and have not settled for a minute: somebody should look. */
 void chip_unsettled(uint32_t ports);
 

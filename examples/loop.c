@@ -3,12 +3,15 @@
 #include "myrkosti.h"
 
 enum { FRAMES_A_TURN = 64 };
+enum { MARKER_WAIT = 20, MARKER_PAUSE = 3 }; /* ticks: nothing is under way for longer; from one Marker of a port to the next, so that there are five a second at most */
 
 static uint8_t table[MYRKOSTI_TABLE(CHIP_PORTS)];
 static struct myrkosti_counters counters[CHIP_PORTS + 1]; /* of each port, from zeros: they are kept for as long as this runs */
 static uint8_t unsent[CHIP_PORTS + 1][MYRKOSTI_FRAME]; /* of each port, what was fetched and could not be sent */
 static uint32_t waiting;                               /* the ports that have such a frame */
 static uint32_t collecting, distributing[CHIP_PORTS + 1]; /* as the chip is programmed: ports; ports of each trunk */
+static uint32_t draining;                              /* the ports on which a Marker is awaited */
+static uint32_t pauses[CHIP_PORTS + 1];                /* of each port, the ticks until another may go */
 
 static uint32_t bit(uint32_t port)
 {
@@ -46,6 +49,14 @@ static void tell_links(void)
         if (!up)
             waiting &= ~bit(port); /* what was to be said has nobody to hear it */
     }
+}
+
+/* Step 3: one tick, however late it is. */
+static void tick(void)
+{
+    myrkosti_tick(table, sizeof table);
+    for (uint32_t port = 1; port <= CHIP_PORTS; port++)
+        pauses[port] -= pauses[port] > 0;
 }
 
 /* Step 4, a bounded number of frames in a turn, so that a flood on one port delays neither ticks nor the others. */
@@ -108,6 +119,42 @@ static void program_and_send(void)
     chip_unsettled(unsettled);
 }
 
+/* A Marker behind the last frame of the conversations that are to leave a port. One that cannot be sent times out. */
+static void ask(uint32_t port)
+{
+    uint8_t marker[MYRKOSTI_FRAME];
+    const uint32_t answer = myrkosti_ask(table, sizeof table, port, MARKER_WAIT, marker, sizeof marker);
+    if (answer == MYRKOSTI_DONE) {
+        chip_send(port, marker);
+        draining |= bit(port);
+        pauses[port] = MARKER_PAUSE;
+    } else if (answer == MYRKOSTI_NOT_DISTRIBUTING) {
+        chip_may_move(port, false); /* it carries nothing any more */
+    }
+}
+
+/* What came of it. */
+static void read_outcome(uint32_t port)
+{
+    uint8_t record[MYRKOSTI_RECORD];
+    myrkosti_port(table, sizeof table, port, record, sizeof record);
+    if (record[MYRKOSTI_AT_MARKER] != MYRKOSTI_MARKER_AWAITING) {
+        draining &= ~bit(port);
+        chip_may_move(port, record[MYRKOSTI_AT_MARKER] == MYRKOSTI_MARKER_ANSWERED);
+    }
+}
+
+static void drain(void)
+{
+    const uint32_t leaving = chip_leaving();
+    for (uint32_t port = 1; port <= CHIP_PORTS; port++) {
+        if ((draining & bit(port)) != 0)
+            read_outcome(port);
+        else if ((leaving & bit(port)) != 0 && pauses[port] == 0)
+            ask(port);
+    }
+}
+
 static void show_pages(void)
 {
     for (uint32_t port = 1; port <= CHIP_PORTS; port++)
@@ -128,10 +175,11 @@ int main(void)
         return 1;
     while (chip_wait()) {
         if (chip_tick_due())
-            myrkosti_tick(table, sizeof table); /* step 3: one tick, however late it is */
+            tick();
         tell_links();
         hear();
         program_and_send();
+        drain();
         show_pages();
     }
     leave();

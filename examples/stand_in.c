@@ -12,7 +12,7 @@
 #include <string.h>
 
 enum { TURNS_A_TICK = 5, TICKS = 800, QUEUE = 8, ONE_WAY = CHIP_PORTS };
-enum { SUBTYPE_AT = 14, LACP = 1, ACTOR_STATE_AT = 32 }; /* of a frame */
+enum { SUBTYPE_AT = 14, LACP = 1, MARKERS = 2, ACTOR_STATE_AT = 32 }; /* of a frame */
 
 struct queue {
     uint8_t frames[QUEUE][MYRKOSTI_FRAME];
@@ -20,9 +20,9 @@ struct queue {
 };
 
 static unsigned turns, ticked;
-static bool links[CHIP_PORTS + 1], blocked;
+static bool links[CHIP_PORTS + 1], blocked, loses_markers;
 static struct queue in[CHIP_PORTS + 1];
-static uint32_t collecting, distributing[CHIP_PORTS + 1], unsettled;
+static uint32_t collecting, distributing[CHIP_PORTS + 1], leaving, unsettled;
 static struct myrkosti_counters pages[CHIP_PORTS + 1];
 static uint8_t neighbour[MYRKOSTI_TABLE(CHIP_PORTS)];
 static struct myrkosti_counters unread; /* the neighbour has no port pages: one record for all its ports, never read */
@@ -76,6 +76,13 @@ static void ask(uint32_t port)
     push(&in[port], marker);
 }
 
+/* The chip wants to move conversations from a port, and holds them back. */
+static void leave(uint32_t port)
+{
+    leaving |= 1u << (port - 1);
+    printf("%5.1f s  conversations are to leave %u\n", turns / (10.0 * TURNS_A_TICK), (unsigned)port);
+}
+
 static void happen(unsigned tick)
 {
     if (tick == 1 || tick == 2)
@@ -88,6 +95,12 @@ static void happen(unsigned tick)
         link(2, tick == 90);
     if (tick == 100)
         link(3, true);
+    if (tick == 200 || tick == 300 || tick == 400)
+        leave(tick / 100 - 1); /* at the second the Marker is lost; at the third, too, and the link falls before its time is over */
+    if (tick == 299 || tick == 420)
+        loses_markers = tick == 299;
+    if (tick == 410 || tick == 411)
+        link(3, tick == 411);
     if (tick == 110 || tick == 750)
         link(ONE_WAY, tick == 110);
 }
@@ -95,9 +108,9 @@ static void happen(unsigned tick)
 static void show_pages(void)
 {
     for (uint32_t port = 1; port <= CHIP_PORTS; port++)
-        printf("%5.1f s  page of %u: LACPDUs %u in, %u out; Markers %u in; Responses %u out\n", turns / (10.0 * TURNS_A_TICK), (unsigned)port,
+        printf("%5.1f s  page of %u: LACPDUs %u in, %u out; Markers %u in; Responses %u in, %u out\n", turns / (10.0 * TURNS_A_TICK), (unsigned)port,
                (unsigned)pages[port].lacpdus_received, (unsigned)pages[port].lacpdus_sent, (unsigned)pages[port].markers_received,
-               (unsigned)pages[port].marker_responses_sent);
+               (unsigned)pages[port].marker_responses_received, (unsigned)pages[port].marker_responses_sent);
 }
 
 /* ---- what loop.c asks for ---- */
@@ -172,13 +185,15 @@ static bool is_so(uint32_t port, uint8_t state)
 bool chip_send(uint32_t port, const uint8_t *frame)
 {
     uint8_t out[MYRKOSTI_FRAME];
-    uint32_t sent;
+    uint32_t sent = 0;
     if (frame[SUBTYPE_AT] == LACP && !is_so(port, frame[ACTOR_STATE_AT]))
         exit(1);
     if (blocked || !links[port])
         return false;
-    if (port != ONE_WAY)
+    if (port != ONE_WAY && !(loses_markers && frame[SUBTYPE_AT] == MARKERS))
         myrkosti_receive(neighbour, sizeof neighbour, port, frame, MYRKOSTI_FRAME, out, sizeof out, &sent, &unread);
+    if (sent != 0)
+        push(&in[port], out);
     neighbour_speaks();
     return true;
 }
@@ -197,6 +212,17 @@ void chip_distribute(uint32_t trunk, uint32_t ports)
     if (ports != distributing[trunk])
         show(what, ports);
     distributing[trunk] = ports;
+}
+
+uint32_t chip_leaving(void)
+{
+    return leaving;
+}
+
+void chip_may_move(uint32_t port, bool arrived)
+{
+    leaving &= ~(1u << (port - 1));
+    printf("%5.1f s  conversations leave %u: %s\n", turns / (10.0 * TURNS_A_TICK), (unsigned)port, arrived ? "all has arrived" : "nothing is under way any more");
 }
 
 void chip_unsettled(uint32_t ports)

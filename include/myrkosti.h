@@ -4,7 +4,8 @@
  * You lend the memory of a table of 1 to 32 ports, tell the library what happens (frames, ticks, link and duplex, settings), send what
  * it writes for you, and read from the reports which ports form one trunk. It keeps no memory of its own, allocates nothing, calls
  * nothing, and every call ends. One table is one Aggregation System; different tables may be used at the same time. What a port received
- * and sent is counted in a small record that you keep beside the table.
+ * and sent is counted in a small record that you keep beside the table. Before you move a conversation to another link, ask for a Marker
+ * on the one that it leaves: its Response says that the link has drained.
  *
  * You may pass anything: frames of any length and content, any port number, any setting, any table memory, any numbers in counters. A call
  * answers one of the numbers below, and unless that is MYRKOSTI_DONE, table and outgoing buffer hold what they held before: of what you
@@ -33,19 +34,22 @@ extern "C" {
  * The version of this interface. Its high octet changes where a program that was compiled with the header of before no longer fits; its low octet
  * where something is added: a call, an answer, fields behind the others of a record. Ask myrkosti_fits at start.
  */
-#define MYRKOSTI_VERSION 0x0200
+#define MYRKOSTI_VERSION 0x0201
 
 #define MYRKOSTI_PORTS 32  /* the most ports that a table has */
 #define MYRKOSTI_HEADER 11 /* octets before the first record of a table */
-#define MYRKOSTI_RECORD 71 /* octets of a port's record; later versions append fields and move none */
+#define MYRKOSTI_RECORD 78 /* octets of a port's record; later versions append fields and move none */
+#define MYRKOSTI_ASKED 7   /* the last of them, of the Marker that was asked for; a table of a version before 0x0201 ends without any port's */
 #define MYRKOSTI_FRAME 124 /* octets of every frame that the library writes, without FCS; an outgoing buffer has at least as many */
 #define MYRKOSTI_BLOCK 15  /* octets of an information block */
+
+#define MYRKOSTI_LONGEST_WAIT 600 /* the most ticks for which a Marker is awaited, a minute; the least is 1 */
 
 /* The size of a table whose port count is a constant, of this version. myrkosti_table_size gives that of the library which is linked. */
 #define MYRKOSTI_TABLE(ports) (MYRKOSTI_HEADER + MYRKOSTI_RECORD * (ports))
 
-/* The same of a table of the old form, that of version 0x0100; myrkosti_old_table_size gives it too. */
-#define MYRKOSTI_OLD_RECORD 57 /* its records end before the churn states */
+/* The same of a table of the old form, which has no churn fields; myrkosti_old_table_size gives it too. */
+#define MYRKOSTI_OLD_RECORD 64 /* octets 0 to 56 of a record, and 71 to 77 */
 #define MYRKOSTI_OLD_TABLE(ports) (MYRKOSTI_HEADER + MYRKOSTI_OLD_RECORD * (ports))
 
 /* ---- answers ---- */
@@ -54,8 +58,9 @@ enum {
     MYRKOSTI_DONE = 0,            /* done */
     MYRKOSTI_TABLE_WRONG = 1,     /* the memory is no table: its size or port count is wrong, or a field is out of range (forward and back: below) */
     MYRKOSTI_NO_SUCH_PORT = 2,    /* no port, or no aggregator, has this number; they count from 1 */
-    MYRKOSTI_BUFFER_SHORT = 3,    /* `out` is too short for a frame (receive and fetch) */
-    MYRKOSTI_DEFAULT_WRONG = 4,   /* in the default partner block Collecting and Synchronization differ (start and settings) */
+    MYRKOSTI_BUFFER_SHORT = 3,    /* `out` is too short for a frame (receive, fetch and ask) */
+    MYRKOSTI_DEFAULT_WRONG = 4,   /* in the default partner block Collecting and Synchronization differ (start and settings); the time to wait is not
+                                     1 to 600 ticks (ask) */
     MYRKOSTI_LACP_OFF = 5,        /* an LACPDU without fault, but the link is down or the duplex half */
     MYRKOSTI_FOREIGN = 6,         /* a frame under 14 octets, or not to 01-80-C2-00-00-02: not for this part */
     MYRKOSTI_UNKNOWN = 7,         /* to that address, but of another type than 88-09, or a subtype from 3 to 10: for others */
@@ -63,15 +68,17 @@ enum {
     MYRKOSTI_NOT_COLLECTING = 9,  /* a Marker on a port that neither collects nor distributes */
     MYRKOSTI_NOTHING_TO_SEND = 10, /* fetch: nothing is due, the link is down or the duplex half */
     MYRKOSTI_TOO_MANY_SENDS = 11, /* fetch: one is due, but three LACPDUs went with fewer than eleven ticks after the first; ask after the next tick */
-    MYRKOSTI_RESPONSE = 12        /* a Marker Response, for which nobody here waits */
+    MYRKOSTI_RESPONSE = 12,       /* a Marker Response that nobody awaits: the port has asked for no Marker, or not for this one, or waits no longer */
+    MYRKOSTI_NOT_DISTRIBUTING = 13, /* ask: the port does not distribute, so no conversation is left on it to be moved */
+    MYRKOSTI_ALREADY_AWAITING = 14 /* ask: the port awaits a Marker's Response; ask when that has ended */
 };
 
 /*
  * ---- the record of a port, MYRKOSTI_RECORD octets, as myrkosti_port gives it ----
  *
- * Read it by that call. In the table's memory the record of a port lies in two places: octets 0 to 56 of every port first, port by port, and behind the
- * last of them octets 57 to 70 of every port (docs/TABLE.md says where). Numbers are high octet first: myrkosti_number reads one of two octets,
- * myrkosti_long_number one of four.
+ * Read it by that call. In the table's memory the record of a port lies in three places: octets 0 to 56 of every port first, port by port, behind the
+ * last of them octets 57 to 70 of every port, and behind those octets 71 to 77 (docs/TABLE.md says where). Numbers are high octet first: myrkosti_number
+ * reads one of two octets, myrkosti_long_number one of four.
  *
  *    0       receive state
  *    1       periodic state
@@ -97,6 +104,9 @@ enum {
  *   61-62    churn timer of the partner
  *   63-66    churn count of the actor: how often it has churned since the start, or since the table was moved forward; after 4294967295 comes 0
  *   67-70    churn count of the partner
+ *   71       what came of the Marker that was asked for last; it stays until the next one
+ *   72-73    how long that one is still awaited, in ticks; 0 unless it is
+ *   74-77    the transaction that the next Marker will have: 0 after a start, one more with each that was asked for; after 4294967295 comes 0
  */
 enum {
     MYRKOSTI_AT_RECEIVE = 0,
@@ -122,7 +132,10 @@ enum {
     MYRKOSTI_AT_ACTOR_CHURN_TIMER = 59,
     MYRKOSTI_AT_PARTNER_CHURN_TIMER = 61,
     MYRKOSTI_AT_ACTOR_CHURN_COUNT = 63,
-    MYRKOSTI_AT_PARTNER_CHURN_COUNT = 67
+    MYRKOSTI_AT_PARTNER_CHURN_COUNT = 67,
+    MYRKOSTI_AT_MARKER = 71,
+    MYRKOSTI_AT_MARKER_TIMER = 72,
+    MYRKOSTI_AT_MARKER_NUMBER = 74
 };
 
 /* the octets of an information block */
@@ -192,6 +205,18 @@ enum {
 };
 
 /*
+ * What came of the Marker that was asked for last on a port. One that is awaited comes to one of three ends, at its last tick at the latest, unless a start
+ * forgets it. Beside a refusal the zeros of a record say that none was asked for.
+ */
+enum {
+    MYRKOSTI_MARKER_NONE = 0,      /* none was asked for since the start */
+    MYRKOSTI_MARKER_AWAITING = 1,  /* its Response is awaited */
+    MYRKOSTI_MARKER_ANSWERED = 2,  /* the Response came: what was sent on the link before the Marker has arrived */
+    MYRKOSTI_MARKER_TIMED_OUT = 3, /* none came in the time given */
+    MYRKOSTI_MARKER_CANCELLED = 4  /* the link fell first, or the duplex changed while it was up */
+};
+
+/*
  * ---- the counters of a port (30.7.3) ----
  *
  * Seven uint32_t, one behind the other without padding. Keep a record for each port, outside the table, and lend it to myrkosti_receive and myrkosti_fetch
@@ -202,7 +227,7 @@ enum {
 struct myrkosti_counters {
     uint32_t lacpdus_received;          /* LACPDUs: receive answered 0 to one, or 5 */
     uint32_t markers_received;          /* Markers: answered 0 to one, or 9 */
-    uint32_t marker_responses_received; /* Marker Responses: answered 12 */
+    uint32_t marker_responses_received; /* Marker Responses: answered 0 to one, or 12 */
     uint32_t unknown_received;          /* answered 7 */
     uint32_t illegal_received;          /* answered 8 */
     uint32_t lacpdus_sent;              /* fetch answered 0 */
@@ -222,7 +247,8 @@ uint32_t myrkosti_table_size(uint32_t ports);
  * down and duplexes full then: tell the library by myrkosti_line of each port that is otherwise. Every port begins with the settings given
  * here, so all have one address: give each its own by myrkosti_settings before its link comes up. `system` and `system_priority` name this
  * switch to its neighbours and must be its own; `collector_max_delay` counts tens of microseconds. What was sent before is forgotten: after a
- * further start let a second pass before you tell of the first link that is up, or more LACPDUs could go than three a second.
+ * further start let a second pass before you tell of the first link that is up, or more LACPDUs could go than three a second. Markers that were
+ * awaited are forgotten too.
  * Answers 0, 1 (memory size or port count) or 4.
  */
 uint32_t myrkosti_start(uint8_t *table, size_t table_len, uint32_t ports,
@@ -232,7 +258,8 @@ uint32_t myrkosti_start(uint8_t *table, size_t table_len, uint32_t ports,
 
 /*
  * A frame came in on a port: hand over every frame to 01-80-C2-00-00-02, without FCS, as it came. `sent` is written at every call: 124 if
- * a Marker was answered, and then `out` begins with the Response, which you send on that port; otherwise 0. An LACPDU leaves `out` as it is.
+ * a Marker was answered, and then `out` begins with the Response, which you send on that port; otherwise 0. An LACPDU leaves `out` as it is, and so
+ * does the Response that the port awaits, which is answered 0 and ends the wait (myrkosti_ask).
  * The frame is counted, also beside a refusal: 1, 2, 3 and 6 alone count nowhere. After an answer 0, other ports may have changed too: read the
  * reports that you follow. Answers 0 to 3, 5 to 9 and 12.
  */
@@ -255,7 +282,8 @@ uint32_t myrkosti_tick(uint8_t *table, size_t table_len);
  *   to up, half   LACP is off (LACP_DISABLED): the partner is forgotten for the default block, and the port leaves its trunk
  *   to down       the port carries no longer (PORT_DISABLED) but keeps its partner and its aggregator, whatever the duplex does in the same call
  *
- * Where the link is up before and after, a change of duplex acts as down, then up, within the call. Answers 0, 1 or 2.
+ * Where the link is up before and after, a change of duplex acts as down, then up, within the call. A Marker that the port awaits is cancelled where the
+ * link was up and either value changes. Answers 0, 1 or 2.
  */
 uint32_t myrkosti_line(uint8_t *table, size_t table_len, uint32_t port, bool up, bool full);
 
@@ -275,6 +303,17 @@ uint32_t myrkosti_settings(uint8_t *table, size_t table_len, uint32_t port,
  * since the LACPDU says so, and stop it sending on each port that distributes no longer. Answers 0 to 3, 10 or 11.
  */
 uint32_t myrkosti_fetch(uint8_t *table, size_t table_len, uint32_t port, uint8_t *out, size_t out_len, struct myrkosti_counters *counters);
+
+/*
+ * A Marker for a port (43.5), to learn when all that was sent there has arrived. First stop handing frames of the conversation to the port. On answer 0
+ * `out` begins with a frame of 124 octets, which you send on that port at once, behind the frames that wait there; octets after it are kept. Its Response,
+ * handed to myrkosti_receive on the same port, makes the outcome in the record MYRKOSTI_MARKER_ANSWERED, if it comes before the last of the next `ticks`
+ * ticks (1 to MYRKOSTI_LONGEST_WAIT); with that tick the outcome is MYRKOSTI_MARKER_TIMED_OUT, and a Response after it is answered 12. One that does not
+ * bring back the port's number, the system's address and the transaction, or comes in on another port, is answered 12 too and ends nothing.
+ * A port awaits one Marker at a time. Ask no more often than 43B.2 allows, five frames in any one second on a port: nothing here limits it.
+ * docs/GUIDE-FIRMWARE.md has the steps. Answers 0 to 4, 13 or 14, tested in that order.
+ */
+uint32_t myrkosti_ask(uint8_t *table, size_t table_len, uint32_t port, uint32_t ticks, uint8_t *out, size_t out_len);
 
 /*
  * The ports that have something to send, as a set, bit 0 is port 1: exactly those on which myrkosti_fetch, with a buffer of 124 octets, would be
@@ -304,9 +343,13 @@ uint32_t myrkosti_aggregator(const uint8_t *table, size_t table_len, uint32_t ag
 /* ---- new firmware under live trunks ---- */
 
 /*
- * A library of version 0x0100 has tables of the old form: what today's are without their churn monitors (docs/TABLE.md). The two calls below turn a table of
- * either form into the other, so that no trunk is dropped when new firmware is loaded, nor when a crew backs out of it. Make them between two calls on
- * the table, whatever its ports are doing: each goes on where it stood. docs/GUIDE-FIRMWARE.md has the steps.
+ * A table of the old form is what today's is without its churn monitors (docs/TABLE.md). The two calls below turn a table of either form into the other, so
+ * that no trunk is dropped when new firmware is loaded, nor when a crew backs out of it. Make them between two calls on the table, whatever its ports are
+ * doing: each goes on where it stood, and a Marker that is awaited stays so. docs/GUIDE-FIRMWARE.md has the steps.
+ *
+ * A library before version 0x0201 has tables without octets 71 to 77 of their records: version 0x0100 those of the old form, the others those of today's.
+ * Put MYRKOSTI_ASKED zero octets for each port behind such a table, and it is one of its form: none was asked for. Without these last octets it is that
+ * library's again.
  *
  * They read the table from one memory and write it into another, every octet of it, whatever that held. The source stays as it is. Answers 0 or 1:
  * the source is no table of the form asked for (its size, port count or a field is wrong; a table of the other form has a wrong size), or the
@@ -322,7 +365,7 @@ uint32_t myrkosti_old_table_size(uint32_t ports);
  */
 uint32_t myrkosti_forward(const uint8_t *old_table, size_t old_len, uint8_t *new_table, size_t new_len);
 
-/* Turns a table into one of the old form, of myrkosti_old_table_size octets. What the monitors knew is dropped. */
+/* Turns a table into one of the old form, of myrkosti_old_table_size octets. What the monitors knew is dropped, and nothing else. */
 uint32_t myrkosti_back(const uint8_t *new_table, size_t new_len, uint8_t *old_table, size_t old_len);
 
 /* ---- the calls with names for their arguments ---- */

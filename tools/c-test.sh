@@ -5,14 +5,14 @@ cd "$(dirname "$0")/.."
 [ -f target/staticlib/libmyrkosti.a ] || rt staticlib myrkosti
 . tools/x86.sh
 
-for test in calls counters churn; do
+for test in calls counters churn asks; do
     compile tests/c/$test.c target/c/$test
     "${run[@]}" target/c/$test
 done
 
-# Moves between the two forms of a table, with a library of yesterday beside that of today.
+# Moves between the two forms of a table, with libraries of before beside that of today.
 tools/yesterday.sh
-compile tests/c/moves.c target/c/moves target/yesterday/yesterday.o
+compile tests/c/moves.c target/c/moves target/yesterday/yesterday.o target/yesterday/lately.o
 "${run[@]}" target/c/moves
 
 # The header in each language, with every warning that the compiler has for one of them and that says something of it.

@@ -1,30 +1,48 @@
 #!/usr/bin/env bash
-# longer-record.sh: what a program of today does with a library of tomorrow. Builds the library with four octets more behind each record and the next
-# version, without its proofs, and runs tests/c/longer.c with it under valgrind: it reads its 71 octets and nothing is touched beyond what was lent. Then
-# two trials that must be seen: memory that is shorter than the program says, and headers of which the library has not all.
+# longer-record.sh: what a program does with a library of a later version, whose records are longer than its header knows. Builds the library with four octets
+# more behind each record and the next version, without its proofs, and runs tests/c/longer.c with it under valgrind: it reads its 78 octets and nothing is
+# touched beyond what was lent. The same with a program of version 0x0200, which knows 71 octets, and the library of today. Then two trials that must be
+# seen: memory that is shorter than the program says, and headers of which the library has not all.
 set -eu
 cd "$(dirname "$0")/.."
 tools/install.sh valgrind valgrind
+
+# build HEADERS SOURCE PROGRAM [WORDS..], with the library of $work/native
+build() { cc -std=c11 -Wall -Wextra -Wpedantic -Werror -g "-I$1" -Itests/c "${@:4}" "$2" "$work/native/libmyrkosti.a" -o "$3"; }
+checked() { valgrind --quiet --error-exitcode=9 "$@"; }
+
+# run_longer HEADERS PROGRAM LONGER APPENDED: as it is, and with memory that is too short
+run_longer() {
+    build "$1" tests/c/longer.c "$2" "-DLONGER=$3" "-DAPPENDED={$4}"
+    checked "$2"
+    if checked "$2" short > "$2.log" 2>&1; then
+        echo 'failed: an octet behind the memory lent was not seen' && exit 1
+    fi
+    grep -q 'Invalid write of size 1' "$2.log"
+}
+
+# a program of version 0x0200: today's header without what was added since. A port that never asked has zeros in its last seven octets
+work=$PWD/target/c/shorter
+. tools/other-library.sh
+tools/bench/native.sh "$work/crates" "$work/native"
+mkdir "$work/0x0200"
+sed -e 's/\(#define MYRKOSTI_VERSION\) .*/\1 0x0200/' -e 's/\(#define MYRKOSTI_RECORD\) 78/\1 71/' -e 's/\(#define MYRKOSTI_OLD_RECORD\) 64/\1 57/' \
+    -e '/MYRKOSTI_ASKED\|MYRKOSTI_LONGEST_WAIT\|MYRKOSTI_MARKER_\|MYRKOSTI_AT_MARKER\|MYRKOSTI_NOT_DISTRIBUTING\|MYRKOSTI_ALREADY_AWAITING\|myrkosti_ask(/d' \
+    include/myrkosti.h | sed -e '/^enum {$/{N;/\n};$/d}' > "$work/0x0200/myrkosti.h"
+run_longer "$work/0x0200" "$work/longer" 7 0,0,0,0,0,0,0
+
+# a library of tomorrow, and a program of today
 work=$PWD/target/c/longer
 . tools/other-library.sh
-change churn/src/group.rt 'GROUP: usize = 14;' 'GROUP: usize = 18;'
-change churn/src/group.rt '    put_long(out, 10, partner.count);' \
-    '    put_long(out, 10, partner.count); octets::put(out, 14, &[0xe1, 0xe2, 0xe3, 0xe4]);'
-change whole/src/lib.rt 'WHOLE_RECORD: usize = 71;' 'WHOLE_RECORD: usize = 75;'
+change asks/src/group.rt 'GROUP: usize = 7;' 'GROUP: usize = 11;'
+change asks/src/group.rt '    octets::longs::put_long(out, 3, a.number);' \
+    '    octets::longs::put_long(out, 3, a.number); octets::put(out, 7, &[0xe1, 0xe2, 0xe3, 0xe4]);'
+change asked/src/lib.rt 'ASKED_RECORD: usize = 78;' 'ASKED_RECORD: usize = 82;'
 of_version() { printf '0x%04x' $((version + $1)); } # so much above that of crates/
 next=$(of_version 1)
 call_it "$next"
 tools/bench/native.sh "$work/crates" "$work/native"
-
-# build HEADERS SOURCE PROGRAM
-build() { cc -std=c11 -Wall -Wextra -Wpedantic -Werror -g "-I$1" -Itests/c "$2" "$work/native/libmyrkosti.a" -o "$3"; }
-checked() { valgrind --quiet --error-exitcode=9 "$@"; }
-build include tests/c/longer.c "$work/longer"
-checked "$work/longer"
-if checked "$work/longer" short > "$work/short.log" 2>&1; then
-    echo 'failed: an octet behind the memory lent was not seen' && exit 1
-fi
-grep -q 'Invalid write of size 1' "$work/short.log"
+run_longer include "$work/longer" 4 0xe1,0xe2,0xe3,0xe4
 
 # fits VERSION: what myrkosti_fits says to a program whose header has this version
 fits() {
@@ -34,8 +52,8 @@ fits() {
     build "$work/$1" "$work/fits.c" "$work/fits"
     "$work/fits"
 }
-# today's and tomorrow's do; one that knows of more does not, nor those of the generations before and after
-if ! fits "$version" || ! fits "$next" || fits "$(of_version 2)" || fits "$(of_version -0x100)" || fits "$(of_version 0x100)"; then
+# today's and tomorrow's do, and yesterday's; one that knows of more does not, nor those of the generations before and after
+if ! fits 0x0200 || ! fits "$version" || ! fits "$next" || fits "$(of_version 2)" || fits "$(of_version -0x100)" || fits "$(of_version 0x100)"; then
     echo 'failed: what fits' && exit 1
 fi
 echo 'a longer record: memory that is too short is seen, and so are headers that do not fit'

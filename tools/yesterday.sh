@@ -1,27 +1,49 @@
 #!/usr/bin/env bash
-# yesterday.sh: a library of version 0x0100, whose tables are of the old form, to test moves between the two forms with. It is the library of crates/ with
-# `control` in the place of `whole`, without the moves, and without proofs: target/yesterday/yesterday.o. Its receive and fetch take no counters, as version
-# 0x0100 had them. It is for x86-64 as the proved archive is, and its functions have `yesterday_` before their names, so that one program can have both;
-# tests/c/yesterday.h declares them.
+# yesterday.sh: two libraries of before, to test what becomes of a table when new firmware is loaded under it:
+#   target/yesterday/yesterday.o   of version 0x0100: its tables are of the old form, and its receive and fetch take no counters
+#   target/yesterday/lately.o      of version 0x0200: its tables are of the form of today
+# Neither can ask for a Marker, and their tables end without the octets that tell of one. They are the library of crates/ with `control` or `whole` in the
+# place of `asked`, without the calls that their versions have not, and without proofs. They are for x86-64 as the proved archive is, and their functions
+# have `yesterday_` or `lately_` before their names, so that one program can have all three; tests/c/yesterday.h declares them.
 set -eu
 cd "$(dirname "$0")/.."
-work=$PWD/target/yesterday
+folder=$PWD/target/yesterday
 . tools/x86.sh
-. tools/other-library.sh
+rm -rf "$folder"
 
-# what stands before the moves, which are the last in their files
-before_moves() { sed '/---- moves between the two forms of a table/,$d' "$1"; }
-library=$work/crates/myrkosti/src/lib.rt
-call_it 0x0100
-change myrkosti/src/lib.rt 'whole::table_size(' 'table::layout::table_size('
-before_moves "$library" | sed 's/\<whole::/control::/' > "$work/lib.rt"
+# of the library's source or of its C functions: what stands before the moves, which are the last in their files, and what is no ask
+before_moves() { sed '/---- moves between the two forms of a table/,$d'; }
+without_asks() { sed -e '/^\/\/ Asks for a Marker on a port/,/^}/d' -e '/^define i32 @myrkosti_ask(/,/^}/d'; }
+
+# begin NAME VERSION: a copy of the library, to be changed
+begin() {
+    work=$folder/$1
+    . tools/other-library.sh
+    library=$work/crates/myrkosti/src/lib.rt
+    call_it "$2"
+    change myrkosti/src/lib.rt 'asked::old_table_size(' 'table::layout::table_size('
+}
+
+# finish NAME CRATE: the library of CRATE's calls, with the C functions of the standard input
+finish() {
+    sed -i "s/\<asked::/$2::/" "$library"
+    cat > "$work/exports.ll"
+    tools/bench/native.sh "$work/crates" "$work/native" "$work/exports.ll"
+    local tool=${compiler%gcc}
+    "${tool}nm" --defined-only --extern-only --format=just-symbols "$work/native/x86-64.o" | sed "s/.*/& $1_&/" > "$work/names"
+    "${tool}objcopy" --redefine-syms="$work/names" "$work/native/x86-64.o" "$folder/$1.o"
+}
+
+begin yesterday 0x0100
+change myrkosti/src/lib.rt 'asked::table_size(' 'table::layout::table_size('
+before_moves < "$library" | without_asks > "$work/lib.rt"
 mv "$work/lib.rt" "$library"
-
-# the C functions of version 0x0100: where today's are lent counters, these count in a record of their own that nobody reads
+# where today's functions are lent counters, these count in a record of their own that nobody reads
 own_record='  %counters = alloca [7 x i32]\n  store [7 x i32] zeroinitializer, ptr %counters'
-before_moves tests/bench/exports.ll | sed "s/^\(define .*\), ptr %counters) nounwind {/\1) nounwind {\n$own_record/" > "$work/exports.ll"
-tools/bench/native.sh "$work/crates" "$work/native" "$work/exports.ll"
+before_moves < tests/bench/exports.ll | without_asks | sed "s/^\(define .*\), ptr %counters) nounwind {/\1) nounwind {\n$own_record/" | finish yesterday control
 
-tool=${compiler%gcc}
-"${tool}nm" --defined-only --extern-only --format=just-symbols "$work/native/x86-64.o" | sed 's/.*/& yesterday_&/' > "$work/names"
-"${tool}objcopy" --redefine-syms="$work/names" "$work/native/x86-64.o" "$work/yesterday.o"
+begin lately 0x0200
+change counters/src/lib.rt 'counted_if(as_response(a), self.responses)' 'counted_if(n == 12, self.responses)'
+without_asks < "$library" > "$work/lib.rt"
+mv "$work/lib.rt" "$library"
+without_asks < tests/bench/exports.ll | finish lately whole

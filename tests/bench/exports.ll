@@ -97,6 +97,15 @@ define i32 @myrkosti_due(ptr %table, i64 %length, ptr %ports) nounwind {
   ret i32 %answer
 }
 
+define i32 @myrkosti_ask(ptr %table, i64 %length, i32 %port, i32 %ticks, ptr %out, i64 %out_length) nounwind {
+  %lent = alloca [16 x i8], align 8
+  %lent_out = alloca [16 x i8], align 8
+  call void @lend(ptr %lent, ptr %table, i64 %length)
+  call void @lend(ptr %lent_out, ptr %out, i64 %out_length)
+  %answer = call i32 @"myrkosti::myrkosti_ask"(ptr %lent, i32 %port, i32 %ticks, ptr %lent_out)
+  ret i32 %answer
+}
+
 ; ---- moves between the two forms of a table
 
 define i32 @myrkosti_old_table_size(i32 %ports) nounwind {

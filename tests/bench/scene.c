@@ -7,8 +7,8 @@ static const uint8_t ADDRESS[6] = {0x02, 0x00, 0x5e, 0x10, 0x20, 0x30};
 /* an unheard partner: short timeout, not aggregatable */
 static const uint8_t NOBODY[MYRKOSTI_BLOCK] = {0, 0, 0, 0, 0, 0, 0, 0, 0, 0, 0, 0, 0, 0, MYRKOSTI_TIMEOUT};
 
-/* the state of a port that carries traffic; ticks after which every port does; the last octet of a neighbour's address */
-enum { CARRYING = 0x3f, TICKS = 45, NEIGHBOUR = 50 };
+/* the state of a port that carries traffic; ticks after which every port does; the last octet of a neighbour's address; ticks that a Marker is awaited */
+enum { CARRYING = 0x3f, TICKS = 45, NEIGHBOUR = 50, WAIT = 20 };
 
 /* for calls that make tables and are not measured */
 static struct myrkosti_counters unread;
@@ -129,6 +129,16 @@ static bool make_due(struct scene *scene)
     return all_are(scene->due, scene, 4, first, 1);
 }
 
+/* the Response is the Marker with another type */
+static bool make_awaiting(struct scene *scene)
+{
+    memcpy(scene->awaiting, scene->trunk, scene->size);
+    if (SIDES[0].ask(scene->awaiting, scene->size, 1, WAIT, scene->response, MYRKOSTI_FRAME) != MYRKOSTI_DONE)
+        return false;
+    scene->response[16] = 2;
+    return all_are(scene->awaiting, scene, 4, first, 0);
+}
+
 static bool make_waiting(struct scene *scene)
 {
     uint8_t out[MYRKOSTI_FRAME];
@@ -151,7 +161,7 @@ bool make_scene(struct scene *scene, uint32_t ports)
     scene->size = MYRKOSTI_TABLE(ports);
     write_lacpdu(scene->repeated, 1, NEIGHBOUR, 1);
     write_lacpdu(scene->moving, 1, NEIGHBOUR, 2);
-    return make_trunk(scene) && make_due(scene) && make_waiting(scene) && make_apart(scene);
+    return make_trunk(scene) && make_due(scene) && make_awaiting(scene) && make_waiting(scene) && make_apart(scene);
 }
 
 void restore(const struct call *call, const struct scene *scene, struct area *area)
@@ -172,6 +182,11 @@ static const uint8_t *due(const struct scene *scene)
     return scene->due;
 }
 
+static const uint8_t *awaiting(const struct scene *scene)
+{
+    return scene->awaiting;
+}
+
 static const uint8_t *waiting(const struct scene *scene)
 {
     return scene->waiting;
@@ -190,6 +205,16 @@ static uint32_t repeat(const struct side *side, const struct scene *scene, struc
 static uint32_t move(const struct side *side, const struct scene *scene, struct area *area)
 {
     return side->receive(area->table, scene->size, 1, scene->moving, MYRKOSTI_FRAME, area->out, MYRKOSTI_FRAME, &area->sent, &area->counters);
+}
+
+static uint32_t answer(const struct side *side, const struct scene *scene, struct area *area)
+{
+    return side->receive(area->table, scene->size, 1, scene->response, MYRKOSTI_FRAME, area->out, MYRKOSTI_FRAME, &area->sent, &area->counters);
+}
+
+static uint32_t ask(const struct side *side, const struct scene *scene, struct area *area)
+{
+    return side->ask(area->table, scene->size, scene->ports, WAIT, area->out, MYRKOSTI_FRAME);
 }
 
 static uint32_t tick(const struct side *side, const struct scene *scene, struct area *area)
@@ -241,11 +266,13 @@ static uint32_t begin(const struct side *side, const struct scene *scene, struct
 const struct call CALLS[] = {
     {"receive, repeated", trunk, repeat, MYRKOSTI_DONE},
     {"receive, moves all", trunk, move, MYRKOSTI_DONE},
+    {"receive, Response", awaiting, answer, MYRKOSTI_DONE},
     {"tick", trunk, tick, MYRKOSTI_DONE},
     {"tick, all waiting", waiting, tick, MYRKOSTI_DONE},
     {"tick, all apart", apart, tick, MYRKOSTI_DONE},
     {"fetch", due, fetch, MYRKOSTI_DONE},
     {"fetch, nothing due", trunk, fetch, MYRKOSTI_NOTHING_TO_SEND},
+    {"ask", trunk, ask, MYRKOSTI_DONE},
     {"due", trunk, report_due, MYRKOSTI_DONE},
     {"port report", trunk, report_port, MYRKOSTI_DONE},
     {"aggregator report", trunk, report_aggregator, MYRKOSTI_DONE},

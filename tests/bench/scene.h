@@ -12,10 +12,12 @@ struct scene {
     size_t size;
     uint8_t trunk[MOST];   /* every port distributes in one trunk, and nothing is due */
     uint8_t due[MOST];     /* the same, and the last port has an LACPDU to send */
+    uint8_t awaiting[MOST]; /* the same as the first, and port 1 awaits a Marker's Response */
     uint8_t waiting[MOST]; /* port 1 has just left the trunk: every port waits, port 1 for aggregator 1, the others for aggregator 2 */
     uint8_t apart[MOST];   /* every port has a neighbour of its own and distributes alone, on its own aggregator */
     uint8_t repeated[MYRKOSTI_FRAME]; /* what the partner of port 1 says again and again */
     uint8_t moving[MYRKOSTI_FRAME];   /* the same with another key of the partner */
+    uint8_t response[MYRKOSTI_FRAME]; /* the one that it awaits */
 };
 
 /* What a call writes to. */

@@ -15,6 +15,7 @@ uint32_t model_settings(uint8_t *table, size_t table_len, uint32_t port,
                         const uint8_t address[6], uint16_t key, uint16_t port_priority,
                         bool activity, bool timeout, bool aggregation, const uint8_t partner[MYRKOSTI_BLOCK]);
 uint32_t model_fetch(uint8_t *table, size_t table_len, uint32_t port, uint8_t *out, size_t out_len, struct myrkosti_counters *counters);
+uint32_t model_ask(uint8_t *table, size_t table_len, uint32_t port, uint32_t ticks, uint8_t *out, size_t out_len);
 uint32_t model_port(const uint8_t *table, size_t table_len, uint32_t port, uint8_t *record, size_t record_len);
 uint32_t model_aggregator(const uint8_t *table, size_t table_len, uint32_t aggregator,
                           uint32_t *holding, uint32_t *attached, uint32_t *distributing,
@@ -23,10 +24,10 @@ uint32_t model_due(const uint8_t *table, size_t table_len, uint32_t *ports);
 #endif
 
 const struct side SIDES[] = {
-    {"library", myrkosti_start, myrkosti_receive, myrkosti_tick, myrkosti_line, myrkosti_settings, myrkosti_fetch, myrkosti_port,
-     myrkosti_aggregator, myrkosti_due},
+    {"library", myrkosti_start, myrkosti_receive, myrkosti_tick, myrkosti_line, myrkosti_settings, myrkosti_fetch, myrkosti_ask,
+     myrkosti_port, myrkosti_aggregator, myrkosti_due},
 #ifndef WITHOUT_MODEL
-    {"model", model_start, model_receive, model_tick, model_line, model_settings, model_fetch, model_port, model_aggregator, model_due},
+    {"model", model_start, model_receive, model_tick, model_line, model_settings, model_fetch, model_ask, model_port, model_aggregator, model_due},
 #endif
 };
 const size_t SIDE_COUNT = sizeof SIDES / sizeof SIDES[0];

@@ -19,6 +19,7 @@ struct side {
                          const uint8_t address[6], uint16_t key, uint16_t port_priority,
                          bool activity, bool timeout, bool aggregation, const uint8_t partner[MYRKOSTI_BLOCK]);
     uint32_t (*fetch)(uint8_t *table, size_t table_len, uint32_t port, uint8_t *out, size_t out_len, struct myrkosti_counters *counters);
+    uint32_t (*ask)(uint8_t *table, size_t table_len, uint32_t port, uint32_t ticks, uint8_t *out, size_t out_len);
     uint32_t (*port)(const uint8_t *table, size_t table_len, uint32_t port, uint8_t *record, size_t record_len);
     uint32_t (*aggregator)(const uint8_t *table, size_t table_len, uint32_t aggregator,
                            uint32_t *holding, uint32_t *attached, uint32_t *distributing,

@@ -70,12 +70,13 @@ static void refuse_tables(void)
     memset(table, 0xa5, sizeof table);
     memcpy(before, table, sizeof table);
     IS(myrkosti_table_size(0), 0);
-    IS(myrkosti_table_size(1), 82);
-    IS(myrkosti_table_size(32), 2283);
+    IS(myrkosti_table_size(1), 89);
+    IS(myrkosti_table_size(32), 2507);
     IS(myrkosti_table_size(33), 0);
     IS(start(table, SIZE + 1, PORTS, NOBODY), MYRKOSTI_TABLE_WRONG);
     IS(start(table, SIZE - 1, PORTS, NOBODY), MYRKOSTI_TABLE_WRONG);
     IS(start(table, place(PORTS, 1, FRONT), PORTS, NOBODY), MYRKOSTI_TABLE_WRONG);
+    IS(start(table, place(PORTS, 1, BEHIND), PORTS, NOBODY), MYRKOSTI_TABLE_WRONG);
     IS(start(table, SIZE, 0, NOBODY), MYRKOSTI_TABLE_WRONG);
     IS(start(table, SIZE, PORTS, wrong), MYRKOSTI_DEFAULT_WRONG);
     IS(myrkosti_tick(table, SIZE), MYRKOSTI_TABLE_WRONG);
@@ -83,6 +84,7 @@ static void refuse_tables(void)
     IS(settings(table, 1, 1, NOBODY), MYRKOSTI_TABLE_WRONG);
     IS(myrkosti_fetch(table, SIZE, 1, out, sizeof out, &unread), MYRKOSTI_TABLE_WRONG);
     IS(myrkosti_receive(table, SIZE, 1, out, 0, out, sizeof out, &sent, &unread), MYRKOSTI_TABLE_WRONG);
+    IS(myrkosti_ask(table, SIZE, 1, 1, out, sizeof out), MYRKOSTI_TABLE_WRONG);
     IS(sent, 0);
     IS(myrkosti_port(table, 0, 1, record, sizeof record), MYRKOSTI_TABLE_WRONG);
     memset(record, 0xff, sizeof record);
@@ -114,6 +116,10 @@ static void refuse_arguments(uint8_t *table)
     IS(myrkosti_port(table, SIZE, 0, record, sizeof record), MYRKOSTI_NO_SUCH_PORT);
     IS(myrkosti_aggregator(table, SIZE, 3, &a, &b, &c, &d, &e), MYRKOSTI_NO_SUCH_PORT);
     IS(myrkosti_fetch(table, SIZE, 1, out, 123, &unread), MYRKOSTI_BUFFER_SHORT);
+    IS(myrkosti_ask(table, SIZE, 0, 1, out, sizeof out), MYRKOSTI_NO_SUCH_PORT);
+    IS(myrkosti_ask(table, SIZE, 1, 1, out, 123), MYRKOSTI_BUFFER_SHORT);
+    IS(myrkosti_ask(table, SIZE, 1, 601, out, sizeof out), MYRKOSTI_DEFAULT_WRONG);
+    IS(myrkosti_ask(table, SIZE, 1, 600, out, sizeof out), MYRKOSTI_NOT_DISTRIBUTING);
     IS(myrkosti_receive(table, SIZE, 1, frame, 5, out, 123, &sent, &unread), MYRKOSTI_BUFFER_SHORT);
     IS(myrkosti_receive(table, SIZE, 1, frame, 13, out, sizeof out, &sent, &unread), MYRKOSTI_FOREIGN);
     IS(myrkosti_receive(table, SIZE, 1, frame, 123, out, sizeof out, &sent, &unread), MYRKOSTI_ILLEGAL);
@@ -481,6 +487,8 @@ static void refuse_to_say_what_is_due(void)
     refuse_due(table, MYRKOSTI_TABLE(1));
     refuse_due(table, place(PORTS, 1, FRONT));
     refuse_due(table, place(PORTS, 2, FRONT));
+    refuse_due(table, place(PORTS, 1, BEHIND));
+    refuse_due(table, place(PORTS, 2, BEHIND));
     refuse_due(table, SIZE - 1);
     refuse_due(table, SIZE + 1);
     for (unsigned count = 0; count < 256; count++) {
@@ -594,8 +602,14 @@ static void lend_any_length(void)
     uint8_t table[SIZE], broken[SIZE], first[MYRKOSTI_RECORD], second[MYRKOSTI_RECORD];
     arrive(table, LINES[0]);
     for (size_t at = MYRKOSTI_AT_ACTOR_CHURN_COUNT; at < MYRKOSTI_RECORD; at++) {
-        table[place(PORTS, 1, at)] = (uint8_t)(0x10 + at); /* so that no two ports and no two octets of a count are alike */
-        table[place(PORTS, 2, at)] = (uint8_t)(0x80 + at);
+        if (at < MYRKOSTI_AT_MARKER || at >= MYRKOSTI_AT_MARKER_NUMBER) {
+            table[place(PORTS, 1, at)] = (uint8_t)(0x10 + at); /* so that no two ports and no two octets of a number are alike */
+            table[place(PORTS, 2, at)] = (uint8_t)(0x80 + at);
+        }
+    }
+    for (uint32_t port = 1; port <= PORTS; port++) {
+        table[place(PORTS, port, MYRKOSTI_AT_MARKER)] = (uint8_t)(MYRKOSTI_MARKER_AWAITING + port);
+        myrkosti_put_number(table + place(PORTS, port, MYRKOSTI_AT_MARKER_TIMER), (uint16_t)(0x0120 + port));
     }
     gather(table, PORTS, 1, first);
     gather(table, PORTS, 2, second);

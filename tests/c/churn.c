@@ -506,14 +506,14 @@ static void range(void)
     }
 }
 
-/* tables of every port count have room for their groups and no more; each port's record is reported from its two places, and changes there */
+/* tables of every port count have room for their groups and no more; each port's record is reported from its places, and changes there */
 static void lie_in_two_places(void)
 {
     static uint8_t large[LARGEST + 1];
     const struct myrkosti_system system = us();
     const struct myrkosti_port_settings settings = myrkosti_usual_settings(ADDRESS, 1);
     for (uint32_t ports = 1; ports <= MYRKOSTI_PORTS; ports++) {
-        const size_t size = MYRKOSTI_HEADER + 57 * ports + 14 * ports;
+        const size_t size = MYRKOSTI_HEADER + 57 * ports + 14 * ports + 7 * ports;
         IS(myrkosti_table_size(ports), size);
         IS(myrkosti_start_with(large, size - 1, ports, &system, &settings), MYRKOSTI_TABLE_WRONG);
         IS(myrkosti_start_with(large, size + 1, ports, &system, &settings), MYRKOSTI_TABLE_WRONG);
@@ -521,6 +521,7 @@ static void lie_in_two_places(void)
         for (uint32_t port = 1; port <= ports; port++) {
             IS(place(ports, port, 0), MYRKOSTI_HEADER + 57 * (port - 1));
             IS(place(ports, port, 57), MYRKOSTI_HEADER + 57 * ports + 14 * (port - 1));
+            IS(place(ports, port, 71), MYRKOSTI_HEADER + 57 * ports + 14 * ports + 7 * (port - 1));
             put_monitor(large, ports, port, ACTOR, (struct monitor){MYRKOSTI_NO_CHURN, (uint16_t)(256 + port), 0x11000000 + port});
             put_monitor(large, ports, port, PARTNER, (struct monitor){MYRKOSTI_CHURN, (uint16_t)(port), 0x22000000 + port});
         }

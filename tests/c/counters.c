@@ -42,7 +42,7 @@ static struct myrkosti_counters counters_of(const struct numbers *numbers)
     return counters;
 }
 
-/* ---- three ports: one that distributes, one at half duplex that waits, one without a link ---- */
+/* ---- three ports: one that distributes and awaits a Marker's Response, one at half duplex that waits, one without a link ---- */
 
 enum { CARRIES = 1, HALVED = 2, DOWN = 3 };
 
@@ -69,6 +69,13 @@ static void start(uint8_t *table)
     IS(myrkosti_start_with(table, SIZE, PORTS, &system, &settings), MYRKOSTI_DONE);
 }
 
+/* asks for a Marker; a port that awaits one, or does not distribute, goes on without another */
+static uint32_t ask(uint8_t *table, uint32_t port)
+{
+    uint8_t marker[MYRKOSTI_FRAME];
+    return myrkosti_ask(table, SIZE, port, 1 + any(MYRKOSTI_LONGEST_WAIT), marker, sizeof marker);
+}
+
 static void three_ports(uint8_t *table)
 {
     start(table);
@@ -77,20 +84,29 @@ static void three_ports(uint8_t *table)
         IS(myrkosti_tick(table, SIZE), MYRKOSTI_DONE);
     IS(table[place(PORTS, CARRIES, MYRKOSTI_AT_MUX)], MYRKOSTI_MUX_DISTRIBUTING);
     IS(table[place(PORTS, CARRIES, MYRKOSTI_AT_NTT)], 1);
+    IS(ask(table, CARRIES), MYRKOSTI_DONE);
     IS(myrkosti_line(table, SIZE, HALVED, true, false), MYRKOSTI_DONE);
     IS(table[place(PORTS, HALVED, MYRKOSTI_AT_MUX)], MYRKOSTI_MUX_WAITING);
 }
 
 /* ---- every answer ---- */
 
-enum kind { LACPDU, MARKER, RESPONSE };
+enum kind { LACPDU, MARKER, RESPONSE, AWAITED };
 
-/* the neighbour says that it is in sync and collects, and not aggregatable, so that it need not name us */
-static void put_kind(uint8_t frame[MYRKOSTI_FRAME], enum kind kind)
+/* the transaction of the last Marker that a port asked for */
+static uint32_t last_asked(const uint8_t *table, uint32_t port)
+{
+    return port >= 1 && port <= PORTS ? myrkosti_long_number(table + place(PORTS, port, MYRKOSTI_AT_MARKER_NUMBER)) - 1 : 0;
+}
+
+/* the neighbour says that it is in sync and collects, and not aggregatable, so that it need not name us; a Response brings back what a port asked for, or not */
+static void put_kind(uint8_t frame[MYRKOSTI_FRAME], enum kind kind, const uint8_t *table, uint32_t port)
 {
     static const uint8_t NEIGHBOUR[MYRKOSTI_BLOCK] = {0, 1, 0, 0, 0, 0, 0, 5, 0, 1, 0, 1, 0, 1, 0x3b};
     if (kind == LACPDU)
         put_lacpdu(frame, NEIGHBOUR, NEIGHBOUR);
+    else if (kind == AWAITED)
+        put_response(frame, (uint16_t)port, ADDRESS, last_asked(table, port));
     else
         put_marker(frame, kind == MARKER ? 1 : 2);
 }
@@ -119,6 +135,11 @@ static const struct heard HEARD[] = {
     {"a Marker without a link", MARKER, AS_IT_IS, WHOLE, ON(DOWN), MYRKOSTI_NOT_COLLECTING, OF(MARKERS)},
     {"a Response", RESPONSE, AS_IT_IS, WHOLE, ON(CARRIES), MYRKOSTI_RESPONSE, OF(RESPONSES)},
     {"a Response without a link", RESPONSE, AS_IT_IS, WHOLE, ON(DOWN), MYRKOSTI_RESPONSE, OF(RESPONSES)},
+    {"the Response that is awaited", AWAITED, AS_IT_IS, WHOLE, ON(CARRIES), MYRKOSTI_DONE, OF(RESPONSES)},
+    {"the Response that is awaited, but for its port", AWAITED, 18, 1, WHOLE, ON(CARRIES), MYRKOSTI_RESPONSE, OF(RESPONSES)},
+    {"a Response where none is awaited", AWAITED, AS_IT_IS, WHOLE, ON(HALVED), MYRKOSTI_RESPONSE, OF(RESPONSES)},
+    {"the Response that is awaited, of 123 octets", AWAITED, AS_IT_IS, WHOLE - 1, ON(CARRIES), MYRKOSTI_ILLEGAL, OF(ILLEGAL)},
+    {"the Response that is awaited, with a short buffer", AWAITED, AS_IT_IS, WHOLE, CARRIES, SIZE, WHOLE - 1, MYRKOSTI_BUFFER_SHORT, NONE},
     {"another type", LACPDU, TYPE_AT + 1, 0x08, WHOLE, ON(CARRIES), MYRKOSTI_UNKNOWN, OF(UNKNOWN)},
     {"another type, and short", LACPDU, TYPE_AT, 0x81, 14, ON(CARRIES), MYRKOSTI_UNKNOWN, OF(UNKNOWN)},
     {"subtype 3", LACPDU, SUBTYPE_AT, 3, WHOLE, ON(CARRIES), MYRKOSTI_UNKNOWN, OF(UNKNOWN)},
@@ -166,7 +187,7 @@ enum { MOST_BEFORE = 3 };
 
 /* what is lent to a call, with numbers on both sides of the counters that it must not touch */
 struct lent {
-    uint8_t table[SIZE], out[WHOLE];
+    uint8_t table[SIZE], frame[WHOLE], out[WHOLE];
     uint32_t ahead;
     struct myrkosti_counters counters;
     uint32_t behind, sent;
@@ -174,11 +195,10 @@ struct lent {
 
 static uint32_t hear(const struct heard *heard, struct lent *lent, struct myrkosti_counters *counters)
 {
-    uint8_t frame[MYRKOSTI_FRAME];
-    put_kind(frame, heard->kind);
+    put_kind(lent->frame, heard->kind, lent->table, heard->port);
     if (heard->at != 0)
-        frame[heard->at] = heard->octet;
-    return myrkosti_receive(lent->table, heard->table_len, heard->port, frame, heard->length, lent->out, heard->out_len, &lent->sent, counters);
+        lent->frame[heard->at] = heard->octet;
+    return myrkosti_receive(lent->table, heard->table_len, heard->port, lent->frame, heard->length, lent->out, heard->out_len, &lent->sent, counters);
 }
 
 static uint32_t fetch(const struct fetched *fetched, struct lent *lent, struct myrkosti_counters *counters)
@@ -267,7 +287,7 @@ static void every_answer_from_any_numbers(void)
 /* what there was to count on a port, by the answers */
 struct tally {
     uint32_t of_answer[MYRKOSTI_RESPONSE + 1]; /* to receives */
-    uint32_t markers_answered, fetched;
+    uint32_t markers_answered, responses_taken, fetched;
 };
 
 /* one of the frames above on any port, mostly as it is and otherwise with any octet behind the addresses changed */
@@ -282,6 +302,7 @@ static void receive_any(struct lent *lent, uint32_t port, struct myrkosti_counte
     const uint32_t answer = hear(&heard, lent, counters);
     tally->of_answer[answer]++;
     tally->markers_answered += lent->sent != 0;
+    tally->responses_taken += answer == MYRKOSTI_DONE && lent->sent == 0 && lent->frame[SUBTYPE_AT] == 2;
 }
 
 static void fetch_any(struct lent *lent, uint32_t port, struct myrkosti_counters *counters, struct tally *tally)
@@ -291,7 +312,7 @@ static void fetch_any(struct lent *lent, uint32_t port, struct myrkosti_counters
     tally->fetched += fetch(&fetched, lent, counters) == MYRKOSTI_DONE;
 }
 
-/* a call that is lent no counters, mostly a tick */
+/* a call that is lent no counters, mostly a tick, often an ask */
 static void call_any(uint8_t *table)
 {
     const uint32_t port = 1 + any(PORTS), kind = any(200);
@@ -301,6 +322,8 @@ static void call_any(uint8_t *table)
         set_key(table, port, (uint16_t)(1 + any(3)));
     else if (kind < 10)
         IS(myrkosti_line(table, SIZE, port, any(4) != 0, any(4) != 0), MYRKOSTI_DONE);
+    else if (kind < 60)
+        ask(table, port);
     else
         IS(myrkosti_tick(table, SIZE), MYRKOSTI_DONE);
 }
@@ -314,9 +337,9 @@ static void adds_up(struct numbers before, struct numbers after, const struct ta
         rise.of[i] = after.of[i] - before.of[i];
     IS(rise.of[LACPDUS] + rise.of[MARKERS] + rise.of[RESPONSES] + rise.of[UNKNOWN] + rise.of[ILLEGAL],
        answered[0] + answered[5] + answered[7] + answered[8] + answered[9] + answered[12]);
-    IS(rise.of[LACPDUS], answered[MYRKOSTI_DONE] - tally->markers_answered + answered[MYRKOSTI_LACP_OFF]);
+    IS(rise.of[LACPDUS], answered[MYRKOSTI_DONE] - tally->markers_answered - tally->responses_taken + answered[MYRKOSTI_LACP_OFF]);
     IS(rise.of[MARKERS], tally->markers_answered + answered[MYRKOSTI_NOT_COLLECTING]);
-    IS(rise.of[RESPONSES], answered[MYRKOSTI_RESPONSE]);
+    IS(rise.of[RESPONSES], tally->responses_taken + answered[MYRKOSTI_RESPONSE]);
     IS(rise.of[UNKNOWN], answered[MYRKOSTI_UNKNOWN]);
     IS(rise.of[ILLEGAL], answered[MYRKOSTI_ILLEGAL]);
     IS(rise.of[LACPDUS_SENT], tally->fetched);
@@ -333,7 +356,7 @@ static void run(const struct numbers *numbers)
     start(lent.table);
     for (uint32_t port = 0; port <= PORTS + 1; port++)
         counters[port] = counters_of(numbers);
-    for (int calls = 0; calls < 20000; calls++) {
+    for (int calls = 0; calls < 40000; calls++) {
         const uint32_t port = any(PORTS + 2), kind = any(3);
         if (kind == 0)
             receive_any(&lent, port, &counters[port], &tallies[port]);
@@ -344,8 +367,8 @@ static void run(const struct numbers *numbers)
     }
     for (uint32_t port = 0; port <= PORTS + 1; port++) {
         adds_up(*numbers, numbers_of(&counters[port]), &tallies[port]);
-        check(port % (PORTS + 1) == 0 || (tallies[port].markers_answered > 10 && tallies[port].fetched > 10 && tallies[port].of_answer[MYRKOSTI_LACP_OFF] > 10 &&
-                                          tallies[port].of_answer[MYRKOSTI_NOT_COLLECTING] > 10),
+        check(port % (PORTS + 1) == 0 || (tallies[port].markers_answered > 10 && tallies[port].responses_taken > 10 && tallies[port].fetched > 10 &&
+                                          tallies[port].of_answer[MYRKOSTI_LACP_OFF] > 10 && tallies[port].of_answer[MYRKOSTI_NOT_COLLECTING] > 10),
               "a port heard and sent something of each kind");
     }
 }

@@ -1,6 +1,6 @@
 /*
- * What docs/GUIDE-FIRMWARE.md says of the choices of a driver, and docs/GUIDE-SUPPORT.md of links that never settle and of counters, each shown by a run:
- * two switches A and B, whose ports are joined, port i to port i. Prints one line for each check that fails, and how many passed.
+ * What docs/GUIDE-FIRMWARE.md says of the choices of a driver, and docs/GUIDE-SUPPORT.md of links that never settle, of counters and of Markers, each shown
+ * by a run: two switches A and B, whose ports are joined, port i to port i. Prints one line for each check that fails, and how many passed.
  */
 #define _DEFAULT_SOURCE
 
@@ -793,6 +793,212 @@ static void no_pages(void)
     one_for_all = false;
 }
 
+/* ---- a conversation moves to another link ---- */
+
+enum { SLOW_LINK = 1, QUICK_LINK = 2, MOST_UNDER_WAY = 64 };
+
+/* ticks that a frame is under way on a link, either way; on the first, frames wait in a queue */
+static const int UNDER_WAY[PORTS + 1] = {0, 8, 1};
+
+/* frames of a conversation are numbered; a Marker or its Response is a frame of the library's */
+struct parcel {
+    int arrives;
+    uint32_t port;
+    bool ours; /* from A to B */
+    int number;
+    uint8_t frame[MYRKOSTI_FRAME];
+};
+
+static struct parcel parcels[MOST_UNDER_WAY];
+static size_t under_way;
+static int now, last_number;
+static bool in_order;
+
+static void post(uint32_t port, bool ours, int number, const uint8_t *frame)
+{
+    struct parcel *parcel = &parcels[under_way++];
+    *parcel = (struct parcel){.arrives = now + UNDER_WAY[port], .port = port, .ours = ours, .number = number};
+    if (frame != NULL)
+        memcpy(parcel->frame, frame, MYRKOSTI_FRAME);
+}
+
+/* a frame of the conversation arrives, or a Marker, which B answers, or a Response, which A is handed */
+static void arrive(const struct parcel *parcel)
+{
+    uint8_t out[MYRKOSTI_FRAME];
+    uint32_t sent;
+    uint8_t *const to = parcel->ours ? B : A;
+    if (parcel->number != 0) {
+        in_order &= parcel->number > last_number;
+        last_number = parcel->number;
+        return;
+    }
+    myrkosti_receive(to, SIZE, parcel->port, parcel->frame, MYRKOSTI_FRAME, out, sizeof out, &sent, page(to, parcel->port));
+    if (sent != 0)
+        post(parcel->port, false, 0, out);
+}
+
+static void let_arrive(void)
+{
+    for (size_t i = 0; i < under_way; i++) {
+        const struct parcel parcel = parcels[i];
+        if (parcel.arrives == now) {
+            memmove(&parcels[i], &parcels[i + 1], (--under_way - i) * sizeof parcels[0]);
+            i--;
+            arrive(&parcel);
+        }
+    }
+}
+
+/* what came of the Marker that was asked for last on a port of A */
+static uint8_t outcome(uint32_t port)
+{
+    return field(A, port, MYRKOSTI_AT_MARKER);
+}
+
+/* how a conversation is moved */
+struct way {
+    uint32_t wait; /* ticks that its Marker is awaited; 0: it is moved without one */
+    bool lost;     /* the Marker gets lost on its way */
+    int falls;     /* the slow link falls so many ticks after the ask; 0: it does not */
+};
+
+static const struct way AT_ONCE = {0, false, 0}, BY_MARKER = {30, false, 0}, LOST_MARKER = {30, true, 0}, LOST_AND_IMPATIENT = {5, true, 0},
+                        LINK_FALLS = {30, true, 3};
+
+/* a Marker for the slow link, sent behind the last frame of the conversation */
+static void drain(const struct way *way)
+{
+    uint8_t marker[MYRKOSTI_FRAME];
+    IS(myrkosti_ask(A, SIZE, SLOW_LINK, way->wait, marker, sizeof marker), MYRKOSTI_DONE);
+    if (!way->lost)
+        post(SLOW_LINK, true, 0, marker);
+}
+
+/* the links fall silent, and what is under way there is gone */
+static void fall(uint32_t port)
+{
+    IS(line(A, port, false), MYRKOSTI_DONE);
+    IS(line(B, port, false), MYRKOSTI_DONE);
+    for (size_t i = 0; i < under_way; i++)
+        if (parcels[i].port == port)
+            parcels[i].arrives = -1;
+}
+
+/*
+ * A conversation of a frame a tick goes over the slow link, and from tick 20 on is moved to the quick one: its frames are held back until the Marker has
+ * ended. The tick at which it goes on there.
+ */
+static int move_conversation(const struct way *way)
+{
+    int asked = 20, moved = 0;
+    trunk_of_two();
+    under_way = 0;
+    last_number = 0;
+    in_order = true;
+    for (now = 1; now <= 100; now++) {
+        if (now < asked)
+            post(SLOW_LINK, true, now, NULL);
+        if (now == asked && way->wait != 0)
+            drain(way);
+        if (way->falls != 0 && now == asked + way->falls)
+            fall(SLOW_LINK);
+        let_arrive();
+        if (now >= asked && moved == 0 && (way->wait == 0 || outcome(SLOW_LINK) != MYRKOSTI_MARKER_AWAITING))
+            moved = now;
+        if (moved != 0)
+            post(QUICK_LINK, true, now, NULL);
+        pass(1);
+    }
+    return moved;
+}
+
+/* moved at once, the conversation overtakes itself; behind a Marker it does not, and goes on as soon as the Response is there */
+static void keeps_the_order(void)
+{
+    IS(move_conversation(&AT_ONCE), 20);
+    IS(in_order, false);
+    IS(move_conversation(&BY_MARKER), 20 + 8 + 8);
+    IS(in_order, true);
+    IS(outcome(SLOW_LINK), MYRKOSTI_MARKER_ANSWERED);
+}
+
+/* without a Response it goes on when the time is over, in order if that is longer than anything is under way */
+static void goes_on_without_a_response(void)
+{
+    IS(move_conversation(&LOST_MARKER), 20 + 30);
+    IS(in_order, true);
+    IS(outcome(SLOW_LINK), MYRKOSTI_MARKER_TIMED_OUT);
+    IS(move_conversation(&LOST_AND_IMPATIENT), 20 + 5);
+    IS(in_order, false);
+}
+
+/* the link falls: nothing more arrives from it, and the conversation goes on at once */
+static void goes_on_when_the_link_falls(void)
+{
+    IS(move_conversation(&LINK_FALLS), 20 + 3);
+    IS(in_order, true);
+    IS(outcome(SLOW_LINK), MYRKOSTI_MARKER_CANCELLED);
+}
+
+/* the Marker of a port of A goes to B and is answered at once; the answer to the ask */
+static uint32_t ask_and_hear(uint32_t port)
+{
+    uint8_t marker[MYRKOSTI_FRAME], response[MYRKOSTI_FRAME], out[MYRKOSTI_FRAME];
+    uint32_t sent;
+    const uint32_t answer = myrkosti_ask(A, SIZE, port, 10, marker, sizeof marker);
+    if (answer == MYRKOSTI_DONE) {
+        IS(myrkosti_receive(B, SIZE, port, marker, sizeof marker, response, sizeof response, &sent, page(B, port)), MYRKOSTI_DONE);
+        IS(myrkosti_receive(A, SIZE, port, response, sizeof response, out, sizeof out, &sent, page(A, port)), MYRKOSTI_DONE);
+    }
+    return answer;
+}
+
+enum { PAUSE = 3, TURNS_A_TICK = 10 };
+
+/* nothing but the asker limits its Markers: a hundred in a tick are answered. With so many ticks between two of a port, six take more than a second */
+static void asks_no_more_often(void)
+{
+    int pause = 0, asked_at[100], asks = 0;
+    trunk_of_two();
+    for (int i = 0; i < 100; i++)
+        IS(ask_and_hear(1), MYRKOSTI_DONE);
+    trunk_of_two();
+    for (int turn = 0; asks < 100; turn++) {
+        if (turn % TURNS_A_TICK == 0) {
+            pass(1);
+            pause -= pause > 0;
+        }
+        if (pause == 0 && turn % 7 == 3) { /* at any moment between two ticks */
+            IS(ask_and_hear(1), MYRKOSTI_DONE);
+            pause = PAUSE;
+            asked_at[asks++] = turn;
+        }
+    }
+    for (int i = 5; i < asks; i++)
+        check(asked_at[i] - asked_at[i - 5] > 10 * TURNS_A_TICK, "six Markers take more than a second");
+}
+
+/* a frame that is kept for later is sent while it is awaited; after its time its Response comes too late, and the next Marker has another number */
+static void marker_kept_too_long(void)
+{
+    uint8_t marker[MYRKOSTI_FRAME], response[MYRKOSTI_FRAME], out[MYRKOSTI_FRAME];
+    uint32_t sent;
+    trunk_of_two();
+    IS(myrkosti_ask(A, SIZE, 1, 5, marker, sizeof marker), MYRKOSTI_DONE);
+    IS(myrkosti_ask(A, SIZE, 1, 5, response, sizeof response), MYRKOSTI_ALREADY_AWAITING);
+    pass(5);
+    IS(myrkosti_receive(B, SIZE, 1, marker, sizeof marker, response, sizeof response, &sent, page(B, 1)), MYRKOSTI_DONE);
+    IS(myrkosti_receive(A, SIZE, 1, response, sizeof response, out, sizeof out, &sent, page(A, 1)), MYRKOSTI_RESPONSE);
+    IS(outcome(1), MYRKOSTI_MARKER_TIMED_OUT);
+    IS(page(A, 1)->marker_responses_received, 1);
+    IS(ask_and_hear(1), MYRKOSTI_DONE);
+    IS(outcome(1), MYRKOSTI_MARKER_ANSWERED);
+    IS(page(A, 1)->marker_responses_received, 2);
+    pass(MINUTE);
+    IS(outcome(1), MYRKOSTI_MARKER_ANSWERED); /* until the next ask */
+}
+
 /* ---- the end, and going on ---- */
 
 /* the ticks after which B has stopped sending to A, which ends with a word or without */
@@ -894,7 +1100,8 @@ static void killed(void)
 
 /* ---- new firmware under live trunks ---- */
 
-enum { OLD_SIZE = MYRKOSTI_OLD_TABLE(PORTS) };
+/* of a table of either form: its size, and what lies before the churn fields or in their place */
+enum { OLD_SIZE = MYRKOSTI_OLD_TABLE(PORTS), FRONT_SIZE = OLD_SIZE - PORTS * MYRKOSTI_ASKED };
 
 /*
  * So many ticks after a trunk formed, A's table is moved back; A says and does nothing for a while, and goes on with the table moved forward. The first
@@ -968,7 +1175,8 @@ static void one_memory(void)
     IS(forward_in_place(A, 0), MYRKOSTI_TABLE_WRONG);
     IS(memcmp(A, before, SIZE), 0);
     IS(forward_in_place(A, PORTS), MYRKOSTI_DONE);
-    IS(memcmp(A, before, OLD_SIZE), 0);
+    IS(memcmp(A, before, FRONT_SIZE), 0);
+    IS(memcmp(A + SIZE - PORTS * MYRKOSTI_ASKED, before + FRONT_SIZE, PORTS * MYRKOSTI_ASKED), 0);
     pass(60);
     IS(carrying(A), 3);
     IS(carrying(B), 3);
@@ -1003,6 +1211,71 @@ static void kept_for_too_long(void)
     check(sends + sends_at_once() > 3, "with a table kept from before more go");
 }
 
+/* A table that a library before version 0x0201 left, in memory with room for one of today: put behind it what such a library has not. */
+static uint32_t take_over(uint8_t *table, size_t left_len)
+{
+    const uint32_t ports = table[0];
+    const size_t missing = MYRKOSTI_ASKED * ports;
+    uint8_t record[MYRKOSTI_RECORD];
+    if (left_len + missing != myrkosti_table_size(ports) && left_len + missing != myrkosti_old_table_size(ports))
+        return MYRKOSTI_TABLE_WRONG;
+    memset(table + left_len, 0, missing);
+    if (left_len + missing == myrkosti_old_table_size(ports))
+        return forward_in_place(table, ports);
+    return myrkosti_port(table, myrkosti_table_size(ports), 1, record, sizeof record);
+}
+
+/* and the other way round, before such a library goes on: 0x0100 has tables of the old form */
+static uint32_t hand_back(uint8_t *table, uint32_t version, size_t *left_len)
+{
+    const uint32_t ports = table[0], answer = version == 0x0100 ? back_in_place(table, ports) : MYRKOSTI_DONE;
+    *left_len = (version == 0x0100 ? myrkosti_old_table_size(ports) : myrkosti_table_size(ports)) - MYRKOSTI_ASKED * ports;
+    return answer;
+}
+
+/* a table of either library of before, under a trunk, and back to it with what it had; other lengths are refused and nothing is written */
+static void firmware_from_before(void)
+{
+    static const uint32_t VERSIONS[2] = {0x0100, 0x0200};
+    for (size_t i = 0; i < 2; i++) {
+        uint8_t left[SIZE];
+        size_t left_len;
+        trunk_of_two();
+        IS(ask_and_hear(1), MYRKOSTI_DONE);
+        IS(hand_back(A, VERSIONS[i], &left_len), MYRKOSTI_DONE);
+        IS(left_len, (size_t)(MYRKOSTI_HEADER + (i == 0 ? 57 : 71) * PORTS));
+        memset(A + left_len, 0xa5, SIZE - left_len);
+        memcpy(left, A, SIZE);
+        IS(take_over(A, left_len - 1), MYRKOSTI_TABLE_WRONG);
+        IS(take_over(A, left_len + 1), MYRKOSTI_TABLE_WRONG);
+        IS(take_over(A, SIZE), MYRKOSTI_TABLE_WRONG);
+        IS(memcmp(A, left, SIZE), 0);
+        IS(take_over(A, left_len), MYRKOSTI_DONE);
+        IS(memcmp(A, left, FRONT_SIZE), 0);
+        IS(outcome(1), MYRKOSTI_MARKER_NONE);
+        pass(60);
+        IS(carrying(A), 3);
+        IS(carrying(B), 3);
+        IS(ask_and_hear(1), MYRKOSTI_DONE);
+        IS(hand_back(A, VERSIONS[i], &left_len), MYRKOSTI_DONE);
+    }
+}
+
+/* a Marker that is awaited when the table is moved is awaited on: its Response counts afterwards */
+static void awaited_through_a_move(void)
+{
+    uint8_t marker[MYRKOSTI_FRAME], response[MYRKOSTI_FRAME], out[MYRKOSTI_FRAME];
+    uint32_t sent;
+    trunk_of_two();
+    IS(myrkosti_ask(A, SIZE, 1, 30, marker, sizeof marker), MYRKOSTI_DONE);
+    IS(myrkosti_receive(B, SIZE, 1, marker, sizeof marker, response, sizeof response, &sent, page(B, 1)), MYRKOSTI_DONE);
+    IS(back_in_place(A, PORTS), MYRKOSTI_DONE);
+    IS(forward_in_place(A, PORTS), MYRKOSTI_DONE);
+    pass(1);
+    IS(myrkosti_receive(A, SIZE, 1, response, sizeof response, out, sizeof out, &sent, page(A, 1)), MYRKOSTI_DONE);
+    IS(outcome(1), MYRKOSTI_MARKER_ANSWERED);
+}
+
 int main(void)
 {
     keep_what_could_not_be_sent();
@@ -1028,10 +1301,17 @@ int main(void)
     publish_differences();
     pages_outlive();
     no_pages();
+    keeps_the_order();
+    goes_on_without_a_response();
+    goes_on_when_the_link_falls();
+    asks_no_more_often();
+    marker_kept_too_long();
     leave();
     load_in_time();
     one_memory();
     kept_for_too_long();
+    firmware_from_before();
+    awaited_through_a_move();
     killed();
     return finish("what the guide says");
 }

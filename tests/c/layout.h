@@ -1,4 +1,4 @@
-/* Where the octets of a port's record lie in the memory of a table: in two places (docs/TABLE.md). */
+/* Where the octets of a port's record lie in the memory of a table: in three places, and in two of the old form (docs/TABLE.md). */
 #ifndef LAYOUT_H
 #define LAYOUT_H
 
@@ -6,13 +6,30 @@
 
 enum {
     FRONT = MYRKOSTI_AT_ACTOR_CHURN, /* octets of a record that lie port by port behind the header */
-    GROUP = MYRKOSTI_RECORD - FRONT  /* and behind all of these */
+    BEHIND = MYRKOSTI_AT_MARKER,     /* the first of those that lie behind everything else, MYRKOSTI_ASKED of each port */
+    GROUP = BEHIND - FRONT           /* octets between, which the old form has not */
 };
+
+/* the octets of a table of `ports` ports that tell of no Marker, with churn fields or without */
+static inline size_t front_size(uint32_t ports, bool churn)
+{
+    return MYRKOSTI_HEADER + (churn ? BEHIND : FRONT) * ports;
+}
 
 /* the place of octet `at` of the record of `port`, from 1, in a table of `ports` ports */
 static inline size_t place(uint32_t ports, uint32_t port, size_t at)
 {
-    return at < FRONT ? MYRKOSTI_HEADER + FRONT * (port - 1) + at : MYRKOSTI_HEADER + FRONT * ports + GROUP * (port - 1) + (at - FRONT);
+    if (at < FRONT)
+        return MYRKOSTI_HEADER + FRONT * (port - 1) + at;
+    if (at < BEHIND)
+        return front_size(ports, false) + GROUP * (port - 1) + (at - FRONT);
+    return front_size(ports, true) + MYRKOSTI_ASKED * (port - 1) + (at - BEHIND);
+}
+
+/* the same in a table of the old form, for an octet that it has */
+static inline size_t old_place(uint32_t ports, uint32_t port, size_t at)
+{
+    return at < FRONT ? place(ports, port, at) : front_size(ports, false) + MYRKOSTI_ASKED * (port - 1) + (at - BEHIND);
 }
 
 /* the record as it lies there */

@@ -1,6 +1,7 @@
 /*
- * A program of this header with a library whose record is longer than the header knows (tools/longer-record.sh). All memory that it lends is from the
- * heap and just as long as it says, so that a checker of memory sees an octet that is touched beyond it; counters too. With the word `short` it lends
+ * A program of a header with a library whose record is longer than the header knows (tools/longer-record.sh): of this header with a library of tomorrow, and
+ * of one of version 0x0200 with that of today. By how many octets is LONGER, and what they hold after a start is APPENDED. All memory that it lends is from
+ * the heap and just as long as it says, so that a checker of memory sees an octet that is touched beyond it; counters too. With the word `short` it lends
  * less than it says for a record, which the checker must see.
  */
 #include "myrkosti.h"
@@ -20,11 +21,14 @@ static size_t size, longer; /* the octets of the library's table and record */
 static uint8_t *table;
 static struct myrkosti_counters *counters; /* of port 2 */
 
-/* an octet of a record of the library's, where it lies: what this header calls the group is longer there */
+/* octets of a record that lie by themselves: port by port, behind these the churn fields, and behind everything else the others, more than the header knows */
+enum { FRONT = MYRKOSTI_AT_ACTOR_CHURN, BEHIND = MYRKOSTI_AT_PARTNER_CHURN_COUNT + 4 };
+
+/* an octet of a record of the library's, where it lies */
 static uint8_t lies(uint32_t port, size_t at)
 {
-    const size_t front = MYRKOSTI_AT_ACTOR_CHURN, behind = MYRKOSTI_HEADER + front * PORTS;
-    return table[at < front ? MYRKOSTI_HEADER + front * (port - 1) + at : behind + (longer - front) * (port - 1) + at - front];
+    const size_t from = at < FRONT ? 0 : at < BEHIND ? FRONT : BEHIND, to = at < FRONT ? FRONT : at < BEHIND ? BEHIND : longer;
+    return table[MYRKOSTI_HEADER + from * PORTS + (to - from) * (port - 1) + at - from];
 }
 
 static void *lend(size_t length)
@@ -57,12 +61,12 @@ static uint8_t field(uint32_t port, unsigned at)
 /* octets of a record, as many as fit: those that this header knows and those that the library appended, or zeros */
 static uint8_t expected(size_t at, size_t length, bool done)
 {
-    static const uint8_t BEHIND[4] = {0xe1, 0xe2, 0xe3, 0xe4};
+    static const uint8_t MORE[LONGER] = APPENDED;
     if (at >= length || at >= longer)
         return 0xa5;
     if (!done)
         return 0;
-    return at < MYRKOSTI_RECORD ? lies(1, at) : BEHIND[at - MYRKOSTI_RECORD];
+    return at < MYRKOSTI_RECORD ? lies(1, at) : MORE[at - MYRKOSTI_RECORD];
 }
 
 /* what the library appended is there for a program that lends more, and nothing is written behind it; beside a refusal too */
@@ -125,14 +129,16 @@ static void carry(void)
 /* back and forward while port 2 carries: a table has the library's own size, and one of this header's is refused */
 static void move(void)
 {
-    const size_t old_size = myrkosti_old_table_size(PORTS);
+    const size_t old_size = myrkosti_old_table_size(PORTS), front = MYRKOSTI_HEADER + FRONT * PORTS;
     uint8_t *old = lend(old_size), *again = lend(size);
-    IS(old_size, MYRKOSTI_OLD_TABLE(PORTS));
+    IS(old_size, size - (BEHIND - FRONT) * PORTS);
     IS(myrkosti_back(table, size, old, old_size), MYRKOSTI_DONE);
-    IS(memcmp(old, table, old_size), 0);
+    IS(memcmp(old, table, front), 0);
+    IS(memcmp(old + front, table + size - (old_size - front), old_size - front), 0);
     IS(myrkosti_forward(old, old_size, again, MYRKOSTI_TABLE(PORTS)), MYRKOSTI_TABLE_WRONG);
     IS(myrkosti_forward(old, old_size, again, size), MYRKOSTI_DONE);
-    IS(memcmp(old, again, old_size), 0);
+    IS(memcmp(old, again, front), 0);
+    IS(memcmp(old + front, again + size - (old_size - front), old_size - front), 0);
     free(old);
     free(table);
     table = again;
@@ -148,7 +154,7 @@ int main(int words, char **word)
     const struct myrkosti_port_settings settings = myrkosti_usual_settings(ADDRESS, 0x1122);
     size = myrkosti_table_size(PORTS);
     longer = (size - MYRKOSTI_HEADER) / PORTS;
-    IS(longer, MYRKOSTI_RECORD + 4);
+    IS(longer, MYRKOSTI_RECORD + LONGER);
     IS(myrkosti_version(), MYRKOSTI_VERSION + 1);
     IS(myrkosti_fits(), true);
     table = lend(size);

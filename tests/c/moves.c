@@ -1,5 +1,5 @@
 /*
- * Moves between the two forms of a table through include/myrkosti.h: in any memory, and under live trunks, with a library of yesterday beside that of today
+ * Moves between the two forms of a table through include/myrkosti.h: in any memory, and under live trunks, with libraries of before beside that of today
  * (tools/yesterday.sh). Prints one line for each check that fails, and how many passed.
  */
 #include "myrkosti.h"
@@ -22,11 +22,10 @@ enum { PORTS = 4, LARGEST = MYRKOSTI_TABLE(MYRKOSTI_PORTS), BEYOND = 8 };
 struct direction {
     uint32_t (*move)(const uint8_t *source, size_t source_len, uint8_t *target, size_t target_len);
     uint32_t (*from)(uint32_t ports), (*to)(uint32_t ports); /* the sizes of source and target */
-    const struct library *then;                              /* whose table the target is */
 };
 
-static const struct direction FORWARD = {myrkosti_forward, myrkosti_old_table_size, myrkosti_table_size, &TODAY};
-static const struct direction BACK = {myrkosti_back, myrkosti_table_size, myrkosti_old_table_size, &YESTERDAY};
+static const struct direction FORWARD = {myrkosti_forward, myrkosti_old_table_size, myrkosti_table_size};
+static const struct direction BACK = {myrkosti_back, myrkosti_table_size, myrkosti_old_table_size};
 static const struct direction *const DIRECTIONS[2] = {&FORWARD, &BACK};
 
 static bool all_are(const uint8_t *octets, size_t count, uint8_t octet)
@@ -53,12 +52,14 @@ static uint32_t attempt(const struct direction *direction, const uint8_t *source
     return answer;
 }
 
-/* a move that is made: the records' octets as they are, and in the form of today monitors that begin and run once */
+/* a move that is made: the octets of both forms as they are, and in the form of today monitors that begin and run once */
 static void move(const struct direction *direction, const uint8_t *source, uint32_t ports, uint8_t *to)
 {
     uint8_t expected[LARGEST];
-    memcpy(expected, source, MYRKOSTI_OLD_TABLE(ports));
-    if (direction == &FORWARD)
+    const bool forward = direction == &FORWARD;
+    memcpy(expected, source, front_size(ports, false));
+    memcpy(expected + front_size(ports, forward), source + front_size(ports, !forward), MYRKOSTI_ASKED * ports);
+    if (forward)
         begin_all(expected, ports);
     IS(attempt(direction, source, direction->from(ports), to, direction->to(ports)), MYRKOSTI_DONE);
     IS(memcmp(to, expected, direction->to(ports)), 0);
@@ -75,16 +76,20 @@ static void refuse(const struct direction *direction, const uint8_t *source, siz
 static void have_sizes(void)
 {
     for (uint32_t ports = 1; ports <= MYRKOSTI_PORTS; ports++) {
-        IS(myrkosti_old_table_size(ports), MYRKOSTI_HEADER + 57 * ports);
+        IS(myrkosti_old_table_size(ports), MYRKOSTI_HEADER + 57 * ports + 7 * ports);
         IS(myrkosti_old_table_size(ports), MYRKOSTI_OLD_TABLE(ports));
-        IS(YESTERDAY.table_size(ports), MYRKOSTI_OLD_TABLE(ports));
         IS(myrkosti_table_size(ports) - myrkosti_old_table_size(ports), GROUP * ports);
+        IS(YESTERDAY.table_size(ports), front_size(ports, false));
+        IS(YESTERDAY.table_size(ports), MYRKOSTI_OLD_TABLE(ports) - MYRKOSTI_ASKED * ports);
+        IS(LATELY.table_size(ports), front_size(ports, true));
+        IS(LATELY.table_size(ports), MYRKOSTI_TABLE(ports) - MYRKOSTI_ASKED * ports);
     }
     IS(myrkosti_old_table_size(0), 0);
     IS(myrkosti_old_table_size(MYRKOSTI_PORTS + 1), 0);
     IS(myrkosti_old_table_size(0x101), 0);
     IS(myrkosti_old_table_size(0xffffffff), 0);
     IS(YESTERDAY.version(), 0x0100);
+    IS(LATELY.version(), 0x0200);
 }
 
 /* the fields that have a range, and how many values it has */
@@ -92,13 +97,14 @@ static const struct {
     unsigned at;
     uint16_t values;
 } OCTETS[] = {{MYRKOSTI_AT_RECEIVE, 6}, {MYRKOSTI_AT_PERIODIC, 4}, {MYRKOSTI_AT_MUX, 5}, {MYRKOSTI_AT_SELECTED, 2}, {MYRKOSTI_AT_NTT, 2}, {MYRKOSTI_AT_LINK, 2},
-              {MYRKOSTI_AT_DUPLEX, 2}, {MYRKOSTI_AT_WAIT_TIMER, 21}, {MYRKOSTI_AT_ACTOR_CHURN, 3}, {MYRKOSTI_AT_PARTNER_CHURN, 3}},
+              {MYRKOSTI_AT_DUPLEX, 2}, {MYRKOSTI_AT_WAIT_TIMER, 21}, {MYRKOSTI_AT_ACTOR_CHURN, 3}, {MYRKOSTI_AT_PARTNER_CHURN, 3},
+              {MYRKOSTI_AT_MARKER, MYRKOSTI_MARKER_CANCELLED + 1}},
   NUMBERS[] = {{MYRKOSTI_AT_CURRENT_WHILE, 901}, {MYRKOSTI_AT_PERIODIC_TIMER, 301}, {MYRKOSTI_AT_ACTOR_CHURN_TIMER, MINUTE + 1},
-               {MYRKOSTI_AT_PARTNER_CHURN_TIMER, MINUTE + 1}};
+               {MYRKOSTI_AT_PARTNER_CHURN_TIMER, MINUTE + 1}, {MYRKOSTI_AT_MARKER_TIMER, MYRKOSTI_LONGEST_WAIT + 1}};
 
 #define COUNT(array) (sizeof array / sizeof array[0])
 
-/* a table of the form of today with any content that is in range; its front is one of the old form */
+/* a table of the form of today with any content that is in range */
 static void put_any(uint8_t *table, uint32_t ports)
 {
     for (size_t i = 0; i < MYRKOSTI_TABLE(ports); i++)
@@ -113,6 +119,14 @@ static void put_any(uint8_t *table, uint32_t ports)
         for (unsigned age = 0; age < 3; age++)
             table[place(ports, port, MYRKOSTI_AT_AGES + age)] = (uint8_t)(any(2) == 0 ? 255 : any(11));
     }
+}
+
+/* the same of the form that a move begins with */
+static void put_any_source(const struct direction *direction, uint8_t *table, uint32_t ports)
+{
+    put_any(table, ports);
+    if (direction == &FORWARD)
+        memmove(table + front_size(ports, false), table + front_size(ports, true), MYRKOSTI_ASKED * ports);
 }
 
 /* every count: back drops the monitors, forward begins them, and old to new to old is the table that it was */
@@ -139,7 +153,7 @@ static void refuse_sizes(void)
         const struct direction *direction = DIRECTIONS[i % 2];
         const uint32_t ports = COUNTS[i / 2];
         const size_t from = direction->from(ports), to = direction->to(ports);
-        put_any(table, ports);
+        put_any_source(direction, table, ports);
         for (size_t size = 0; size < LARGEST + BEYOND; size++) {
             if (size != to)
                 refuse(direction, table, from, size);
@@ -159,9 +173,9 @@ static void refuse_contents(void)
 {
     static const struct wrong_octet OUT_OF_RANGE[] = OUT_OF_RANGE_OF(PORTS);
     uint8_t table[MYRKOSTI_TABLE(PORTS)], broken[MYRKOSTI_TABLE(PORTS)], target[LARGEST];
-    put_any(table, PORTS);
     for (size_t d = 0; d < 2; d++) {
         const struct direction *direction = DIRECTIONS[d];
+        put_any_source(direction, table, PORTS);
         memcpy(broken, table, sizeof table);
         for (unsigned count = 0; count < 256; count++) {
             broken[0] = (uint8_t)count;
@@ -170,13 +184,56 @@ static void refuse_contents(void)
         }
         for (size_t i = 0; i < PORTS * COUNT(OUT_OF_RANGE); i++) {
             const struct wrong_octet wrong = OUT_OF_RANGE[i / PORTS];
+            const bool churn = wrong.at >= FRONT && wrong.at < BEHIND;
+            if (churn && direction == &FORWARD)
+                continue;
             memcpy(broken, table, sizeof table);
-            broken[place(PORTS, 1 + i % PORTS, wrong.at)] = wrong.octet;
-            if (wrong.at < MYRKOSTI_OLD_RECORD || direction == &BACK)
-                refuse(direction, broken, direction->from(PORTS), direction->to(PORTS));
-            else
-                move(direction, broken, PORTS, target);
+            broken[(direction == &FORWARD ? old_place : place)(PORTS, 1 + i % PORTS, wrong.at)] = wrong.octet;
+            refuse(direction, broken, direction->from(PORTS), direction->to(PORTS));
         }
+        move(direction, table, PORTS, target);
+    }
+}
+
+/* ---- tables of libraries that knew of no Marker ---- */
+
+static const struct library *const BEFORE[2] = {&YESTERDAY, &LATELY};
+
+static uint32_t start_by(const struct library *library, uint8_t *table, uint32_t ports)
+{
+    static const uint8_t address[6] = {2, 0, 0, 0, 0, 9};
+    const struct myrkosti_system us = myrkosti_usual_system(address);
+    const struct myrkosti_port_settings s = myrkosti_usual_settings(address, 1);
+    return library->start(table, library->table_size(ports), ports, us.priority, us.address, us.collector_max_delay, s.address, s.key, s.priority,
+                          s.activity, s.timeout, s.aggregation, s.partner);
+}
+
+/*
+ * A table of any content of yesterday's or lately's is refused by every move as it is. With zeros behind it, it is one of its form, and none was asked for;
+ * moved forward and back, without these octets, it is what it was. A start gives the same by each library.
+ */
+static void put_behind_tables_of_before(void)
+{
+    for (size_t i = 0; i < 2 * MYRKOSTI_PORTS; i++) {
+        const struct library *const library = BEFORE[i % 2];
+        const uint32_t ports = (uint32_t)(1 + i / 2);
+        const size_t length = library->table_size(ports);
+        uint8_t any_table[LARGEST], today[LARGEST], again[LARGEST], started[LARGEST];
+        put_any(any_table, ports);
+        refuse(&FORWARD, any_table, length, MYRKOSTI_TABLE(ports));
+        refuse(&BACK, any_table, length, MYRKOSTI_OLD_TABLE(ports));
+        IS(load_today(library, any_table, today), MYRKOSTI_DONE);
+        IS(memcmp(today, any_table, front_size(ports, library == &LATELY)), 0);
+        check(all_are(today + front_size(ports, true), MYRKOSTI_ASKED * ports, 0), "no Marker was asked for");
+        IS(myrkosti_tick(today, MYRKOSTI_TABLE(ports) - 1), MYRKOSTI_TABLE_WRONG);
+        IS(load_before(library, today, again), MYRKOSTI_DONE);
+        IS(memcmp(again, any_table, length), 0);
+        IS(myrkosti_tick(today, MYRKOSTI_TABLE(ports)), MYRKOSTI_DONE);
+
+        IS(start_by(library, again, ports), MYRKOSTI_DONE);
+        IS(load_today(library, again, today), MYRKOSTI_DONE);
+        IS(start_by(&TODAY, started, ports), MYRKOSTI_DONE);
+        IS(memcmp(today, started, MYRKOSTI_TABLE(ports)), 0);
     }
 }
 
@@ -216,7 +273,7 @@ static struct myrkosti_port_settings settings_of(uint8_t name, uint16_t key)
     return myrkosti_usual_settings(address, key);
 }
 
-static void start(struct end *end, const struct library *library, uint8_t name)
+static void begin(struct end *end, const struct library *library, uint8_t name)
 {
     const uint8_t address[6] = {2, 0, 0, 0, 0, name};
     const struct myrkosti_system us = myrkosti_usual_system(address);
@@ -282,14 +339,21 @@ static void tick(struct end *end)
     IS(end->library->tick(end->table, size_of(end)), MYRKOSTI_DONE);
 }
 
-/* the table takes the other form, and the library of that form goes on with it */
-static void change_library(struct end *end)
+/* the table goes to another library, which goes on with it */
+static void change_library(struct end *end, const struct library *to)
 {
-    const struct direction *direction = end->library == &YESTERDAY ? &FORWARD : &BACK;
     uint8_t target[LARGEST];
-    move(direction, end->table, PORTS, target);
-    end->library = direction->then;
+    IS(to == &TODAY ? load_today(end->library, end->table, target) : load_before(to, end->table, target), MYRKOSTI_DONE);
+    end->library = to;
     memcpy(end->table, target, size_of(end));
+}
+
+/* the table is moved back and forward, and its library stays */
+static void there_and_back_again(struct end *end)
+{
+    uint8_t old[LARGEST];
+    move(&BACK, end->table, PORTS, old);
+    move(&FORWARD, old, PORTS, end->table);
 }
 
 struct reports {
@@ -370,22 +434,25 @@ static void tell(struct world *world, int now)
             happen(world, STORY[i].event, STORY[i].port);
 }
 
-/* who drives our switch: the first library, and every `turn` ticks, unless that is 0, the table is moved so often */
+/* who drives our switch: the first library, and every `turn` ticks, unless that is 0, the table goes to the other one, so often to one and back */
 struct schedule {
     const char *name;
-    const struct library *first;
+    const struct library *first, *other;
     int turn, moves;
 };
 
 static const struct schedule SCHEDULES[] = {
-    {"yesterday's library alone", &YESTERDAY, 0, 0}, /* what the others are held against */
-    {"today's library alone", &TODAY, 0, 0},
-    {"yesterday's and today's in turn, a tick each", &YESTERDAY, 1, 1},
-    {"yesterday's and today's in turn, 7 ticks each", &YESTERDAY, 7, 1},
-    {"yesterday's and today's in turn, 30 seconds each", &YESTERDAY, 300, 1},
-    {"yesterday's, and each second forward and back", &YESTERDAY, 10, 2},
-    {"today's, and at every tick back and forward", &TODAY, 1, 2},
-    {"today's, and back and forward while a link churns", &TODAY, 790, 2},
+    {"yesterday's library alone", &YESTERDAY, NULL, 0, 0}, /* what the others are held against */
+    {"today's library alone", &TODAY, NULL, 0, 0},
+    {"lately's library alone", &LATELY, NULL, 0, 0},
+    {"yesterday's and today's in turn, a tick each", &YESTERDAY, &TODAY, 1, 1},
+    {"yesterday's and today's in turn, 7 ticks each", &YESTERDAY, &TODAY, 7, 1},
+    {"yesterday's and today's in turn, 30 seconds each", &YESTERDAY, &TODAY, 300, 1},
+    {"yesterday's, and each second forward and back", &YESTERDAY, &TODAY, 10, 2},
+    {"lately's and today's in turn, a tick each", &LATELY, &TODAY, 1, 1},
+    {"lately's and today's in turn, 30 seconds each", &LATELY, &TODAY, 300, 1},
+    {"today's, and at every tick back and forward by way of yesterday's", &TODAY, &YESTERDAY, 1, 2},
+    {"today's, and back and forward while a link churns", &TODAY, &YESTERDAY, 790, 2},
 };
 enum { SCHEDULED = COUNT(SCHEDULES) };
 
@@ -397,7 +464,7 @@ static void step(struct world *world, const struct schedule *schedule, int now)
     world->frames = 0;
     for (int part = 0; part < 3; part++) {
         for (int moves = 0; part == moment && moves < schedule->moves; moves++)
-            change_library(&world->ours);
+            change_library(&world->ours, world->ours.library == schedule->first ? schedule->other : schedule->first);
         if (part == 0)
             tell(world, now);
         if (part == 1)
@@ -414,12 +481,12 @@ static void agree(bool holds, const char *what, const struct schedule *schedule,
     check(holds, text);
 }
 
-/* frames and their answers, every octet of the old form, what aggregators report, and every octet of the neighbour's table */
+/* frames and their answers, every octet of yesterday's table, what aggregators report, and every octet of the neighbour's table */
 static void compare(const struct world *world, const struct world *alone, const struct schedule *schedule, int now)
 {
     const struct reports ours = report(&world->ours), expected = report(&alone->ours);
     agree(world->frames == alone->frames && memcmp(world->said, alone->said, alone->frames * sizeof alone->said[0]) == 0, "frames", schedule, now);
-    agree(memcmp(world->ours.table, alone->ours.table, MYRKOSTI_OLD_TABLE(PORTS)) == 0, "table", schedule, now);
+    agree(memcmp(world->ours.table, alone->ours.table, front_size(PORTS, false)) == 0, "table", schedule, now);
     agree(memcmp(&ours, &expected, sizeof ours) == 0, "aggregators", schedule, now);
     agree(memcmp(world->theirs.table, alone->theirs.table, sizeof alone->theirs.table) == 0, "neighbour", schedule, now);
 }
@@ -427,8 +494,8 @@ static void compare(const struct world *world, const struct world *alone, const 
 static void begin_story(struct world *world, const struct library *library)
 {
     memset(world, 0, sizeof *world);
-    start(&world->ours, library, 1);
-    start(&world->theirs, &TODAY, 2);
+    begin(&world->ours, library, 1);
+    begin(&world->theirs, &TODAY, 2);
 }
 
 /* all schedules side by side, tick by tick; a trunk carries for most of the story, and in it there is something to notice: many frames, and churn */
@@ -468,7 +535,7 @@ static void tell_the_story(void)
 static void begin_monitors(void)
 {
     static struct world world;
-    const struct schedule unmoved = {"today's library alone", &TODAY, 0, 0};
+    const struct schedule unmoved = {"today's library alone", &TODAY, NULL, 0, 0};
     const uint8_t *const table = world.ours.table;
     begin_story(&world, &TODAY);
     for (int now = 0; now < 100; now++)
@@ -477,8 +544,7 @@ static void begin_monitors(void)
     IS_MONITOR(table, 3, ACTOR, MYRKOSTI_CHURN_MONITOR, MINUTE - 4, 0); /* it heard its partner after tick 95, and waits since */
     for (uint32_t port = 1; port <= PORTS; port++)
         put_monitor(world.ours.table, PORTS, port, ACTOR, (struct monitor){MYRKOSTI_CHURN, 9, 9});
-    change_library(&world.ours);
-    change_library(&world.ours);
+    there_and_back_again(&world.ours);
     for (enum which which = ACTOR; which <= PARTNER; which++) {
         IS_MONITOR(table, 1, which, MYRKOSTI_NO_CHURN, 0, 0);
         IS_MONITOR(table, 4, which, MYRKOSTI_CHURN_MONITOR, MINUTE, 0);
@@ -498,8 +564,7 @@ static void churn_a_minute_after(void)
     for (int ticks = 0; ticks < 2 * MINUTE + 50; ticks++) {
         if (ticks == MINUTE + 50) {
             IS_MONITOR(table, 4, PARTNER, MYRKOSTI_CHURN, 0, 1);
-            change_library(&world.ours);
-            change_library(&world.ours);
+            there_and_back_again(&world.ours);
         }
         if (ticks >= MINUTE + 50)
             IS_MONITOR(table, 4, PARTNER, MYRKOSTI_CHURN_MONITOR, 2 * MINUTE + 50 - ticks, 0);
@@ -517,6 +582,7 @@ int main(void)
     there_and_back();
     refuse_sizes();
     refuse_contents();
+    put_behind_tables_of_before();
     tell_the_story();
     begin_monitors();
     churn_a_minute_after();

@@ -50,8 +50,10 @@ static void versions_and_sizes(void)
     IS(myrkosti_table_size(MYRKOSTI_PORTS + 1), 0);
     IS(MYRKOSTI_BLOCK_STATE + 1, MYRKOSTI_BLOCK);
     IS(MYRKOSTI_AT_PARTNER + MYRKOSTI_BLOCK, MYRKOSTI_AT_ACTOR_CHURN);
-    IS(MYRKOSTI_OLD_RECORD, MYRKOSTI_AT_ACTOR_CHURN);
-    IS(MYRKOSTI_AT_PARTNER_CHURN_COUNT + 4, MYRKOSTI_RECORD);
+    IS(MYRKOSTI_AT_PARTNER_CHURN_COUNT + 4, MYRKOSTI_AT_MARKER);
+    IS(MYRKOSTI_AT_MARKER_NUMBER + 4, MYRKOSTI_RECORD);
+    IS(MYRKOSTI_AT_MARKER + MYRKOSTI_ASKED, MYRKOSTI_RECORD);
+    IS(MYRKOSTI_OLD_RECORD, MYRKOSTI_AT_ACTOR_CHURN + MYRKOSTI_ASKED);
     IS(myrkosti_fetch(table, SIZE, 1, out, sizeof out - 1, &counters), MYRKOSTI_BUFFER_SHORT);
     IS(myrkosti_fetch(table, SIZE, 1, out, sizeof out, &counters), MYRKOSTI_NOTHING_TO_SEND);
 }
@@ -200,6 +202,7 @@ static void states_beside_a_refusal(void)
     IS(record[MYRKOSTI_AT_DUPLEX], 0);
     IS(record[MYRKOSTI_AT_ACTOR_CHURN], MYRKOSTI_NO_CHURN);
     IS(record[MYRKOSTI_AT_PARTNER_CHURN], MYRKOSTI_NO_CHURN);
+    IS(record[MYRKOSTI_AT_MARKER], MYRKOSTI_MARKER_NONE);
 }
 
 /* the receive machine, with the bits and timers that tell of it */
@@ -275,7 +278,7 @@ static void mux_states(void)
     IS(holding == 1 && attached == 1 && distributing == 1 && count == 1 && lowest == 1, true);
 }
 
-/* one octet of the group of port 1 in the table, and so one of its record and no other */
+/* an octet of the record of port 1 in the table */
 static void put_octet(unsigned at, uint8_t octet)
 {
     table[place(PORTS, 1, at)] = octet;
@@ -321,6 +324,64 @@ static void churn_octets(void)
     IS(myrkosti_port(table, SIZE, 1, record, sizeof record), MYRKOSTI_TABLE_WRONG);
 }
 
+/* ---- Markers of our own ---- */
+
+static uint32_t ask(uint32_t ticks)
+{
+    uint8_t out[MYRKOSTI_FRAME];
+    return myrkosti_ask(table, SIZE, 1, ticks, out, sizeof out);
+}
+
+/* the Response to the Marker with this transaction comes to port 1 */
+static uint32_t respond(uint32_t transaction)
+{
+    uint8_t frame[MYRKOSTI_FRAME], out[MYRKOSTI_FRAME];
+    uint32_t sent;
+    put_response(frame, 1, ADDRESS, transaction);
+    return myrkosti_receive(table, SIZE, 1, frame, sizeof frame, out, sizeof out, &sent, &counters);
+}
+
+/* each outcome by what leads to it, on a port that distributes */
+static void marker_outcomes(void)
+{
+    mux_states();
+    IS(seen(MYRKOSTI_AT_MARKER), MYRKOSTI_MARKER_NONE);
+    IS(ask(MYRKOSTI_LONGEST_WAIT + 1), MYRKOSTI_DEFAULT_WRONG);
+    IS(ask(MYRKOSTI_LONGEST_WAIT), MYRKOSTI_DONE);
+    IS(ask(1), MYRKOSTI_ALREADY_AWAITING);
+    IS(seen(MYRKOSTI_AT_MARKER), MYRKOSTI_MARKER_AWAITING);
+    IS(myrkosti_number(record + MYRKOSTI_AT_MARKER_TIMER), 600);
+    IS(myrkosti_long_number(record + MYRKOSTI_AT_MARKER_NUMBER), 1);
+    IS(respond(1), MYRKOSTI_RESPONSE);
+    IS(respond(0), MYRKOSTI_DONE);
+    IS(seen(MYRKOSTI_AT_MARKER), MYRKOSTI_MARKER_ANSWERED);
+    IS(ask(1), MYRKOSTI_DONE);
+    pass(1);
+    IS(seen(MYRKOSTI_AT_MARKER), MYRKOSTI_MARKER_TIMED_OUT);
+    IS(ask(1), MYRKOSTI_DONE);
+    IS(myrkosti_line(table, SIZE, 1, false, true), MYRKOSTI_DONE);
+    IS(seen(MYRKOSTI_AT_MARKER), MYRKOSTI_MARKER_CANCELLED);
+    IS(myrkosti_number(record + MYRKOSTI_AT_MARKER_TIMER), 0);
+    IS(myrkosti_long_number(record + MYRKOSTI_AT_MARKER_NUMBER), 3);
+    IS(ask(1), MYRKOSTI_NOT_DISTRIBUTING);
+}
+
+/* each octet another one, read by its name, and the first outcome that is none */
+static void marker_octets(void)
+{
+    static const uint8_t OCTETS[MYRKOSTI_ASKED] = {MYRKOSTI_MARKER_CANCELLED, 2, 0x11, 0xf3, 0x33, 0x44, 0x55};
+    start();
+    for (unsigned i = 0; i < MYRKOSTI_ASKED; i++) {
+        put_octet(BEHIND + i, OCTETS[i]);
+    }
+    look();
+    IS(record[MYRKOSTI_AT_MARKER], MYRKOSTI_MARKER_CANCELLED);
+    IS(myrkosti_number(record + MYRKOSTI_AT_MARKER_TIMER), 0x0211);
+    IS(myrkosti_long_number(record + MYRKOSTI_AT_MARKER_NUMBER), 0xf3334455);
+    put_octet(MYRKOSTI_AT_MARKER, MYRKOSTI_MARKER_CANCELLED + 1);
+    IS(myrkosti_port(table, SIZE, 1, record, sizeof record), MYRKOSTI_TABLE_WRONG);
+}
+
 /* ---- the old form ---- */
 
 /* there and back: a table that was just started has monitors that begin, so it is the same in every octet */
@@ -330,7 +391,10 @@ static void moves(void)
     start();
     IS(myrkosti_old_table_size(PORTS), sizeof old);
     IS(myrkosti_back(table, SIZE, old, sizeof old), MYRKOSTI_DONE);
-    IS(memcmp(old, table, sizeof old), 0);
+    IS(memcmp(old, table, place(PORTS, 1, FRONT)), 0);
+    for (uint32_t port = 1; port <= PORTS; port++) {
+        IS(memcmp(old + old_place(PORTS, port, BEHIND), table + place(PORTS, port, BEHIND), MYRKOSTI_ASKED), 0);
+    }
     IS(myrkosti_back(old, sizeof old, again, SIZE), MYRKOSTI_TABLE_WRONG);
     IS(myrkosti_forward(old, sizeof old, again, SIZE - 1), MYRKOSTI_TABLE_WRONG);
     IS(myrkosti_forward(old, sizeof old, again, SIZE), MYRKOSTI_DONE);
@@ -378,6 +442,8 @@ static void answers(void)
     }
     IS(MYRKOSTI_DONE, 0);
     IS(MYRKOSTI_RESPONSE, 12);
+    IS(MYRKOSTI_NOT_DISTRIBUTING, 13);
+    IS(MYRKOSTI_ALREADY_AWAITING, 14);
 }
 
 /* ---- counters ---- */
@@ -441,6 +507,8 @@ int main(void)
     mux_states();
     churn_states();
     churn_octets();
+    marker_outcomes();
+    marker_octets();
     moves();
     answers();
     counters_by_name();

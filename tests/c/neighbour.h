@@ -10,7 +10,9 @@ enum {
     TYPE_AT = 12,    /* of a frame */
     SUBTYPE_AT = 14, /* of a Slow Protocols frame */
     ACTOR_AT = 18,   /* of an LACPDU: the block of who sends it, and what it heard */
-    PARTNER_AT = 38
+    PARTNER_AT = 38,
+    REQUESTER_AT = 18, /* of a Marker or a Response: port, system and transaction of who sent the Marker, twelve octets */
+    REQUESTER_END = 30
 };
 
 /* what port `port` of `us` says of itself, by its record */
@@ -55,6 +57,16 @@ static inline void put_marker(uint8_t frame[MYRKOSTI_FRAME], uint8_t type)
     frame[16] = type;
     frame[17] = 16;
     frame[29] = 7; /* transaction */
+}
+
+/* the Response to a Marker of this port of the system with this address */
+static inline void put_response(uint8_t frame[MYRKOSTI_FRAME], uint16_t port, const uint8_t system[6], uint32_t transaction)
+{
+    put_marker(frame, 2);
+    myrkosti_put_number(frame + REQUESTER_AT, port);
+    memcpy(frame + REQUESTER_AT + 2, system, 6);
+    for (unsigned i = 0; i < 4; i++)
+        frame[REQUESTER_AT + 8 + i] = transaction >> (24 - 8 * i) & 0xff;
 }
 
 #endif

@@ -6,7 +6,7 @@ from collections import Counter
 from pathlib import Path
 from typing import NamedTuple
 
-from switch import DONE, Switch
+from switch import DONE, Counters, Switch
 
 CAPTURES = Path("target/outside")
 
@@ -38,7 +38,7 @@ class Captured(Switch):
 
     def __init__(self, command):
         super().__init__(command)
-        self.counting = "--yesterday" not in command
+        self.counting = self.counts_before = "--yesterday" not in command
         self.passed, self.told, self.life = [], {}, 0
 
     def note(self, port, sent, frame):
@@ -70,13 +70,19 @@ class Captured(Switch):
             self.note(port, True, frame)
         return answer, frame
 
+    def ask(self, port, ticks):
+        answer, frame = super().ask(port, ticks)
+        if answer == DONE:
+            self.note(port, True, frame)
+        return answer, frame
+
     def forward(self):
         super().forward()
         self.counting = True
 
     def back(self):
         super().back()
-        self.counting = False
+        self.counting = self.counts_before
 
 
 def write_capture(path, frames):
@@ -102,10 +108,16 @@ def kinds(path, passed):
     return found
 
 
+def counter(kind, sent):
+    """The name of the counter of frames of this kind; none where there is none, as for Markers that were sent."""
+    name = f"{kind}_{'sent' if sent else 'received'}"
+    return name if name in Counters._fields else None
+
+
 def places(path, passed):
-    """Of each frame the counter that must have counted it: after how many starts, on which port, and its name; none for a frame of no kind."""
-    return [(each.life, each.port, f"{kind}_{'sent' if each.sent else 'received'}") if kind else None
-            for each, kind in zip(passed, kinds(path, passed), strict=True)]
+    """Of each frame the counter that must have counted it: after how many starts, on which port, and its name; none for a frame that counts nowhere."""
+    names = [counter(kind, each.sent) for each, kind in zip(passed, kinds(path, passed), strict=True)]
+    return [(each.life, each.port, name) if name else None for each, name in zip(passed, names, strict=True)]
 
 
 def compared(switch, every):

@@ -235,6 +235,10 @@ class Neighbour:
         text = self.show("lacp/show-stats")[name]
         return tuple(int(Member.field(text, f"RX {kind}")) for kind in ("PDUs", "Bad PDUs"))
 
+    def markers(self, name):
+        """How many Markers a member counted."""
+        return int(Member.field(self.show("lacp/show-stats")[name], "RX Marker Request PDUs"))
+
     def negotiated(self):
         """Whether the bond as a whole says 'negotiated', which it also does before any frame."""
         return "negotiated" in Member.field(self.control.ask("lacp/show"), "status")

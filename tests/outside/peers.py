@@ -3,12 +3,14 @@
 A tick of ours is a tenth of a second of the neighbour's clock, which stands still otherwise; so each run is the same, and the ticks at which
 something must happen are exact. Each part below starts from a trunk of both links and leaves one.
 
-Then new firmware is loaded under the trunk: a switch that began with the library of yesterday has its table moved to that of today, and back.
+Open vSwitch answers no Markers: those of ours are counted there and time out. So a second switch of ours is the neighbour that answers them.
+
+Then new firmware is loaded under the trunk: a switch that began with a library of before has its table moved to that of today, and back.
 
 All that passed our ports meanwhile goes into a capture, and the counters of each port must be what tshark counts there.
 
 Last come switches with which these parts must fail: one that never sends, so that the neighbour must not come to use a link, and some that load new
-firmware in a way that the neighbour must notice; and a capture that misses frames.
+firmware in a way that the neighbour must notice; Responses that get lost; and a capture that misses frames.
 """
 
 import tempfile
@@ -16,8 +18,8 @@ from contextlib import contextmanager
 
 from capture import CAPTURES, Captured, by_name, hold_counters, left_out
 from neighbour import KEY, MEMBERS, SYSTEM, SYSTEM_PRIORITY, Neighbour
-from switch import (CHURN, CHURN_MONITOR, CURRENT, DEFAULTED, DONE, EXPIRED, LACP_OFF, NO_CHURN, NOBODY, SLOW_ADDRESS, Aggregator, Block,
-                    Checks, Settings, System, bit, run)
+from switch import (ALREADY_AWAITING, ANSWERED, AWAITING, CANCELLED, CHURN, CHURN_MONITOR, CURRENT, DEFAULTED, DONE, EXPIRED, LACP_OFF, NEVER_ASKED,
+                    NO_CHURN, NOBODY, NOT_DISTRIBUTING, RESPONSE, SLOW_ADDRESS, TIMED_OUT, Aggregator, Block, Checks, Settings, System, bit, run)
 
 # Two ports of four; the other two have no cable.
 FIRST, SECOND, PORTS = 2, 4, 4
@@ -171,6 +173,21 @@ class World:
         """A check: what the neighbour says of its member at a port's link."""
         return lambda: self.equal(f"neighbour's status of port {port}", self.neighbour.members()[self.cables[port]].status.split()[0], word)
 
+    def ask(self, port, ticks):
+        """A Marker is asked for and goes to the neighbour. Gives a check: it is awaited until its last tick, and has timed out then."""
+        before, begin = self.switch.port(port), self.now
+        answer, frame = self.switch.ask(port, ticks)
+        self.equal(f"answer to an ask on port {port}", answer, DONE)
+        if answer == DONE:
+            self.neighbour.send(self.cables[port], frame)
+
+        def check():
+            left, record = begin + ticks - self.now, self.switch.port(port)
+            found = record.marker, record.marker_timer, record.marker_number
+            self.equal(f"outcome on port {port}", found, (AWAITING, left, before.marker_number + 1) if left > 0 else (TIMED_OUT, 0, before.marker_number + 1))
+        check()
+        return check
+
 
 def missing(world):
     """What is missing for a trunk of both links, at either end; nothing where it stands."""
@@ -232,7 +249,7 @@ def changed(world, change, pause):
 
 
 def moved(world, move, pause=0):
-    """The table takes the other form, and the library of that form goes on with it: for 30 seconds the neighbour notices nothing, and we send nothing more."""
+    """The table goes to another library, which goes on with it: for 30 seconds the neighbour notices nothing, and we send nothing more."""
     sent = dict(world.sent)
     stays = changed(world, move, pause)
     world.equal("frames of ours before the next tick", world.sent, sent)
@@ -369,6 +386,33 @@ def ages(world):
     world.ours_is({FIRST: world.young()} if world.young() else {})()
 
 
+def unanswered(world):
+    """Markers of ours on both links: the neighbour knows them for Markers and answers none, so each times out at its last tick, and the trunk stands. One
+    that is awaited when its link falls is cancelled; the other is awaited on."""
+    first, second = world.cables[FIRST], world.cables[SECOND]
+    before = {name: world.neighbour.markers(name) for name in (first, second)}
+    standing = world.ours_is({FIRST: BOTH}), world.theirs_is(BOTH)
+    for ticks in (1, 2, FAST, 3 * FAST):
+        checks = world.ask(FIRST, ticks), world.ask(SECOND, ticks + 1)
+        world.equal("answer to a second ask", world.switch.ask(FIRST, ticks), (ALREADY_AWAITING, b""))
+        world.until(world.now + ticks + 1, *checks, *standing)
+    checks = world.ask(FIRST, MINUTE), world.ask(SECOND, MINUTE)
+    world.until(world.now + FAST, *checks, *standing)
+    world.switch.line(SECOND, up=False, full=True)
+    world.neighbour.up(second, False)
+    world.settle()
+    world.equal("outcome of a link that fell", world.switch.port(SECOND)[-3:], (CANCELLED, 0, world.switch.port(FIRST).marker_number))
+    world.equal("answer to an ask without a link", world.switch.ask(SECOND, 1), (NOT_DISTRIBUTING, b""))
+    world.until(world.now + FAST, checks[0])
+    world.switch.line(SECOND, up=True, full=True)
+    world.neighbour.up(second, True)
+    world.until(world.now + MINUTE - 2 * FAST, checks[0])
+    world.equal("outcome on port 1, which never asked", world.switch.port(1)[-3:], (NEVER_ASKED, 0, 0))
+    for name in (first, second):
+        world.equal("Markers that the neighbour counted", world.neighbour.markers(name), before[name] + 5)
+    return comes_back(world)
+
+
 def quick_crash(world):
     """The neighbour crashes and starts again before we can miss it."""
     world.neighbour.crash()
@@ -390,16 +434,17 @@ PARTS = (
     ("the cables are swapped", swapped),
     ("the neighbour crashes for a while", crash),
     ("the neighbour crashes and is back at once", quick_crash),
+    ("the neighbour answers no Markers", unanswered),
 )
 
 NEW_FIRMWARE = (
-    ("both links come up at a switch with the library of yesterday", forms),
-    ("its table is moved forward", lambda world: moved(world, world.switch.forward)),
+    ("both links come up at a switch with a library of before", forms),
+    ("its table goes to today's", lambda world: moved(world, world.switch.forward)),
     ("the second link is cut", lambda world: cut(world, SECOND)),
-    ("its table is moved back", lambda world: moved(world, world.switch.back)),
+    ("its table goes back", lambda world: moved(world, world.switch.back)),
     ("the first link is silent", silence_on_first),
-    ("it stands still, and is moved forward", lambda world: moved(world, world.switch.forward, PAUSE)),
-    ("it stands still, and is moved back", lambda world: moved(world, world.switch.back, PAUSE)),
+    ("it stands still, and its table goes to today's", lambda world: moved(world, world.switch.forward, PAUSE)),
+    ("it stands still, and its table goes back", lambda world: moved(world, world.switch.back, PAUSE)),
 )
 
 
@@ -449,10 +494,10 @@ def is_noticed(command, change, pause):
         return stood and checks.failed > 0
 
 
-def counters_hold(world):
+def counters_hold(checks, switch):
     """Each port's counters are what tshark counts in a capture of what passed it; the capture's frames, each with its counter."""
-    world.switch.pages()
-    return hold_counters(world.checks, world.switch, CAPTURES / "peers.pcap")
+    switch.pages()
+    return hold_counters(checks, switch, CAPTURES / "peers.pcap")
 
 
 def misses_frames(command):
@@ -461,8 +506,112 @@ def misses_frames(command):
     with between(command, checks) as world:
         forms(world)
         lasts(world)
-        missed, noticed = left_out(world.switch, counters_hold(world), CAPTURES / "misses.pcap")
+        missed, noticed = left_out(world.switch, counters_hold(checks, world.switch), CAPTURES / "misses.pcap")
         return checks.failed == 0 and missed == noticed == 2
+
+
+# A neighbour that answers Markers: a second switch of ours.
+
+class Pair:
+    """Two switches of ours, the ports FIRST and SECOND of one joined to those of the other."""
+
+    def __init__(self, ours, theirs, checks):
+        self.ours, self.theirs, self.checks, self.now = ours, theirs, checks, 0
+        self.held = None  # Responses to us that wait, where they are held back
+        ours.start(PORTS, OURS, SETTINGS)
+        theirs.start(PORTS, OURS._replace(address=SYSTEM), SETTINGS._replace(key=KEY))
+        for switch in (ours, theirs):
+            for port in BOTH:
+                switch.line(port, up=True, full=True)
+        self.settle()
+
+    def deliver(self, to, port, frame):
+        """A frame on its way, and a Response to it; the answer it gets."""
+        answer, response = to.receive(port, frame)
+        if response and self.held is not None and to is self.theirs:
+            self.held.append((port, response))
+        elif response:
+            self.deliver(self.theirs if to is self.ours else self.ours, port, response)
+        return answer
+
+    def settle(self):
+        """Frames go both ways until none is due."""
+        while due := [(one, other, port) for one, other in ((self.ours, self.theirs), (self.theirs, self.ours)) for port in one.due()]:
+            for one, other, port in due:
+                answer, frame = one.fetch(port)
+                self.checks.equal("answer to a fetch of what is due", answer, DONE)
+                self.checks.equal("answer to an LACPDU", self.deliver(other, port, frame), DONE)
+
+    def ticks(self, count):
+        """Time passes at both ends."""
+        for _ in range(count):
+            self.now += 1
+            self.ours.tick()
+            self.theirs.tick()
+            self.settle()
+
+    def ask(self, port, ticks):
+        """A Marker of ours, which goes to the other end and is answered there."""
+        answer, frame = self.ours.ask(port, ticks)
+        self.equal("answer to an ask", answer, DONE)
+        self.equal("answer to a Marker", self.deliver(self.theirs, port, frame), DONE)
+
+    def let_come(self, expected):
+        """The Responses that were held back come in."""
+        held, self.held = self.held, None
+        for port, response in held:
+            self.equal("answer to a Response", self.deliver(self.ours, port, response), expected)
+
+    def equal(self, what, found, expected):
+        """A check that names the tick."""
+        self.checks.equal(f"tick {self.now} of two of ours: {what}", found, expected)
+
+    def outcome_is(self, port, *expected):
+        """A check: outcome, timer and next number of a port of ours."""
+        self.equal(f"outcome on port {port}", self.ours.port(port)[-3:], expected)
+
+
+def answered_in_time(pair):
+    """The other end answers each Marker: at once; at the last moment before the last tick; and a moment after it, too late. A trunk carries throughout."""
+    pair.ticks(SOON)
+    pair.equal("ports that distribute", pair.ours.aggregator(FIRST).distributing, BOTH)
+    pair.ask(FIRST, 1)
+    pair.outcome_is(FIRST, ANSWERED, 0, 1)
+    for number, late in enumerate((0, 1, 5, FAST - 1), start=1):
+        pair.held = []
+        pair.ask(FIRST, FAST)
+        pair.ticks(late)
+        pair.outcome_is(FIRST, AWAITING, FAST - late, number + 1)
+        pair.let_come(DONE)
+        pair.outcome_is(FIRST, ANSWERED, 0, number + 1)
+    pair.held = []
+    pair.ask(SECOND, FAST)
+    pair.ticks(FAST)
+    pair.outcome_is(SECOND, TIMED_OUT, 0, 1)
+    pair.let_come(RESPONSE)
+    pair.outcome_is(SECOND, TIMED_OUT, 0, 1)
+    pair.ticks(MINUTE)
+    pair.outcome_is(FIRST, ANSWERED, 0, 5)
+    pair.equal("ports that distribute", pair.ours.aggregator(FIRST).distributing, BOTH)
+
+
+@contextmanager
+def both_ours(command, checks):
+    """Two switches of ours that are new."""
+    with Captured(command) as ours, Captured(command) as theirs:
+        yield Pair(ours, theirs, checks)
+
+
+def loses_responses(command):
+    """Whether the check of a neighbour that answers fails where its Responses get lost."""
+    checks = Checks(quiet=True)
+    with both_ours(command, checks) as pair:
+        pair.ticks(SOON)
+        stood = checks.failed == 0
+        pair.held = []
+        pair.ask(FIRST, FAST)
+        pair.outcome_is(FIRST, ANSWERED, 0, 1)
+        return stood and checks.failed == 1
 
 
 # What must be found out, and how.
@@ -471,19 +620,31 @@ WRONG = (
     ("new firmware that starts its table anew", lambda command: is_noticed(command, starts_anew, 0)),
     ("new firmware that takes three seconds", lambda command: is_noticed(command, lambda world: world.switch.forward(), SHORT)),
     ("a capture that misses frames", misses_frames),
+    ("Responses that get lost", loses_responses),
 )
+
+
+def show_counted(every):
+    """How many frames there were for each counter."""
+    print("counted, by tshark and by the ports:", ", ".join(f"{number} {name}" for name, number in sorted(by_name(every).items())))
 
 
 def peers(command):
     """Everything, and the last line; whether all is well."""
     checks, ticks, ours, theirs = Checks(), 0, 0, 0
-    for words, parts in ((command, PARTS), ([*command, "--yesterday"], NEW_FIRMWARE)):
+    for words, parts in ((command, PARTS), ([*command, "--yesterday"], NEW_FIRMWARE), ([*command, "--lately"], NEW_FIRMWARE)):
         with between(words, checks) as world:
+            print(f"a switch of ours{''.join(words[len(command):]).replace('--', ', begun with the library of ')}, and Open vSwitch")
             all_parts(world, parts)
-            counted = by_name(counters_hold(world))
-            print("counted, by tshark and by the ports:", ", ".join(f"{number} {name}" for name, number in sorted(counted.items())))
+            show_counted(counters_hold(checks, world.switch))
             ticks, ours, theirs = ticks + world.now, ours + sum(world.sent.values()), theirs + sum(world.came.values())
     print(f"{ticks} ticks, {ours} frames of ours, {theirs} of the neighbour's")
+    failed = checks.failed
+    with both_ours(command, checks) as pair:
+        answered_in_time(pair)
+        for switch in (pair.ours, pair.theirs):
+            show_counted(counters_hold(checks, switch))
+    print(f"two switches of ours, one of which answers the other's Markers: {'right' if checks.failed == failed else 'WRONG'}")
     missed = [name for name, found in WRONG if not found(command)]
     print(f"peers: {checks.passed} checks passed, {checks.failed} failed;",
           f"NOT found out: {', '.join(missed)}" if missed else f"found out: {', '.join(name for name, _ in WRONG)}")

@@ -9,13 +9,15 @@
  *   receive PORT FRAME                answer, Response
  *   due                               answer, ports
  *   fetch PORT                        answer, LACPDU
+ *   ask PORT TICKS                    answer, Marker; by today's library alone
  *   port PORT                         answer, record
  *   aggregator NUMBER                 answer, holding, attached, distributing, count, lowest
  *   counters PORT                     0, the seven counters of struct myrkosti_counters, from zeros at the start on
- *   forward, back                     the table is moved to the other form, and the library of that form makes the calls from then on
+ *   forward, back                     the table goes to today's library, or to the one of before, which makes the calls from then on
  *
- * With the argument --mute it never sends: nothing is due, a fetch finds nothing, and a Marker gets no Response. With --yesterday it begins with the
- * library of yesterday, which counts nothing and whose records have zeros where today's have churn fields. A line that it cannot read ends it.
+ * With the argument --mute it never sends: nothing is due, a fetch and an ask find nothing, and a Marker gets no Response. With --yesterday it begins with
+ * the library of yesterday, which counts nothing and whose records have zeros where today's have churn fields; with --lately with that of lately. Both have
+ * zeros where today's tell of Markers of their own. A line that it cannot read ends it.
  */
 #include "myrkosti.h"
 
@@ -27,7 +29,7 @@
 
 enum { LINE = 8192, FRAME = 2048 };
 
-static const struct library *library = &TODAY;
+static const struct library *library = &TODAY, *before = &YESTERDAY; /* the one that makes the calls, and the one that today's goes back to */
 static uint8_t table[MYRKOSTI_TABLE(MYRKOSTI_PORTS)];
 static size_t size;
 static struct myrkosti_counters counters[MYRKOSTI_PORTS + 1]; /* of each port; the first is lent where the number is of none */
@@ -175,6 +177,14 @@ static void do_fetch(void)
     say_octets(answer, out, answer == MYRKOSTI_DONE ? sizeof out : 0);
 }
 
+static void do_ask(void)
+{
+    uint8_t out[MYRKOSTI_FRAME];
+    const uint32_t port = number(UINT32_MAX), ticks = number(UINT32_MAX);
+    const uint32_t answer = mute ? MYRKOSTI_NOT_DISTRIBUTING : myrkosti_ask(table, size, port, ticks, out, sizeof out);
+    say_octets(answer, out, answer == MYRKOSTI_DONE ? sizeof out : 0);
+}
+
 static void do_port(void)
 {
     uint8_t record[MYRKOSTI_RECORD] = {0};
@@ -198,15 +208,14 @@ static void do_counters(void)
            (unsigned)c->marker_responses_sent);
 }
 
-/* the table in the form of the other library, which goes on with it unless the move is refused; counters stay */
-static void change_library(const struct library *other, uint32_t (*move)(const uint8_t *, size_t, uint8_t *, size_t))
+/* the table as the other library has it, which goes on with it unless the move is refused; counters stay */
+static void change_library(const struct library *other)
 {
     uint8_t target[sizeof table];
-    const size_t target_size = other->table_size(table[0]);
-    const uint32_t answer = move(table, size, target, target_size);
+    const uint32_t answer = other == &TODAY ? load_today(library, table, target) : load_before(other, table, target);
     if (answer == MYRKOSTI_DONE) {
-        memcpy(table, target, target_size);
-        size = target_size;
+        size = other->table_size(table[0]);
+        memcpy(table, target, size);
         library = other;
     }
     say(answer);
@@ -214,12 +223,12 @@ static void change_library(const struct library *other, uint32_t (*move)(const u
 
 static void do_forward(void)
 {
-    change_library(&TODAY, myrkosti_forward);
+    change_library(&TODAY);
 }
 
 static void do_back(void)
 {
-    change_library(&YESTERDAY, myrkosti_back);
+    change_library(before);
 }
 
 static const struct {
@@ -227,7 +236,7 @@ static const struct {
     void (*act)(void);
 } COMMANDS[] = {
     {"start", do_start}, {"settings", do_settings}, {"line", do_line}, {"tick", do_tick},
-    {"receive", do_receive}, {"due", do_due}, {"fetch", do_fetch}, {"port", do_port}, {"aggregator", do_aggregator},
+    {"receive", do_receive}, {"due", do_due}, {"fetch", do_fetch}, {"ask", do_ask}, {"port", do_port}, {"aggregator", do_aggregator},
     {"counters", do_counters}, {"forward", do_forward}, {"back", do_back},
 };
 
@@ -246,8 +255,10 @@ int main(int count, char **arguments)
 {
     static char line[LINE];
     mute = count == 2 && strcmp(arguments[1], "--mute") == 0;
-    if (count == 2 && strcmp(arguments[1], "--yesterday") == 0)
-        library = &YESTERDAY;
+    if (count == 2 && strcmp(arguments[1], "--lately") == 0)
+        before = &LATELY;
+    if (count == 2 && (before == &LATELY || strcmp(arguments[1], "--yesterday") == 0))
+        library = before;
     setvbuf(stdout, NULL, _IOLBF, 0);
     while (fgets(line, sizeof line, stdin) != NULL)
         obey(line);

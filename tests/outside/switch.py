@@ -11,11 +11,14 @@ SLOW_ADDRESS = bytes.fromhex("0180c2000002")
 
 # Answers.
 DONE, LACP_OFF, FOREIGN, UNKNOWN, ILLEGAL, NOT_COLLECTING, NOTHING_TO_SEND, TOO_MANY_SENDS, RESPONSE = 0, 5, 6, 7, 8, 9, 10, 11, 12
+NOT_DISTRIBUTING, ALREADY_AWAITING = 13, 14
 # Receive and mux states.
 PORT_DISABLED, EXPIRED, LACP_DISABLED, DEFAULTED, CURRENT = 1, 2, 3, 4, 5
 DETACHED, WAITING, ATTACHED, COLLECTING, DISTRIBUTING = range(5)
 # Churn states.
 NO_CHURN, CHURN_MONITOR, CHURN = range(3)
+# What comes of a Marker of ours.
+NEVER_ASKED, AWAITING, ANSWERED, TIMED_OUT, CANCELLED = range(5)
 # The bits of a state octet, from bit 0.
 BITS = ("activity", "timeout", "aggregation", "synchronization", "collecting", "distributing", "defaulted", "expired")
 
@@ -105,12 +108,15 @@ class Record(NamedTuple):
     partner_churn_timer: int
     actor_churn_count: int
     partner_churn_count: int
+    marker: int
+    marker_timer: int
+    marker_number: int
 
-    LAYOUT = struct.Struct(">9BHHB3s6sHH15s15sBBHHII")
+    LAYOUT = struct.Struct(">9BHHB3s6sHH15s15sBBHHIIBHI")
 
     @classmethod
     def read(cls, octets):
-        """The record that these 71 octets are."""
+        """The record that these 78 octets are."""
         record = cls(*cls.LAYOUT.unpack(octets))
         return record._replace(default=Block.read(record.default), partner=Block.read(record.partner))
 
@@ -205,6 +211,10 @@ class Switch:
         """The answer to a fetch, and the LACPDU."""
         return self.framed("fetch", port)
 
+    def ask(self, port, ticks):
+        """The answer to an ask for a Marker, to be awaited for so many ticks, and the Marker."""
+        return self.framed("ask", port, ticks)
+
     def port(self, port):
         """The record of a port."""
         return Record.read(bytes.fromhex(self.done("port", port)[0]))
@@ -224,11 +234,11 @@ class Switch:
         return Counters(*map(int, self.done("counters", port)))
 
     def forward(self):
-        """Moves the table from the form of yesterday's library to that of today's, which goes on with it."""
+        """Gives the table from the library of before to that of today, which goes on with it."""
         self.done("forward")
 
     def back(self):
-        """Moves it back, and yesterday's library goes on."""
+        """Gives it back, and the library of before goes on."""
         self.done("back")
 
 

@@ -1,27 +1,34 @@
 """Frames of the library as tshark reads them, and frames of scapy as the library reads them.
 
-Tables are led through many situations. Every LACPDU and every Marker Response that the library gives out goes into a capture, beside what
+Tables are led through many situations. Every LACPDU, every Marker Response and every Marker that the library gives out goes into a capture, beside what
 the port's record and the requester's Marker say it must be; tshark reads the capture, and each field must be that. What the tables hear is
-built by scapy; what the records hold afterwards, and each answer, must be what document 01 says of the numbers that scapy was given. All of both goes
-into another capture, and the counters of each port must be what tshark counts there.
+built by scapy; what the records hold afterwards, and each answer, must be what document 01 says of the numbers that scapy was given. Responses to Markers of
+ours are among it, right ones and such as have one bit wrong. All of both goes into another capture, and the counters of each port must be what tshark
+counts there.
 
-Then the same checks run on what is wrong: each bit of an LACPDU and of a Response flipped, one at a time, and a capture that misses frames. They must
-find every one.
+Then the same checks run on what is wrong: each bit of an LACPDU, of a Response and of a Marker flipped, one at a time, and a capture that misses frames.
+They must find every one.
 """
 
 import json
 import random
+from collections import Counter
 
 from scapy.contrib.lacp import LACP, MarkerProtocol, SlowProtocol
 from scapy.layers.l2 import Ether
 
 from capture import CAPTURES, Captured, by_name, hold_counters, left_out, tshark, write_capture
-from switch import (BITS, COLLECTING, CURRENT, DISTRIBUTING, DONE, FOREIGN, ILLEGAL, LACP_OFF, NOBODY, NOT_COLLECTING, RESPONSE,
-                    SLOW_ADDRESS, UNKNOWN, Block, Checks, Counters, Settings, System, bit, run)
+from switch import (ALREADY_AWAITING, ANSWERED, AWAITING, BITS, CANCELLED, COLLECTING, CURRENT, DISTRIBUTING, DONE, FOREIGN, ILLEGAL,
+                    LACP_OFF, NOBODY, NOT_COLLECTING, NOT_DISTRIBUTING, RESPONSE, SLOW_ADDRESS, TIMED_OUT, UNKNOWN, Block, Checks, Counters,
+                    Settings, System, bit, run)
 
 WHOLE = 124
 PEER_ADDRESS = bytes.fromhex("02b1b2b3b4b5")
 TOURS, STEPS = 60, 25
+LONGEST_WAIT = 600
+# The bits of what a Marker and its Response name: the requester's port, system and transaction.
+REQUEST_BITS = 16 + 48 + 32
+KINDS = {1: "an LACPDU", (2, 2): "a Response", (2, 1): "a Marker"}
 
 # No octet comes twice in these, so that a swapped or shifted field shows.
 OURS = System(0x1112, bytes.fromhex("212223242526"), 0x3132)
@@ -70,10 +77,10 @@ def lacpdu_layers(source, actor, partner, delay):
     })
 
 
-def response_layers(source, port, system, transaction):
-    """A Marker Response of ours."""
+def marker_layers(kind, source, port, system, transaction):
+    """A Marker of ours (1) or a Marker Response (2)."""
     return layers(source, 2, "marker", {
-        "marker.version": "0x01", "marker.tlvType": ["0x02", "0x00"], "marker.tlvLen": ["0x10", "0x00"],
+        "marker.version": "0x01", "marker.tlvType": [f"0x{kind:02x}", "0x00"], "marker.tlvLen": ["0x10", "0x00"],
         "marker.requesterPort": str(port), "marker.requesterSystem": colons(system), "marker.requesterTransId": str(transaction),
         "marker.requesterPad": "0", "marker.reserved": colons(bytes(90)),
     })
@@ -130,10 +137,16 @@ def lacpdu(actor, partner, around=None, **changes):
 
 
 def marker(*requester, around=None, **changes):
-    """A Marker that scapy builds; of the last of REQUESTERS where none is named."""
+    """A Marker that scapy builds, or what the changes make of it; of the last of REQUESTERS where none is named."""
     port, system, transaction = requester or REQUESTERS[-1]
     fields = {"marker_type": 1, "requester_port": port, "requester_system": colons(system), "requester_transaction_id": transaction}
     return scapy_frame(contents=MarkerProtocol(**(fields | changes)), **({"subtype": 2} | (around or {})))
+
+
+def one_bit_wrong(place, port, system, transaction):
+    """A requester with this bit flipped, counted from the end: transaction, system, port."""
+    octets = (port << 80 | int.from_bytes(system, "big") << 32 | transaction) ^ 1 << place
+    return octets >> 80, (octets >> 32 & (1 << 48) - 1).to_bytes(6, "big"), octets & 0xffffffff
 
 
 # What a record must hold of a frame.
@@ -153,6 +166,7 @@ class Tour:
     def __init__(self, switch, checks):
         self.switch, self.checks = switch, checks
         self.frames, self.expected = [], []
+        self.ends = Counter()  # how often a Marker of ours ended in each way
 
     def send(self):
         """Fetches what is due; the record at the fetch says what the frame must be, and keeps all but NTT and the ages."""
@@ -180,7 +194,7 @@ class Tour:
         self.checks.equal("current-while timer", after.current_while, 30 if own.has("timeout") else 900)
         self.checks.equal("Defaulted and Expired", after.state & (bit("defaulted") | bit("expired")), 0)
 
-    def ask(self, port, *requester):
+    def hear_marker(self, port, *requester):
         """A Marker comes in: a port that collects answers it, another does not, and no record changes."""
         before = self.switch.port(port)
         answer, response = self.switch.receive(port, marker(*requester))
@@ -188,13 +202,64 @@ class Tour:
         self.checks.equal("record after a Marker", self.switch.port(port), before)
         if answer == DONE:
             self.frames.append(response)
-            self.expected.append(response_layers(before.address, *requester))
+            self.expected.append(marker_layers(2, before.address, *requester))
+
+    def ask(self, port, ticks):
+        """A Marker is asked for: a port that distributes and awaits none gives it, with its record's next number."""
+        before = self.switch.port(port)
+        answer, frame = self.switch.ask(port, ticks)
+        refusal = NOT_DISTRIBUTING if before.mux != DISTRIBUTING else ALREADY_AWAITING if before.marker == AWAITING else DONE
+        self.checks.equal("answer to an ask", answer, refusal)
+        if answer == DONE:
+            self.frames.append(frame)
+            self.expected.append(marker_layers(1, before.address, port, self.switch.system.address, before.marker_number))
+            before = before._replace(marker=AWAITING, marker_timer=ticks, marker_number=(before.marker_number + 1) % 2**32)
+        self.checks.equal("record after an ask", self.switch.port(port), before)
+
+    def hear_response(self, port, requester, expected):
+        """A Response comes in that scapy built for this requester: it is taken and ends the wait, or changes nothing."""
+        before = self.switch.port(port)
+        answer = self.switch.receive(port, marker(*requester, marker_type=2))
+        self.checks.equal("answer to a Response", answer, (expected, b""))
+        if expected == DONE:
+            before = before._replace(marker=ANSWERED, marker_timer=0)
+            self.ends[ANSWERED] += 1
+        self.checks.equal("record after a Response", self.switch.port(port), before)
+
+    def answer(self, port, wrong_bits):
+        """Responses to the last Marker of a port, with each of these bits wrong, on another port, right, and once more: one is taken, if one is awaited."""
+        record = self.switch.port(port)
+        requester = port, self.switch.system.address, (record.marker_number - 1) % 2**32
+        for place in wrong_bits:
+            self.hear_response(port, one_bit_wrong(place, *requester), RESPONSE)
+        for other in set(self.switch.ports) - {port}:
+            self.hear_response(other, requester, RESPONSE)
+        self.hear_response(port, requester, DONE if record.marker == AWAITING else RESPONSE)
+        self.hear_response(port, requester, RESPONSE)
+
+    def line(self, port, up, full):
+        """Link and duplex: a Marker that is awaited is cancelled where the link was up and one of them changes."""
+        before = self.switch.port(port)
+        self.switch.line(port, up, full)
+        ended = before.marker == AWAITING and before.link == 1 and (before.link, before.duplex) != (up, full)
+        self.ends[CANCELLED] += ended
+        after = self.switch.port(port)
+        self.checks.equal("outcome after a line", (after.marker, after.marker_timer),
+                          (CANCELLED, 0) if ended else (before.marker, before.marker_timer))
 
     def ticks(self, count):
-        """Time passes; what is due is sent."""
+        """Time passes, what is due is sent, and Markers time out."""
+        before = {port: self.switch.port(port) for port in self.switch.ports}
         for _ in range(count):
             self.switch.tick()
             self.send()
+        for port, record in before.items():
+            left = max(record.marker_timer - count, 0)
+            ended = record.marker == AWAITING and left == 0
+            self.ends[TIMED_OUT] += ended
+            outcome = TIMED_OUT if ended else record.marker
+            after = self.switch.port(port)
+            self.checks.equal("outcome after ticks", (after.marker, after.marker_timer, after.marker_number), (outcome, left, record.marker_number))
 
 
 def bring_up(tour, actor):
@@ -209,12 +274,17 @@ def bring_up(tour, actor):
 
 
 def walk(tour):
-    """A port goes up, answers Markers, and hears nothing until it is defaulted."""
+    """A port goes up, answers Markers, asks for some itself, to which Responses come with each bit wrong and then the right one, and hears nothing until it
+    is defaulted."""
     bring_up(tour, THEIRS)
     for requester in REQUESTERS:
-        tour.ask(1, *requester)
+        tour.hear_marker(1, *requester)
+    for _ in range(3):
+        tour.ask(1, LONGEST_WAIT)
+        tour.answer(1, range(REQUEST_BITS))
     tour.ticks(70)
-    tour.ask(1, *REQUESTERS[-1])
+    tour.hear_marker(1, *REQUESTERS[-1])
+    tour.ask(1, 1)
 
 
 def some_block(chance):
@@ -235,7 +305,7 @@ def some_settings(chance):
 def random_step(tour, chance, friends):
     """One random event on a random port, a good LACPDU being the likeliest."""
     switch, port = tour.switch, chance.choice(tour.switch.ports)
-    event = chance.choices(("good", "any", "marker", "ticks", "long", "line", "settings"), (8, 2, 3, 6, 1, 2, 1))[0]
+    event = chance.choices(("good", "any", "marker", "ask", "answer", "ticks", "long", "line", "settings"), (8, 2, 3, 3, 3, 6, 1, 2, 1))[0]
     if event == "good":
         state = chance.choice((0x0f, 0x1f, 0x3f, 0x3d, 0x3e, 0x07))
         tour.hear(port, friends[port]._replace(state=state), switch.actor(port))
@@ -243,13 +313,19 @@ def random_step(tour, chance, friends):
         tour.hear(port, some_block(chance), some_block(chance))
     elif event == "marker":
         collecting = [other for other in switch.ports if switch.port(other).mux in (COLLECTING, DISTRIBUTING)]
-        tour.ask(chance.choice([port, *collecting]), chance.getrandbits(16), chance.randbytes(6), chance.getrandbits(32))
+        tour.hear_marker(chance.choice([port, *collecting]), chance.getrandbits(16), chance.randbytes(6), chance.getrandbits(32))
+    elif event == "ask":
+        distributing = [other for other in switch.ports if switch.port(other).mux == DISTRIBUTING]
+        tour.ask(chance.choice([port, *distributing]), chance.choice((1, 5, 20, LONGEST_WAIT)))
+    elif event == "answer":
+        awaiting = [other for other in switch.ports if switch.port(other).marker == AWAITING]
+        tour.answer(chance.choice([port, *awaiting]), chance.sample(range(REQUEST_BITS), 3))
     elif event == "ticks":
         tour.ticks(chance.randint(1, 25))
     elif event == "long":
         tour.ticks(chance.choice((60, 310)))
     elif event == "line":
-        switch.line(port, up=chance.random() < 0.7, full=chance.random() < 0.7)
+        tour.line(port, up=chance.random() < 0.7, full=chance.random() < 0.7)
     else:
         switch.set(port, some_settings(chance))
     tour.send()
@@ -350,14 +426,20 @@ def flipped(frame):
         yield bytes(copy)
 
 
+def kind_of(frame):
+    """What a frame of ours is: the key of KINDS."""
+    return 1 if frame[14] == 1 else (frame[14], frame[16])
+
+
 def wrong_senders(frames, expected):
-    """One LACPDU and one Response with every bit flipped in turn: how many there are, and how many the check finds wrong."""
-    wanted = {frame[14]: (frame, dict(flat(tree))) for frame, tree in zip(frames, expected, strict=True)}
+    """One LACPDU, one Response and one Marker with every bit flipped in turn: how many there are, and how many the check finds wrong."""
+    last = {kind_of(frame): (frame, dict(flat(tree))) for frame, tree in zip(frames, expected, strict=True)}
+    wanted = {kind: last[kind] for kind in KINDS}
     copies = [(copy, fields) for frame, fields in wanted.values() for copy in flipped(frame)]
     found = read_capture(CAPTURES / "wrong.pcap", [copy for copy, _ in copies])
     missed = [number for number, (fields, (_, right)) in enumerate(zip(found, copies, strict=True)) if not wrong_fields(fields, right)]
     for number in missed:
-        print(f"not found: octet {number // 8 % WHOLE} bit {number % 8} of {'an LACPDU' if number < 8 * WHOLE else 'a Response'}")
+        print(f"not found: octet {number // 8 % WHOLE} bit {number % 8} of {list(KINDS.values())[number // (8 * WHOLE)]}")
     show_state_bits(found, *wanted[1])
     return len(copies), len(copies) - len(missed)
 
@@ -381,10 +463,12 @@ def wire(command):
         walk(tour)
         switch.pages()
     print(f"received: {checks.passed} checks on frames that scapy built")
+    checks.equal("ends that Markers of ours came to", {end for end in tour.ends if tour.ends[end]}, {ANSWERED, TIMED_OUT, CANCELLED})
+    print(f"Markers of ours: {tour.ends[ANSWERED]} answered, {tour.ends[TIMED_OUT]} timed out, {tour.ends[CANCELLED]} cancelled")
     found = judge(checks, tour.frames, tour.expected)
     every_state_bit(checks, found)
-    responses = sum(frame[14] == 2 for frame in tour.frames)
-    print(f"sent: {len(found) - responses} LACPDUs and {responses} Marker Responses, every field read by tshark")
+    sent = Counter(KINDS[kind_of(frame)] for frame in tour.frames)
+    print(f"sent: {sent['an LACPDU']} LACPDUs, {sent['a Response']} Marker Responses and {sent['a Marker']} Markers, every field read by tshark")
     places = hold_counters(checks, switch, CAPTURES / "counted.pcap")
     counted = by_name(places)
     checks.equal("counters that counted something", set(counted), set(Counters._fields))

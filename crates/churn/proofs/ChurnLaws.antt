@@ -8,7 +8,7 @@ use native.Mathlib.Omega.{arith}
 use lib.ListN.{getD}
 use lib.Dec.{leb, ltb}
 use borrow.Author.Tests.{leb-true, le-leb, lt-ltb, ltb-true}
-use Rattle.octets.specs.Octets.{Octets, numberAt, joined, high, low}
+use Rattle.octets.specs.Octets.{Octets, numberAt, joined, high, low, longAt}
 use Rattle.octets.proofs.Laws.{number-back}
 use Rattle.octets.proofs.RangeLaws.{both, both-true}
 use Rattle.machine.specs.States.{ticks}
@@ -23,7 +23,7 @@ use Rattle.churn.specs.declared.watch.ChurnStep.the-variants.{Stay, Ente
 use Rattle.churn.specs.declared.watch.Watch.{Watch}
 use Rattle.churn.specs.declared.watch.Monitors.{Monitors}
 use Rattle.churn.specs.Churn.{churnDetectionTime, watch, monitors, churnNext, churnEntered, churnTaken, churnChoice, watched, watching, watchFallen, monitorsFallen, bothBegun}
-use Rattle.churn.specs.Group.{churnCode, churnOf, longAt, groupOctets, groupOf, groupInRange, watchFits, monitorsFit}
+use Rattle.churn.specs.Group.{churnCode, churnOf, groupOctets, groupOf, groupInRange, watchFits, monitorsFit}
 use Rattle.churn.specs.Whole.{prepared}
 
 -- ---- a run leads to rest

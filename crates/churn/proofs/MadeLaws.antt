@@ -8,7 +8,7 @@ use lib.ListN.{length, take, drop, getD, length-append, length-drop}
 use lib.Seq.{getD-take, take-at, drop-at, take-all, take-append-le, drop-append-le, drop-append-add}
 use lib.Dec.{eqb, leb, ltb}
 use borrow.Author.Tests.{eqb-true, eqb-false, eq-eqb, leb-true, ltb-true, lt-ltb}
-use Rattle.octets.specs.Octets.{Octets, numberOctets}
+use Rattle.octets.specs.Octets.{Octets, numberOctets, longOctets}
 use Rattle.octets.proofs.OctetLists.{octets-of, append-octets, take-octets, drop-octets}
 use Rattle.octets.proofs.RangeLaws.{both, both-true, number-octets}
 use Rattle.table.specs.Layout.{place}
@@ -18,7 +18,7 @@ use Rattle.churn.specs.declared.Stage.the-variants.{Start}
 use Rattle.churn.specs.declared.watch.Churn.{Churn as State}
 use Rattle.churn.specs.declared.watch.Churn.the-variants.{NoChurn, Monitor, Churn}
 use Rattle.churn.specs.declared.watch.Monitors.{Monitors}
-use Rattle.churn.specs.Group.{groupSize, churnCode, longOctets, watchFits, groupOctets, groupOf, groupInRange, monitorsFit}
+use Rattle.churn.specs.Group.{groupSize, churnCode, watchFits, groupOctets, groupOf, groupInRange, monitorsFit}
 use Rattle.churn.specs.Churn.{churnDetectionTime, bothBegun}
 use Rattle.churn.specs.Whole.{groupPlace, wholeSize, baseOf, groupAt, monitorsAt, groupsTo, withMonitors, groupsInRange, hasMonitors, prepared, watchedAt, watchedAll}
 use Rattle.churn.proofs.ChurnLaws.{group-back, group-ranged, group-fits, watching-fit, begun-fit, prepared-fit}

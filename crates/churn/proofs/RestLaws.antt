@@ -9,7 +9,7 @@ use lib.ListN.{length, take, drop, getD, length-drop, take-append-drop}
 use lib.Seq.{length-take-le, drop-drop}
 use lib.Dec.{eqb, leb}
 use borrow.Author.Tests.{eqb-true, le-leb, leb-true}
-use Rattle.octets.specs.Octets.{Octets, putAt, numberAt, numberOctets, word, wordAt}
+use Rattle.octets.specs.Octets.{Octets, putAt, numberAt, numberOctets, word, wordAt, longAt}
 use Rattle.octets.proofs.Laws.{spread-all}
 use Rattle.octets.proofs.OctetLists.{first-back, second-back, take-octets, drop-octets}
 use Rattle.octets.proofs.RangeLaws.{both}
@@ -22,7 +22,7 @@ use Rattle.churn.specs.declared.watch.Churn.{Churn as State}
 use Rattle.churn.specs.declared.watch.Churn.the-variants.{NoChurn, Monitor, Churn}
 use Rattle.churn.specs.declared.watch.Monitors.{Monitors}
 use Rattle.churn.specs.Churn.{watch, monitors, watched, churnChoice, watching, monitorsFallen}
-use Rattle.churn.specs.Group.{groupSize, churnCode, churnOf, longAt, groupOctets, groupOf, groupInRange}
+use Rattle.churn.specs.Group.{groupSize, churnCode, churnOf, groupOctets, groupOf, groupInRange}
 use Rattle.churn.specs.Rest.{begins, stayCode, isStill, isFresh, rests, restTo}
 use Rattle.churn.specs.Whole.{groupPlace, wholeSize, baseOf, groupAt, monitorsAt, prepared, watchedAt}
 use Rattle.churn.proofs.WholeLaws.{done, done-none, done-more}

@@ -1,10 +1,10 @@
 -- The octets of a port's two monitors, both ways, and their ranges.
-use Prim.Native.Nat.{ℕ, _+_, _*_, _/_, _%_}
+use Prim.Native.Nat.{ℕ}
 use mathlib.Core.Bool.{Bool, cond, _&&_}
 use mathlib.Core.List.{List, _∷_, _++_}
 use lib.ListN.{getD}
 use lib.Dec.{eqb, leb, ltb}
-use Rattle.octets.specs.Octets.{numberAt, numberOctets}
+use Rattle.octets.specs.Octets.{numberAt, numberOctets, longAt, longOctets}
 use Rattle.machine.specs.States.{ticks}
 use Rattle.churn.specs.declared.watch.Churn.{Churn as State}
 use Rattle.churn.specs.declared.watch.Churn.the-variants.{NoChurn, Monitor, Churn}
@@ -24,13 +24,6 @@ churnCode Churn = 2
 
 abbrev pub churnOf : ℕ → State
 churnOf n = cond (eqb n 1) Monitor (cond (eqb n 2) Churn NoChurn)
-
--- a number of four octets, high octet first
-abbrev pub longOctets : ℕ → List ℕ
-longOctets n = numberOctets (n / 65536) ++ numberOctets (n % 65536)
-
-abbrev pub longAt : List ℕ → ℕ → ℕ
-longAt l i = numberAt l i * 65536 + numberAt l (i + 2)
 
 -- octets 0 and 1: the states, the actor's first; 2 to 5: the timers; 6 to 13: the counts
 unfoldable pub groupOctets : Monitors → List ℕ

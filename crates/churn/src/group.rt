@@ -1,15 +1,16 @@
 // The octets of a port's two monitors.
 ghost use mathlib.Core.Path.{_≡_};
-ghost use Prim.Native.Nat.{_+_, _≤_};
+ghost use Prim.Native.Nat.{_≤_};
 ghost use lib.ListN.{length};
-ghost use Rattle.octets.specs.Octets.{putAt};
-ghost use Rattle.churn.specs.Group.{groupSize, churnCode, churnOf, longOctets, longAt, groupOctets, groupOf, groupInRange};
+ghost use Rattle.churn.specs.Group.{groupSize, churnCode, churnOf, groupOctets, groupOf, groupInRange};
 ghost use Rattle.churn.specs.Rest.{stayCode, isStill, isFresh};
 use crate::watch::CHURN_DETECTION_TIME;
 use crate::watch::Churn;
 use crate::watch::Monitors;
 use crate::watch::Watch;
 use machine::states::Ticks;
+use octets::longs::long;
+use octets::longs::put_long;
 
 // The octets of a group.
 pub const GROUP: usize = 14;
@@ -36,29 +37,6 @@ fn churn_of(n: u8) -> Churn
         2 => Churn::Churn,
         _ => Churn::NoChurn,
     }
-}
-
-fn wide(n: u16) -> u32
-    ensures { λ r. ⌜ (r ≡ n) × (r ≤ 65535) ⌝ }
-{
-    n as u32
-}
-
-// The number of four octets at index `at`.
-fn long(s: &[u8], at: usize) -> u32
-    requires { ⌜ at + 4 ≤ length (now s) ⌝ }
-    ensures { λ r. ⌜ r ≡ longAt (now (s .entry)) at ⌝ }
-{
-    wide(octets::number(s, at)) * 65536 + wide(octets::number(s, at + 2))
-}
-
-// Writes a number of four octets at index `at`.
-fn put_long(dst: &mut [u8], at: usize, n: u32)
-    requires { ⌜ at + 4 ≤ length (now dst) ⌝ }
-    ensures { λ _. ⌜ now (dst .exit) ≡ putAt at (longOctets n) (now (dst .entry)) ⌝ }
-{
-    octets::put_number(dst, at, (n / 65536) as u16);
-    octets::put_number(dst, at + 2, (n % 65536) as u16);
 }
 
 // The monitors that a group's octets tell of.

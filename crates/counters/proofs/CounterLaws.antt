@@ -16,7 +16,7 @@ use Rattle.machine.specs.Count.{counted}
 use Rattle.machine.specs.Mux.{collects, distributes}
 use Rattle.table.specs.Table.{tableInRange, portAt}
 use Rattle.control.specs.declared.answer.Answer.{Answer}
-use Rattle.control.specs.declared.answer.Answer.the-variants.{Lacpdu, Marker, Refused}
+use Rattle.control.specs.declared.answer.Answer.the-variants.{Done, Lacpdu, Marker, Refused}
 use Rattle.control.specs.declared.answer.Reason.{Reason}
 use Rattle.control.specs.declared.answer.Reason.the-variants as reason
 use Rattle.control.specs.Accepted.{accepted}
@@ -85,6 +85,11 @@ module _ (c : Counters) where
   -- where there is no table
   pub rose-nowhere : Rose (Refused reason.Table) c
   rose-nowhere = as-refused reason.Table refl
+
+  -- where a Response is accepted
+  pub rose-done : Rose Done c
+  unfolding received
+  rose-done = record { carry = (c .responses + 1) / 4294967296; is = omega arith }
 
   -- of any receive, in any memory
   pub rose : (n : ℕ) (frame out t : List ℕ) → Rose (answer (receive n frame out) t) c

@@ -19,6 +19,13 @@ isMarker Lacpdu = false
 isMarker Marker = true
 isMarker (Refused r) = false
 
+-- an accepted Response: no other receive is answered so
+abbrev pub isDone : Answer → Bool
+isDone Done = true
+isDone Lacpdu = false
+isDone Marker = false
+isDone (Refused r) = false
+
 -- which answers to a receive count where: 0 by the frame's kind, 5 as LACPDU, 9 as Marker, 12 as Response, 7 as unknown, 8 as illegal
 abbrev pub asLacpdu : Answer → Bool
 asLacpdu a = isLacpdu a || eqb (answerNumber a) 5
@@ -27,7 +34,7 @@ abbrev pub asMarker : Answer → Bool
 asMarker a = isMarker a || eqb (answerNumber a) 9
 
 abbrev pub asResponse : Answer → Bool
-asResponse a = eqb (answerNumber a) 12
+asResponse a = isDone a || eqb (answerNumber a) 12
 
 abbrev pub asUnknown : Answer → Bool
 asUnknown a = eqb (answerNumber a) 7

@@ -1,6 +1,6 @@
 // The counters of a port's page (30.7.3): a small record that is lent to the calls that receive and fetch, and is no part of the table.
 ghost use mathlib.Core.Path.{_≡_};
-ghost use Rattle.counters.specs.Counters.{isMarker, asLacpdu, asMarker, countedIf, received, fetched};
+ghost use Rattle.counters.specs.Counters.{isMarker, isDone, asLacpdu, asMarker, asResponse, countedIf, received, fetched};
 use control::answer::Answer;
 use machine::count::one_more;
 
@@ -54,6 +54,26 @@ fn as_marker(a: Answer) -> bool
     a.number() == 9
 }
 
+fn is_done(a: Answer) -> bool
+    ensures { λ r. ⌜ r ≡ isDone a ⌝ }
+{
+    match a {
+        Answer::Done => true,
+        Answer::Lacpdu => false,
+        Answer::Marker => false,
+        Answer::Refused(_) => false,
+    }
+}
+
+fn as_response(a: Answer) -> bool
+    ensures { λ r. ⌜ r ≡ asResponse a ⌝ }
+{
+    if is_done(a) {
+        return true;
+    }
+    a.number() == 12
+}
+
 impl Counters {
     // After a receive with this answer.
     pub fn received(self, a: Answer) -> Counters
@@ -63,7 +83,7 @@ impl Counters {
         Counters {
             lacpdus: counted_if(as_lacpdu(a), self.lacpdus),
             markers: counted_if(as_marker(a), self.markers),
-            responses: counted_if(n == 12, self.responses),
+            responses: counted_if(as_response(a), self.responses),
             unknown: counted_if(n == 7, self.unknown),
             illegal: counted_if(n == 8, self.illegal),
             sent: self.sent,

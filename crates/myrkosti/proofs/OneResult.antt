@@ -4,7 +4,7 @@ use mathlib.Core.Path.{_≡_, sym, _∙_}
 use mathlib.Core.List.{List}
 use Rattle.control.specs.Call.{fetch, receive}
 use Rattle.counters.specs.declared.Counters.{Counters}
-use Rattle.whole.proofs.OneResult.{one-number-out, one-frame}
+use Rattle.asked.proofs.OneResult.{one-number-out, one-frame}
 use Rattle.myrkosti.specs.Counted.{MeetsFetch, MeetsReceive}
 
 module _ (port : ℕ) (out w : List ℕ) (k : Counters) (n m : ℕ) (u v o q : List ℕ) (l j : Counters) where

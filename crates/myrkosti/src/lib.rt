@@ -1,10 +1,10 @@
-// The C interface (include/myrkosti.h): each call of `whole` with numbers and lent octets. A call answers its number (R2).
+// The C interface (include/myrkosti.h): each call of `asked` with numbers and lent octets. A call answers its number (R2).
 ghost use mathlib.Core.Path.{_≡_};
 ghost use Rattle.control.specs.Call.{start as Call·start, tick as Call·tick, line as Call·line, configure as Call·configure};
-ghost use Rattle.whole.specs.Meets.{MeetsNumber, MeetsRecord, MeetsAggregator, MeetsDue};
-ghost use Rattle.whole.specs.Moves.{MeetsForwardNumber, MeetsBackNumber};
-ghost use Rattle.whole.specs.Report.{wholePublished};
-ghost use Rattle.table.specs.Layout.{publishedSize};
+ghost use Rattle.asked.specs.Layer.{oldLayer, newLayer};
+ghost use Rattle.asked.specs.Meets.{MeetsNumber, MeetsAskNumber, MeetsRecord, MeetsAggregator, MeetsDue};
+ghost use Rattle.asked.specs.Moves.{MeetsForwardNumber, MeetsBackNumber};
+ghost use Rattle.asked.specs.Report.{askedPublished};
 ghost use Rattle.myrkosti.specs.Arguments.{settingsOf, systemOf, delayOf};
 ghost use Rattle.myrkosti.specs.Counted.{MeetsFetch, MeetsReceive};
 ghost use Rattle.myrkosti.specs.Version.{interfaceVersion};
@@ -20,15 +20,15 @@ use settings::Settings;
 pub extern "C" fn myrkosti_version() -> u32
     ensures { λ r. ⌜ r ≡ interfaceVersion ⌝ }
 {
-    0x0200
+    0x0201
 }
 
 // The octets that a table of `ports` ports has; 0 for a count outside 1 to 32.
 #[no_mangle]
 pub extern "C" fn myrkosti_table_size(ports: u32) -> u32
-    ensures { λ r. ⌜ r ≡ wholePublished ports ⌝ }
+    ensures { λ r. ⌜ r ≡ askedPublished newLayer ports ⌝ }
 {
-    whole::table_size(ports)
+    asked::table_size(ports)
 }
 
 // A tenth of a second has passed.
@@ -36,7 +36,7 @@ pub extern "C" fn myrkosti_table_size(ports: u32) -> u32
 pub extern "C" fn myrkosti_tick(table: &mut [u8]) -> u32
     ensures { λ r. ⌜ MeetsNumber Call·tick (now (table .entry)) r (now (table .exit)) ⌝ }
 {
-    let a = whole::tick(table);
+    let a = asked::tick(table);
     a.number() as u32
 }
 
@@ -45,7 +45,7 @@ pub extern "C" fn myrkosti_tick(table: &mut [u8]) -> u32
 pub extern "C" fn myrkosti_line(table: &mut [u8], port: u32, up: bool, full: bool) -> u32
     ensures { λ r. ⌜ MeetsNumber (Call·line port (record { up = up; full = full })) (now (table .entry)) r (now (table .exit)) ⌝ }
 {
-    let a = whole::line(table, port, up, full);
+    let a = asked::line(table, port, up, full);
     a.number() as u32
 }
 
@@ -58,7 +58,7 @@ pub struct Counted {
 fn fetch_counted(table: &mut [u8], port: u32, out: &mut [u8], counters: Counters) -> Counted
     ensures { λ r. ⌜ MeetsFetch port (now (out .entry)) (now (table .entry)) counters (r .number) (now (table .exit)) (now (out .exit)) (r .counters) ⌝ }
 {
-    let a = whole::fetch(table, port, out);
+    let a = asked::fetch(table, port, out);
     Counted {
         number: a.number() as u32,
         counters: counters.fetched(a),
@@ -93,7 +93,7 @@ fn receive_counted(
         (r .number) (now (table .exit)) (now (out .exit)) (now (sent .exit)) (r .counters)
         ⌝ }
 {
-    let a = whole::receive(table, port, frame, out);
+    let a = asked::receive(table, port, frame, out);
     *sent = a.length_sent() as u32;
     Counted {
         number: a.number() as u32,
@@ -119,6 +119,15 @@ pub extern "C" fn myrkosti_receive(
     let r = receive_counted(table, port, frame, out, sent, *counters);
     *counters = r.counters;
     r.number
+}
+
+// Asks for a Marker on a port, to be awaited for so many ticks, and writes it into `out`.
+#[no_mangle]
+pub extern "C" fn myrkosti_ask(table: &mut [u8], port: u32, ticks: u32, out: &mut [u8]) -> u32
+    ensures { λ r. ⌜ MeetsAskNumber port ticks (now (out .entry)) (now (table .entry)) r (now (table .exit)) (now (out .exit)) ⌝ }
+{
+    let a = asked::ask(table, port, ticks, out);
+    a.number() as u32
 }
 
 // A port's settings as numbers and lent octets.
@@ -173,7 +182,7 @@ pub extern "C" fn myrkosti_settings(
         aggregation,
         partner,
     );
-    let a = whole::configure(table, port, s);
+    let a = asked::configure(table, port, s);
     a.number() as u32
 }
 
@@ -182,7 +191,7 @@ pub extern "C" fn myrkosti_settings(
 pub extern "C" fn myrkosti_port(table: &[u8], port: u32, record: &mut [u8]) -> u32
     ensures { λ r. ⌜ MeetsRecord port (now (table .entry)) (now («record» .entry)) r (now («record» .exit)) ⌝ }
 {
-    let a = whole::report_port(table, port, record);
+    let a = asked::report_port(table, port, record);
     a.number() as u32
 }
 
@@ -199,7 +208,7 @@ pub extern "C" fn myrkosti_aggregator(
 ) -> u32
     ensures { λ r. ⌜ MeetsAggregator aggregator (now (table .entry)) r (now (holding .exit)) (now (attached .exit)) (now (distributing .exit)) (now (count .exit)) (now (lowest .exit)) ⌝ }
 {
-    let r = whole::report_aggregator(table, aggregator);
+    let r = asked::report_aggregator(table, aggregator);
     *holding = r.sets.holding;
     *attached = r.sets.attached;
     *distributing = r.sets.distributing;
@@ -214,7 +223,7 @@ pub extern "C" fn myrkosti_aggregator(
 pub extern "C" fn myrkosti_due(table: &[u8], ports: &mut u32) -> u32
     ensures { λ r. ⌜ MeetsDue (now (table .entry)) r (now (ports .exit)) ⌝ }
 {
-    let r = whole::report_due(table);
+    let r = asked::report_due(table);
     *ports = r.ports;
     let a = r.answer;
     a.number() as u32
@@ -256,7 +265,7 @@ pub extern "C" fn myrkosti_start(
         aggregation,
         partner,
     );
-    let a = whole::start(table, ports, id, TensOfMicroseconds(collector_max_delay), s);
+    let a = asked::start(table, ports, id, TensOfMicroseconds(collector_max_delay), s);
     a.number() as u32
 }
 
@@ -265,9 +274,9 @@ pub extern "C" fn myrkosti_start(
 // The octets that a table of `ports` ports has in the old form, without monitors; 0 for a count outside 1 to 32.
 #[no_mangle]
 pub extern "C" fn myrkosti_old_table_size(ports: u32) -> u32
-    ensures { λ r. ⌜ r ≡ publishedSize ports ⌝ }
+    ensures { λ r. ⌜ r ≡ askedPublished oldLayer ports ⌝ }
 {
-    table::layout::table_size(ports)
+    asked::old_table_size(ports)
 }
 
 // Writes a table of the old form into other memory, in the form of today: its monitors begin afresh.
@@ -275,7 +284,7 @@ pub extern "C" fn myrkosti_old_table_size(ports: u32) -> u32
 pub extern "C" fn myrkosti_forward(old_table: &[u8], new_table: &mut [u8]) -> u32
     ensures { λ r. ⌜ MeetsForwardNumber (now («old_table» .entry)) (now («new_table» .entry)) r (now («new_table» .exit)) ⌝ }
 {
-    let a = whole::forward(old_table, new_table);
+    let a = asked::forward(old_table, new_table);
     a.number() as u32
 }
 
@@ -284,6 +293,6 @@ pub extern "C" fn myrkosti_forward(old_table: &[u8], new_table: &mut [u8]) -> u3
 pub extern "C" fn myrkosti_back(new_table: &[u8], old_table: &mut [u8]) -> u32
     ensures { λ r. ⌜ MeetsBackNumber (now («new_table» .entry)) (now («old_table» .entry)) r (now («old_table» .exit)) ⌝ }
 {
-    let a = whole::back(new_table, old_table);
+    let a = asked::back(new_table, old_table);
     a.number() as u32
 }

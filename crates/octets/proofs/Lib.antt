@@ -4,3 +4,4 @@ pub mod OctetLists
 pub mod RangeLaws
 pub mod SetLaws
 pub mod WordLaws
+pub mod RowLaws

@@ -1,3 +1,4 @@
 pub mod Octets
 pub mod Lists
 pub mod Sets
+pub mod Rows

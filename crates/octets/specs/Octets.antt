@@ -42,6 +42,13 @@ joined h l = h * 256 + l
 abbrev pub numberAt : List ℕ → ℕ → ℕ
 numberAt l i = joined (getD l i 0) (getD l (i + 1) 0)
 
+-- the same of four octets
+abbrev pub longOctets : ℕ → List ℕ
+longOctets n = numberOctets (n / 65536) ++ numberOctets (n % 65536)
+
+abbrev pub longAt : List ℕ → ℕ → ℕ
+longAt l i = numberAt l i * 65536 + numberAt l (i + 2)
+
 -- the number that octets make, the first of them the lowest, and the one of four at index i
 unfoldable pub word : List ℕ → ℕ
 word [] = 0

@@ -5,6 +5,7 @@ ghost use Prim.Native.Nat.{_+_, _≤_, _<_};
 ghost use lib.ListN.{length};
 ghost use Rattle.octets.specs.Octets.{putAt, fitted, sameOctets, numberAt, numberOctets, high, low, wordAt};
 
+pub mod longs;
 pub mod sets;
 
 // Writes src over dst's octets from index `at` on; every other octet of dst stays.

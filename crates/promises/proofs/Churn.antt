@@ -33,7 +33,8 @@ use Rattle.claims.proofs.Counts.{run-count}
 use Rattle.promises.specs.Run.{Held, old, new, Step, call, forward, back, recordsOf, stepped, through, StepTakes, AllStepsTake, callsOf, FromStart}
 use Rattle.promises.specs.Whole.{WholeSound, HeldSound}
 use Rattle.promises.specs.Churn.{Seen, seenOf, seenAt, seenIn, churnIn, eventOf, eventIn, churnAfter, churnAfterStep, ChurnFollows, ChurnAfterTwice, Happening, history, churns, HasPort, TwoRuns, sameSeen, sameSight, isOther, isIdle, shortened, TwoRunsShortened}
-use Rattle.promises.proofs.Whole.{lost-after, lost-answer, idle-seen, joined, join-base, join-count, join-whole, join-monitors, room-after, whole, whole-is, whole-fits, base-call}
+use Rattle.whole.proofs.FrontLaws.{lost-after, lost-answer}
+use Rattle.promises.proofs.Whole.{idle-seen, joined, join-base, join-count, join-whole, join-monitors, room-after, whole, whole-is, whole-fits, base-call}
 use Rattle.promises.proofs.Run.{held-never-stuck, start-sound, step-goes, records-sound, calls-take, not-old, went-forward, stood-forward, new-forward, old-back, went-back, stood-back}
 
 -- ---- the function

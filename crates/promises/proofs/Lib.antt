@@ -1,8 +1,14 @@
 pub mod Typed
 pub mod Whole
 pub mod Run
+pub mod Joined
+pub mod Asked
+pub mod Asks
+pub mod Ends
 pub mod Churn
+pub mod Fronts
 pub mod Demands
+pub mod Library
 pub mod Counts
 pub mod Through
 pub mod Witness

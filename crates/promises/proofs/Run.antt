@@ -21,7 +21,6 @@ use Rattle.control.specs.Call.{Call, start, receive, tick, line, configure, fet
 use Rattle.control.specs.Accepted.{accepted}
 use Rattle.control.specs.After.{answer, after}
 use Rattle.control.proofs.CallLaws.{after-accepted}
-use Rattle.whole.specs.Calls.{wholeAnswer, wholeAfter}
 use Rattle.whole.specs.Moves.{movedForward, goesForward, goesBack, forwardAnswer, forwardTo, backAnswer, backTo}
 use Rattle.whole.specs.Report.{wholeAggregator, wholeDue}
 use Rattle.whole.proofs.CallLaws.{whole-size}
@@ -30,7 +29,7 @@ use Rattle.claims.specs.Run.{Takes, AllTake, run}
 use Rattle.claims.specs.AtRest.{Sound}
 use Rattle.claims.specs.ThreeSends.{sends, sendsOf as sendsBefore}
 use Rattle.claims.proofs.Calls.{call-sound, started-sound}
-use Rattle.promises.specs.Run.{Held, old, new, Step, call, forward, back, recordsOf, stepped, through, StepTakes, AllStepsTake, callsOf, FromStart, HeldMade, OldMade, WholeMade}
+use Rattle.promises.specs.Run.{Held, old, new, Step, call, forward, back, recordsOf, stepped, through, StepTakes, AllStepsTake, callsOf, FromStart, HeldMade}
 use Rattle.promises.specs.Whole.{WholeSound, HeldSound, HeldNeverStuck, BaseCall, BaseCalls, BaseRuns, BaseMade, BaseReported}
 use Rattle.promises.specs.Through.{sendsOf}
 use Rattle.promises.proofs.Whole.{whole-call, base-call, whole-started, start-done, start-leaves}
@@ -164,19 +163,19 @@ calls-take (back u ∷ ss) k = calls-take ss (k .1)
 -- ---- a run from a start
 
 -- the table that a start leaves is sound, and its records are what a start of `control` leaves, on some memory
-record Started (h : Held) : Type 0 where
-  sound : HeldSound h
-  memory : List ℕ
-  octets : Octets memory
-  count : ℕ
-  system : SystemId
-  delay : TensOfMicroseconds
-  settings : Settings
-  takes : Takes (start count system delay settings)
-  starts : accepted (answer (start count system delay settings) memory) ≡ true
-  leaves : after (start count system delay settings) memory ≡ recordsOf h
+pub record Started (h : Held) : Type 0 where
+  pub sound : HeldSound h
+  pub memory : List ℕ
+  pub octets : Octets memory
+  pub count : ℕ
+  pub system : SystemId
+  pub delay : TensOfMicroseconds
+  pub settings : Settings
+  pub takes : Takes (start count system delay settings)
+  pub starts : accepted (answer (start count system delay settings) memory) ≡ true
+  pub leaves : after (start count system delay settings) memory ≡ recordsOf h
 
-started : (h : Held) (c : Call) (ss : List Step) → FromStart h c ss → Started (stepped (call c) h)
+unfoldable pub started : (h : Held) (c : Call) (ss : List Step) → FromStart h c ss → Started (stepped (call c) h)
 unfolding stepped
 started (old m) (start count system delay x) ss f = record {
   sound =
@@ -262,7 +261,7 @@ pub records-sound : (h : Held) → HeldSound h → Sound (recordsOf h)
 records-sound (old t) s = s
 records-sound (new w) s = s .base
 
-sound-call : (h : Held) → HeldSound h → (c : Call) → Takes c → BaseCall c h
+pub sound-call : (h : Held) → HeldSound h → (c : Call) → Takes c → BaseCall c h
 unfolding stepped
 sound-call (old t) s c k = record { answers = refl; leaves = refl; sends = refl }
 sound-call (new w) s c k = base-call w s c k
@@ -297,26 +296,6 @@ made-by-step h m s k = record {
   };
   gives = through-more (m .memory) (call (m .start) ∷ m .steps) s ∙ ap (stepped s) (m .gives);
 }
-
--- ---- the same of the program's calls
-
-pub whole-made-start : (m : List ℕ) → Octets m → (count : ℕ) (system : SystemId) (delay : TensOfMicroseconds) (x : Settings)
-    → Takes (start count system delay x) → accepted (wholeAnswer (start count system delay x) m) ≡ true → WholeMade (wholeAfter (start count system delay x) m)
-unfolding stepped
-whole-made-start m o count system delay x k e =
-    made-by-start (new m) (start count system delay x) (record { octets = o; isStart = refl; accepted = e; takes = (k, tt) })
-
-pub whole-made-call : (w : List ℕ) → WholeMade w → (c : Call) → Takes c → WholeMade (wholeAfter c w)
-unfolding stepped
-whole-made-call w m c k = made-by-step (new w) m (call c) k
-
-pub made-forward : (t : List ℕ) → OldMade t → (u : List ℕ) → Octets u → accepted (forwardAnswer t u) ≡ true → WholeMade (forwardTo t u)
-unfolding stepped
-made-forward t m u o e = subst HeldMade (rw e) (made-by-step (old t) m (forward u) o)
-
-pub made-back : (w : List ℕ) → WholeMade w → (u : List ℕ) → Octets u → accepted (backAnswer w u) ≡ true → OldMade (backTo w u)
-unfolding stepped
-made-back w m u o e = subst HeldMade (rw e) (made-by-step (new w) m (back u) o)
 
 -- ---- reports
 

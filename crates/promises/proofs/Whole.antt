@@ -1,11 +1,11 @@
 -- A call keeps a table with monitors in range and at rest, and with the monitors dropped it is the call on the table without them: the front of the memory is what
 -- that call leaves, and the machines then run write behind it alone. Assumes nothing.
-use Prim.Native.Nat.{ℕ, _+_, _-_, _<_}
+use Prim.Native.Nat.{ℕ, _-_, _<_}
 use mathlib.Core.Path.{_≡_, refl, sym, ap, _∙_, subst}
 use mathlib.Core.Bool.{Bool, true, false, cond, not, _&&_, false≢true, true≢false}
 use mathlib.Core.List.{List, [], _++_}
 use native.Mathlib.Omega.{arith}
-use lib.ListN.{length, take, drop, set, take-append-drop}
+use lib.ListN.{length, take, drop, set}
 use lib.Dec.{eqb}
 use borrow.Author.Tests.{eqb-true, eqb-false, eq-eqb}
 use Rattle.octets.specs.Octets.{Octets, within}
@@ -33,16 +33,16 @@ use Rattle.churn.proofs.WholeLaws.{base-count, base-length}
 use Rattle.churn.proofs.MadeLaws.{watched-base, watched-count, watched-monitors, watched-has, watched-octets, begun-has, begun-octets}
 use Rattle.control.specs.declared.answer.Answer.{Answer}
 use Rattle.control.specs.declared.answer.Answer.the-variants.{Done, Lacpdu, Marker, Refused}
-use Rattle.control.specs.declared.answer.Reason.{Reason}
 use Rattle.control.specs.declared.answer.Reason.the-variants as reason
 use Rattle.control.specs.Accepted.{accepted, isLacpdu}
 use Rattle.control.specs.Answer.{withDefault, withRoom, dueAnswer}
-use Rattle.control.specs.Call.{Call, start, receive, tick, line, configure, fetch, report, aggregator, due as dueCall, isStart}
-use Rattle.control.specs.After.{answer, after, afterFrame, bufferOf, outgoing, changedBy, unless, effect}
+use Rattle.control.specs.Call.{Call, start, receive, tick, line, configure, fetch, report, aggregator, due as dueCall}
+use Rattle.control.specs.After.{answer, after, afterFrame, changedBy, unless, effect}
 use Rattle.control.proofs.CallLaws.{after-accepted, refused-table, refused-buffer, named}
 use Rattle.control.proofs.CountLaws.{started-count, keptIf}
-use Rattle.whole.specs.Calls.{countFor, isWholeRoom, hasRoom, settles, stageOf, watchedIf, wholeAnswer, wholeAfter, wholeOutgoing}
+use Rattle.whole.specs.Calls.{countFor, isWholeRoom, hasRoom, settles, stageOf, watchedIf, wholeAnswer, wholeAfter}
 use Rattle.whole.proofs.CallLaws.{whole-size, room-size}
+use Rattle.whole.proofs.FrontLaws.{lost-after, lost-answer, lost-out, accepted-room, front-answer, front-out, front-after, whole-refused}
 use Rattle.whole.proofs.JoinLaws.{joined-count, joined-whole, joined-base, joined-monitors, joined-has}
 use Rattle.claims.specs.Run.{Takes}
 use Rattle.claims.specs.AtRest.{Sound}
@@ -52,104 +52,15 @@ use Rattle.claims.proofs.Counts.{call-count}
 use Rattle.claims.proofs.Locality.{again-at}
 use Rattle.claims.proofs.Views.{set-view}
 use Rattle.promises.specs.Run.{old, new, stepped}
-use Rattle.promises.specs.Whole.{ChurnRests, WholeSound, HeldRefused, HeldRefusals, BaseCall}
+use Rattle.promises.specs.Whole.{ChurnRests, WholeSound, HeldRefusals, BaseCall}
 use Rattle.promises.specs.Churn.{Seen, seenOf}
-
--- ---- the memory of a call: its front, and the rest
-
--- a call that is no start takes the memory's own count, and asks for monitors in range
-pub plain-count : (c : Call) → isStart c ≡ false → (w : List ℕ) → countFor c w ≡ countIn w
-plain-count (start count system delay x) s w = absurd (true≢false s)
-plain-count (receive n frame out) s w = refl
-plain-count tick s w = refl
-plain-count (line n l) s w = refl
-plain-count (configure n x) s w = refl
-plain-count (fetch n out) s w = refl
-plain-count (report n) s w = refl
-plain-count (aggregator k) s w = refl
-plain-count dueCall s w = refl
-
-pub plain-room : (c : Call) → isStart c ≡ false → (w : List ℕ) → hasRoom c w ≡ hasMonitors w
-plain-room (start count system delay x) s w = absurd (true≢false s)
-plain-room (receive n frame out) s w = refl
-plain-room tick s w = refl
-plain-room (line n l) s w = refl
-plain-room (configure n x) s w = refl
-plain-room (fetch n out) s w = refl
-plain-room (report n) s w = refl
-plain-room (aggregator k) s w = refl
-plain-room dueCall s w = refl
-
--- a refused call did no work
-refused-idle : (c : Call) (t : List ℕ) (r : Reason) → settles c t (Refused r) ≡ false
-refused-idle (start count system delay x) t r = refl
-refused-idle (receive n frame out) t r = refl
-refused-idle tick t r = refl
-refused-idle (line n l) t r = refl
-refused-idle (configure n x) t r = refl
-refused-idle (fetch n out) t r = refl
-refused-idle (report n) t r = refl
-refused-idle (aggregator k) t r = refl
-refused-idle dueCall t r = refl
-
--- a call that finds no room changes nothing, and one that finds it is the call on the front
-module _ (c : Call) (w : List ℕ) where
-  pub lost-after : hasRoom c w ≡ false → wholeAfter c w ≡ w
-  unfolding wholeAfter
-  lost-after e = rw e
-
-  pub lost-answer : hasRoom c w ≡ false → wholeAnswer c w ≡ Refused reason.Table
-  unfolding wholeAnswer
-  lost-answer e = rw e
-
-  lost-out : hasRoom c w ≡ false → wholeOutgoing c w ≡ bufferOf c
-  unfolding wholeOutgoing
-  lost-out e = rw e
-
-  -- one that is accepted has found it
-  pub accepted-room : accepted (wholeAnswer c w) ≡ true → hasRoom c w ≡ true
-  accepted-room done = by (hasRoom c w) refl
-    where
-      by : (b : Bool) → hasRoom c w ≡ b → hasRoom c w ≡ true
-      by true e = e
-      by false e = absurd (false≢true (sym (ap accepted (lost-answer e)) ∙ done))
-
-  module _ (count : ℕ) (is : countFor c w ≡ count) (room : hasRoom c w ≡ true) where
-    pub front-answer : wholeAnswer c w ≡ answer c (take (place count) w)
-    unfolding wholeAnswer
-    front-answer = rw room (ap (λ (n : ℕ). answer c (take (place n) w)) is)
-
-    pub front-out : wholeOutgoing c w ≡ outgoing c (take (place count) w)
-    unfolding wholeOutgoing
-    front-out = rw room (ap (λ (n : ℕ). outgoing c (take (place n) w)) is)
-
-    pub front-after : wholeAfter c w
-        ≡ watchedIf (settles c (take (place count) w) (answer c (take (place count) w))) (stageOf c) (after c (take (place count) w) ++ drop (place count) w)
-    unfolding wholeAfter
-    front-after =
-        rw room (ap (λ (n : ℕ). watchedIf (settles c (take (place n) w) (answer c (take (place n) w))) (stageOf c) (after c (take (place n) w) ++ drop (place n) w)) is)
-
-    refused-front : {r : Reason} → answer c (take (place count) w) ≡ Refused r → wholeAfter c w ≡ w
-    refused-front {r} e =
-        front-after
-        ∙ ap (λ (a : Answer). watchedIf (settles c (take (place count) w) a) (stageOf c) (after c (take (place count) w) ++ drop (place count) w)) e
-        ∙ ap (λ (b : Bool). watchedIf b (stageOf c) (after c (take (place count) w) ++ drop (place count) w)) (refused-idle c (take (place count) w) r)
-        ∙ ap (λ (u : List ℕ). u ++ drop (place count) w) (refused-table c (take (place count) w) e) ∙ take-append-drop (place count) w
 
 -- ---- refusals, in any memory
 
 pub held-refusals : HeldRefusals
 unfolding stepped
 held-refusals (old t) c r e = record { table = ap old (refused-table c t e); buffer = refused-buffer c t e }
-held-refusals (new w) c r e = by (hasRoom c w) refl
-  where
-    by : (b : Bool) → hasRoom c w ≡ b → HeldRefused c (new w)
-    by true room =
-        let no = sym (front-answer c w (countFor c w) refl room) ∙ e in record {
-          table = ap new (refused-front c w (countFor c w) refl room no);
-          buffer = front-out c w (countFor c w) refl room ∙ refused-buffer c (take (place (countFor c w)) w) no;
-        }
-    by false room = record { table = ap new (lost-after c w room); buffer = lost-out c w room }
+held-refusals (new w) c r e = let no = whole-refused c w r e in record { table = ap new (no .0); buffer = no .1 }
 
 -- ---- a call that does no steps 3 to 6 leaves link and Synchronizations of every port
 

@@ -36,6 +36,13 @@ use Rattle.control.specs.Call.{line, tick}
 use Rattle.claims.specs.Speakers.{upFull, frame}
 use Rattle.claims.specs.Witness.{every}
 use Rattle.claims.proofs.Witness.{isOctet, octets}
+use Rattle.octets.specs.Rows.{rowAt, rowsTo}
+use Rattle.asks.specs.Ask.{ended}
+use Rattle.asks.specs.Group.{groupOctets as Asks·groupOctets, groupOf as Asks·groupOf, groupInRange as Asks·groupInRange}
+use Rattle.asks.specs.Groups.{askAt, groupsInRange as Asks·groupsInRange, allFallen, allBegun}
+use Rattle.asked.specs.Asked.{hasAsks}
+use Rattle.asked.specs.Calls.{askedAnswer, askedAfter}
+use Rattle.promises.specs.Asked.{done}
 use Rattle.promises.specs.Run.{call, stepped, through, AllStepsTake, FromStart, HeldMade}
 use Rattle.counters.specs.Counters.{received as receivedCounts, fetched}
 use Rattle.promises.specs.Counts.{countersAfter, allOf}
@@ -45,7 +52,7 @@ use Rattle.promises.proofs.Churn.{two-runs, two-runs-shortened}
 use Rattle.promises.proofs.Through.{goes-through}
 
 pub witness : Witness
-unfolding sameAddress sameSystem sameNumbers sameParty sameView maintained inSync sameState sameBlock recordDefault recordPdu updateSelected updateDefaultSelected updateNtt initialized portDisabled expired lacpDisabled defaulted pduRecorded current moved received receiveChoice receiveStep receiveRun lined periodicChoice periodicStep periodicRun due sent silent nttCleared ticked muxChoice muxStep detached placed attachedIf muxRun lawful blank started configured sameSettings sameGrouping regrouped advanced individual sameKeys sameGroup joins firstFrom lowest ruleOf waitsFor hasWaiting holdsBack heldBack ready mapFrom mustMove reselected selectedAll attachedAll muxed settled isDisplaced displacedIf displaced sameOctets foreign unknown wrongLength wrongMarkerType illegal classOf codesInRange timersInRange agesInRange valuesInRange recordInRange encoded decoded recordAt decodedAt portIn portsFrom ports recordsOctets tableOctets firstInRange tableInRange worked afterOne afterStart receivedAt afterReceived afterTick afterLine afterSettings afterSend answer effect after churnChoice watched watching monitorsFallen groupOctets groupOf groupInRange baseOf groupAt monitorsAt groupsTo withMonitors groupsInRange hasMonitors watchedAt watchedAll wholeAnswer wholeAfter movedForward forwardAnswer forwardTo backAnswer backTo stepped through history churns shortened receivedCounts fetched countersAfter allOf
+unfolding sameAddress sameSystem sameNumbers sameParty sameView maintained inSync sameState sameBlock recordDefault recordPdu updateSelected updateDefaultSelected updateNtt initialized portDisabled expired lacpDisabled defaulted pduRecorded current moved received receiveChoice receiveStep receiveRun lined periodicChoice periodicStep periodicRun due sent silent nttCleared ticked muxChoice muxStep detached placed attachedIf muxRun lawful blank started configured sameSettings sameGrouping regrouped advanced individual sameKeys sameGroup joins firstFrom lowest ruleOf waitsFor hasWaiting holdsBack heldBack ready mapFrom mustMove reselected selectedAll attachedAll muxed settled isDisplaced displacedIf displaced sameOctets foreign unknown wrongLength wrongMarkerType illegal classOf codesInRange timersInRange agesInRange valuesInRange recordInRange encoded decoded recordAt decodedAt portIn portsFrom ports recordsOctets tableOctets firstInRange tableInRange worked afterOne afterStart receivedAt afterReceived afterTick afterLine afterSettings afterSend answer effect after churnChoice watched watching monitorsFallen groupOctets groupOf groupInRange baseOf groupAt monitorsAt groupsTo withMonitors groupsInRange hasMonitors watchedAt watchedAll wholeAnswer wholeAfter movedForward forwardAnswer forwardTo backAnswer backTo stepped through history churns shortened receivedCounts fetched countersAfter allOf done askedAnswer askedAfter hasAsks ended Asks·groupOctets Asks·groupOf Asks·groupInRange askAt Asks·groupsInRange allFallen allBegun rowAt rowsTo
 witness = record {
   accepted-one = refl;
   accepted-two = refl;

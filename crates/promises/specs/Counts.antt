@@ -1,4 +1,4 @@
--- What a port's counters add up to along a run (M-100): one record of them, at zeros first, is lent to each receive and each fetch on the port.
+-- What a port's counters add up to along a run of the library (M-100): one record of them, at zeros first, is lent to each receive and each fetch on the port.
 use Prim.Native.Nat.{ℕ, _+_, _%_}
 use mathlib.Core.Path.{_≡_}
 use mathlib.Core.Bool.{cond, _&&_}
@@ -9,7 +9,8 @@ use Rattle.control.specs.Accepted.{accepted}
 use Rattle.control.specs.Call.{Call, start, receive, tick, line, configure, fetch, report, aggregator, due}
 use Rattle.counters.specs.declared.Counters.{Counters}
 use Rattle.counters.specs.Counters.{isMarker, received, fetched, allReceived, heard, noneCounted}
-use Rattle.promises.specs.Run.{Held, Step, call, forward, back, answerIn, stepped}
+use Rattle.promises.specs.Run.{Held, call, forward, back}
+use Rattle.promises.specs.Asked.{Deed, plain, ask, answerTo, done}
 
 -- the counters of port n after a call with this answer
 abbrev pub countedBy : ℕ → Call → Answer → Counters → Counters
@@ -23,11 +24,12 @@ countedBy n (report m) a k = k
 countedBy n (aggregator m) a k = k
 countedBy n due a k = k
 
-unfoldable pub countersAfter : ℕ → Held → List Step → Counters → Counters
+unfoldable pub countersAfter : ℕ → Held → List Deed → Counters → Counters
 countersAfter n h [] k = k
-countersAfter n h (call c ∷ ss) k = countersAfter n (stepped (call c) h) ss (countedBy n c (answerIn c h) k)
-countersAfter n h (forward u ∷ ss) k = countersAfter n (stepped (forward u) h) ss k
-countersAfter n h (back u ∷ ss) k = countersAfter n (stepped (back u) h) ss k
+countersAfter n h (plain (call c) ∷ ds) k = countersAfter n (done (plain (call c)) h) ds (countedBy n c (answerTo c h) k)
+countersAfter n h (plain (forward u) ∷ ds) k = countersAfter n (done (plain (forward u)) h) ds k
+countersAfter n h (plain (back u) ∷ ds) k = countersAfter n (done (plain (back u)) h) ds k
+countersAfter n h (ask m wait out ∷ ds) k = countersAfter n (done (ask m wait out) h) ds k
 
 -- ---- what there was to count, call by call
 
@@ -67,19 +69,20 @@ answeredOn n (report m) a = 0
 answeredOn n (aggregator m) a = 0
 answeredOn n due a = 0
 
-unfoldable pub allOf : (Call → Answer → ℕ) → Held → List Step → ℕ
+unfoldable pub allOf : (Call → Answer → ℕ) → Held → List Deed → ℕ
 allOf f h [] = 0
-allOf f h (call c ∷ ss) = f c (answerIn c h) + allOf f (stepped (call c) h) ss
-allOf f h (forward u ∷ ss) = allOf f (stepped (forward u) h) ss
-allOf f h (back u ∷ ss) = allOf f (stepped (back u) h) ss
+allOf f h (plain (call c) ∷ ds) = f c (answerTo c h) + allOf f (done (plain (call c)) h) ds
+allOf f h (plain (forward u) ∷ ds) = allOf f (done (plain (forward u)) h) ds
+allOf f h (plain (back u) ∷ ds) = allOf f (done (plain (back u)) h) ds
+allOf f h (ask m wait out ∷ ds) = allOf f (done (ask m wait out) h) ds
 
 -- ---- over any run, on any memory
 
 -- the five of received frames together, and the two of frames sent, each in 32 bits
-pub record AddUp (n : ℕ) (h : Held) (ss : List Step) : Type 0 where
-  pub received : allReceived (countersAfter n h ss noneCounted) % 4294967296 ≡ allOf (heardOn n) h ss % 4294967296
-  pub sent : countersAfter n h ss noneCounted .sent % 4294967296 ≡ allOf (sentOn n) h ss % 4294967296
-  pub answered : countersAfter n h ss noneCounted .answered % 4294967296 ≡ allOf (answeredOn n) h ss % 4294967296
+pub record AddUp (n : ℕ) (h : Held) (ds : List Deed) : Type 0 where
+  pub received : allReceived (countersAfter n h ds noneCounted) % 4294967296 ≡ allOf (heardOn n) h ds % 4294967296
+  pub sent : countersAfter n h ds noneCounted .sent % 4294967296 ≡ allOf (sentOn n) h ds % 4294967296
+  pub answered : countersAfter n h ds noneCounted .answered % 4294967296 ≡ allOf (answeredOn n) h ds % 4294967296
 
 abbrev pub CountersAddUp : Type 0
-CountersAddUp = (n : ℕ) (h : Held) (ss : List Step) → AddUp n h ss
+CountersAddUp = (n : ℕ) (h : Held) (ds : List Deed) → AddUp n h ds

@@ -1,7 +1,11 @@
 pub mod Run
+pub mod Asked
+pub mod Asks
 pub mod Whole
 pub mod Churn
+pub mod Fronts
 pub mod Demands
+pub mod Library
 pub mod Counts
 pub mod Through
 pub mod Witness

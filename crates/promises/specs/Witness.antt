@@ -22,7 +22,10 @@ use Rattle.control.specs.After.{after}
 use Rattle.counters.specs.Counters.{noneCounted}
 use Rattle.claims.specs.LivePartner.{NoneEnds, Live}
 use Rattle.claims.specs.Speakers.{system, noDelay, settings, keyedSettings, upFull, frame}
+use Rattle.asked.specs.Layer.{newLayer}
+use Rattle.asked.specs.Asked.{askedSize}
 use Rattle.promises.specs.Run.{Held, new, Step, call, forward, back, recordsOf, answerIn, stepped, through, callsOf}
+use Rattle.promises.specs.Asked.{Deed, plain}
 use Rattle.promises.specs.Churn.{Seen, seenIn, churnIn, Happening, history, churns, shortened}
 use Rattle.promises.specs.Counts.{countersAfter, heardOn, allOf}
 use Rattle.promises.specs.Through.{recordsAfter}
@@ -74,10 +77,17 @@ linked = through memory (call begin ∷ call (line 1 upFull) ∷ call tick ∷ [
 abbrev pub slow : ℕ → List ℕ
 slow subtype = 0x01 ∷ 0x80 ∷ 0xc2 ∷ 0 ∷ 0 ∷ 0x02 ∷ 0 ∷ 0 ∷ 0 ∷ 0 ∷ 0 ∷ 0 ∷ 0x88 ∷ 0x09 ∷ subtype ∷ []
 
-abbrev pub counted : List Step
+abbrev pub on : Call → Deed
+on c = plain (call c)
+
+abbrev pub counted : List Deed
 counted =
-    call (line 1 upFull) ∷ call heard ∷ call (receive 2 (frame 5 1 0x05 1 0x05) (zeros 124)) ∷ call (receive 1 [] (zeros 124)) ∷ call (receive 1 (slow 5) (zeros 124)) ∷ call (receive 1 (slow 1) (zeros 124))
-    ∷ call (receive 1 (slow 1) []) ∷ call (fetch 1 (zeros 124)) ∷ call (fetch 1 (zeros 124)) ∷ []
+    on (line 1 upFull) ∷ on heard ∷ on (receive 2 (frame 5 1 0x05 1 0x05) (zeros 124)) ∷ on (receive 1 [] (zeros 124)) ∷ on (receive 1 (slow 5) (zeros 124)) ∷ on (receive 1 (slow 1) (zeros 124))
+    ∷ on (receive 1 (slow 1) []) ∷ on (fetch 1 (zeros 124)) ∷ on (fetch 1 (zeros 124)) ∷ []
+
+-- its memory has room for what ports ask for
+abbrev pub room : Held
+room = new (zeros (askedSize newLayer 1))
 
 -- what happens to the port in both: what each step is, and the link, with neither Synchronization, where the table has monitors
 abbrev pub sees : Bool → Option Seen
@@ -114,9 +124,9 @@ pub record Witness : Type 0 where
   pub shorter-one : shortened (sees false) (history 0 (stepped (call begin) memory) steps) ≡ left
   pub shorter-two : shortened (sees false) (history 1 (stepped (call begin2) memory2) steps3) ≡ left
   -- what is counted, and what there was to count
-  pub counts : countersAfter 1 memory (call begin ∷ counted) noneCounted
+  pub counts : countersAfter 1 room (on begin ∷ counted) noneCounted
       ≡ record { lacpdus = 1; markers = 0; responses = 0; unknown = 1; illegal = 1; sent = 1; answered = 0 }
-  pub to-count : allOf (heardOn 1) memory (call begin ∷ counted) ≡ 3
+  pub to-count : allOf (heardOn 1) room (on begin ∷ counted) ≡ 3
   -- an LACPDU is taken, and neither a tick nor a move ends what it said
   pub taken : answerIn heard linked ≡ Lacpdu
   pub none-ends : NoneEnds (after heard (recordsOf linked)) 0 (callsOf there-and-back)

@@ -1,4 +1,5 @@
 pub mod Cases
 pub mod LineChanges
 pub mod TwoSwitches
+pub mod Asks
 pub mod Churn

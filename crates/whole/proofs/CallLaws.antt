@@ -159,13 +159,13 @@ base-whole w b is most =
 -- ---- the port report
 
 -- what fits of two pieces: of the first alone, or all of it and what fits of the second behind it
-fitted-short : (s u m : List ℕ) → length m ≤ length s → fitted (s ++ u) m ≡ fitted s m
+pub fitted-short : (s u m : List ℕ) → length m ≤ length s → fitted (s ++ u) m ≡ fitted s m
 unfolding fitted
 fitted-short s u m h =
     let l = length-append s u in
     (λ i. take-append-le (length m) s u h i ++ drop-of-length-le m {i = length (s ++ u)} (omega (arith, h, l)) i) ∙ sym (ap (λ (x : List ℕ). take (length m) s ++ x) (drop-of-length-le m {i = length s} h))
 
-fitted-append : (s u m : List ℕ) → length s ≤ length m → fitted (s ++ u) m ≡ s ++ fitted u (drop (length s) m)
+pub fitted-append : (s u m : List ℕ) → length s ≤ length m → fitted (s ++ u) m ≡ s ++ fitted u (drop (length s) m)
 unfolding fitted
 fitted-append s u m h =
     let d = length-drop (length s) m in
@@ -175,7 +175,7 @@ fitted-append s u m h =
     ∙ append-assoc s (take (length (drop (length s) m)) u) (drop (length u) (drop (length s) m))
 
 -- a part up to the end that comes back as x
-back-as : (n : ℕ) (r x : List ℕ) → n ≤ length r → length x ≡ length r - n → putMid n (length r - n) r x ≡ take n r ++ x
+pub back-as : (n : ℕ) (r x : List ℕ) → n ≤ length r → length x ≡ length r - n → putMid n (length r - n) r x ≡ take n r ++ x
 unfolding putAt
 back-as n r x h e =
     put-part n (length r) x r (omega (arith, h, e))

@@ -1,4 +1,5 @@
 pub mod CallLaws
+pub mod FrontLaws
 pub mod JoinLaws
 pub mod OneResult
 pub mod MoveLaws

@@ -13,7 +13,6 @@ use Rattle.churn.specs.Whole.{wholeSize, baseOf, hasMonitors, withMonitors}
 use Rattle.control.specs.declared.answer.Answer.{Answer}
 use Rattle.control.specs.declared.answer.Answer.the-variants.{Done, Refused}
 use Rattle.control.specs.declared.answer.Reason.the-variants as reason
-use Rattle.control.specs.Answer.{answerNumber}
 use Rattle.control.specs.After.{unless}
 
 -- memory that is a table of the new form: monitors and records in range (of the old form it is `tableInRange`)
@@ -62,11 +61,3 @@ ThereAndBack = (t u v : List ℕ) → forwardAnswer t u ≡ Done → length v �
 abbrev pub BackAndThere : Type 0
 BackAndThere = (w u v : List ℕ) → backAnswer w u ≡ Done → length v ≡ length w
     → (forwardAnswer (backTo w u) v ≡ Done) × (baseOf (forwardTo (backTo w u) v) ≡ baseOf w) × (forwardTo (backTo w u) v ≡ movedForward (baseOf w))
-
--- ---- a C function: the answer's number n
-
-abbrev pub MeetsForwardNumber : List ℕ → List ℕ → ℕ → List ℕ → Type 0
-MeetsForwardNumber t u n v = (n ≡ answerNumber (forwardAnswer t u)) × (v ≡ forwardTo t u)
-
-abbrev pub MeetsBackNumber : List ℕ → List ℕ → ℕ → List ℕ → Type 0
-MeetsBackNumber w u n v = (n ≡ answerNumber (backAnswer w u)) × (v ≡ backTo w u)

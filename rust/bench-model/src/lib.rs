@@ -106,6 +106,20 @@ pub unsafe extern "C" fn model_fetch(
     perform(&Call::Fetch { port }, table, out, counters).answer
 }
 
+/// A Marker on a port, whose Response is awaited.
+#[no_mangle]
+pub unsafe extern "C" fn model_ask(
+    table: *mut u8,
+    table_len: usize,
+    port: u32,
+    ticks: u32,
+    out: *mut u8,
+    out_len: usize,
+) -> u32 {
+    let (table, out) = (from_raw_parts_mut(table, table_len), from_raw_parts_mut(out, out_len));
+    perform(&Call::Ask { port, ticks }, table, out, &mut Counters::default()).answer
+}
+
 /// The record of a port.
 #[no_mangle]
 pub unsafe extern "C" fn model_port(

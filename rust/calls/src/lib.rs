@@ -61,6 +61,13 @@ pub enum Call<'a> {
         /// Port, from 1.
         port: u32,
     },
+    /// A Marker on a port, whose Response is awaited. Answers 0 to 4, 13 or 14.
+    Ask {
+        /// Port, from 1.
+        port: u32,
+        /// The ticks for which its Response is awaited.
+        ticks: u32,
+    },
     /// A call that only reads the table.
     Report(Report),
 }
@@ -118,7 +125,7 @@ pub struct SettingsArguments {
 }
 
 /// The names of the calls, each at its number.
-pub const NAMES: [&str; 14] = [
+pub const NAMES: [&str; 15] = [
     "table_size",
     "start",
     "receive",
@@ -133,6 +140,7 @@ pub const NAMES: [&str; 14] = [
     "old_table_size",
     "forward",
     "back",
+    "ask",
 ];
 
 impl Call<'_> {
@@ -153,6 +161,7 @@ impl Call<'_> {
             Call::Report(Report::OldTableSize { .. }) => 11,
             Call::Report(Report::Forward) => 12,
             Call::Report(Report::Back) => 13,
+            Call::Ask { .. } => 14,
         }
     }
 }
@@ -197,7 +206,7 @@ pub struct Request<'a> {
     pub call: Call<'a>,
     /// The table.
     pub table: Vec<u8>,
-    /// The outgoing buffer of receive and fetch, the memory for a port's record, or that into which a table is moved; other calls have
+    /// The outgoing buffer of receive, fetch and ask, the memory for a port's record, or that into which a table is moved; other calls have
     /// none.
     pub out: Vec<u8>,
     /// The counters of the port, for receive and fetch; other calls take none.

@@ -1,7 +1,7 @@
 //! What differs between two replies, field by field.
 
 use crate::memory::FIELDS;
-use crate::world::{place, BASE, CHURN, HEADER};
+use crate::world::{field, ports_of, sizes, ASKED, BASE, CHURN, HEADER};
 use calls::{Call, Counters, Reply, Report, Request};
 use std::fmt::Write;
 
@@ -32,23 +32,35 @@ fn tables(text: &mut String, called: &str, before: &[u8], model: &[u8], library:
     if let Some(first) = model.iter().zip(library).position(|(model, library)| model != library) {
         let _ = writeln!(text, "  octet {first} of the {called} is the first that differs");
     }
-    let ports = model.first().copied().map_or(0, usize::from);
+    let ports = ports_of(model);
     for port in 0..ports {
         for (name, at, length, _) in FIELDS {
-            let start = place(ports, port, at);
-            let field = |table: &[u8]| table.get(start..start + length).map(hex).unwrap_or_default();
-            if field(model) != field(library) {
-                let _ = writeln!(
-                    text,
-                    "  port {} {name}: before {}, model {}, library {}",
-                    port + 1,
-                    field(before),
-                    field(model),
-                    field(library)
-                );
+            let held = |table: &[u8]| field(table.len(), ports, port, at, length).map(|field| hex(&table[field]));
+            let [before, model, library] = [before, model, library].map(|table| held(table).unwrap_or_default());
+            if model != library {
+                let port = port + 1;
+                let _ = writeln!(text, "  port {port} {name}: before {before}, model {model}, library {library}");
             }
         }
     }
+}
+
+/// The octets of a table in lines: header, records, churn if it has that, Markers; and what is over.
+fn lines(table: &[u8]) -> Vec<&[u8]> {
+    let (ports, watched) = (ports_of(table), table.len() != sizes(table)[0]);
+    let mut rest = table;
+    let groups = [(HEADER, 1), (BASE, ports), (CHURN, if watched { ports } else { 0 }), (ASKED, ports)];
+    let mut lines = Vec::new();
+    for (octets, groups) in groups {
+        for _ in 0..groups {
+            let (line, behind) = rest.split_at(rest.len().min(octets));
+            lines.push(line);
+            rest = behind;
+        }
+    }
+    lines.push(rest);
+    lines.retain(|line| !line.is_empty());
+    lines
 }
 
 /// The counters that differ, with what they held before.
@@ -76,11 +88,7 @@ pub fn describe(request: &Request, model: &Reply, library: &Reply) -> String {
     };
     let _ = writeln!(text, "{lent}: {} octets lent", request.out.len());
     let _ = writeln!(text, "table before ({} octets):", request.table.len());
-    let (header, records) = request.table.split_at(request.table.len().min(HEADER));
-    let _ = writeln!(text, "  {}", hex(header));
-    let ports = header.first().copied().map_or(0, usize::from);
-    let (records, groups) = records.split_at(records.len().min(BASE * ports));
-    for octets in records.chunks(BASE).chain(groups.chunks(CHURN)) {
+    for octets in lines(&request.table) {
         let _ = writeln!(text, "  {}", hex(octets));
     }
     text.push_str("differences:\n");

@@ -160,8 +160,8 @@ fn breakages(seed: u64) -> Result<bool, Unreachable> {
         breakage::set(None);
         let caught = caught?;
         match &caught {
-            Some(Difference { calls, kind, .. }) => println!("{name:<34} caught after {calls:>7} calls ({kind:?})"),
-            None => println!("{name:<34} NOT CAUGHT in {} s", PATIENCE.as_secs()),
+            Some(Difference { calls, kind, .. }) => println!("{name:<37} caught after {calls:>7} calls ({kind:?})"),
+            None => println!("{name:<37} NOT CAUGHT in {} s", PATIENCE.as_secs()),
         }
         all &= caught.is_some();
     }
@@ -225,13 +225,17 @@ mod tests {
     #[test]
     fn library_and_model_agree() {
         let mut comparison = Comparison::new();
-        let difference = comparison.run(1, Limit { calls: 20_000, time: Duration::MAX });
+        let difference = comparison.run(1, Limit { calls: 40_000, time: Duration::MAX });
         assert!(difference.unwrap().is_none());
         assert!(comparison.tally.least_line() > 0, "{}", comparison.tally);
         assert!(comparison.tally.least_lent() > 0, "{}", comparison.tally);
         assert!(comparison.tally.least_churn() > 0, "{}", comparison.tally);
         assert!(comparison.tally.least_move() > 0, "{}", comparison.tally);
         assert!(comparison.tally.least_counter() > 0, "{}", comparison.tally);
+        assert!(comparison.tally.least_asked() > 0, "{}", comparison.tally);
+        assert!(comparison.tally.least_response() > 0, "{}", comparison.tally);
+        let asked = Call::Ask { port: 1, ticks: 1 }.number();
+        assert!([0, 1, 2, 3, 4, 13, 14].iter().all(|answer| comparison.tally.answered(asked, *answer) > 0));
         assert!(comparison.said.sent.min(comparison.said.refused) > 100, "{}", comparison.said);
     }
 
@@ -340,7 +344,32 @@ mod tests {
         }
 
         fn churn(&self) -> &[u8] {
-            &self.0[world::HEADER + world::BASE..]
+            &self.0[world::HEADER + world::BASE..][..world::CHURN]
+        }
+
+        /// What is kept of the port's Marker: outcome, timer, number of the next.
+        fn asked(&self) -> (u8, u16, u32) {
+            let [outcome, t1, t0, n3, n2, n1, n0] = self.0[world::HEADER + world::ASKED_AT..] else {
+                panic!("one port");
+            };
+            (outcome, u16::from_be_bytes([t1, t0]), u32::from_be_bytes([n3, n2, n1, n0]))
+        }
+
+        fn put_asked(&mut self, (outcome, timer, next): (u8, u16, u32)) {
+            let group = [&[outcome][..], &timer.to_be_bytes(), &next.to_be_bytes()].concat();
+            self.0[world::HEADER + world::ASKED_AT..].copy_from_slice(&group);
+        }
+
+        /// The answer to the Response to the last Marker, with these bits of what it says changed.
+        fn respond(&mut self, changed: [u8; world::REQUEST]) -> u32 {
+            let mut said = world::requested(&self.0, 1);
+            said.iter_mut().zip(changed).for_each(|(octet, changed)| *octet ^= changed);
+            self.call(Call::Receive { port: 1, frame: world::response(&mut Random::new(1), &said).into() })
+        }
+
+        /// The table without its churn.
+        fn unwatched(&self) -> Vec<u8> {
+            [&self.0[..world::HEADER + world::BASE], &self.0[world::HEADER + world::ASKED_AT..]].concat()
         }
     }
 
@@ -421,7 +450,7 @@ mod tests {
         both.0[world::HEADER + 56] = bit(2) << 3;
         let ([t1, t0], [a, b, c, d]) = (timer.to_be_bytes(), count.to_be_bytes());
         let churn = [states[0], states[1], t1, t0, t1, t0, a, b, c, d, a, b, c, d];
-        both.0[world::HEADER + world::BASE..].copy_from_slice(&churn);
+        both.0[world::HEADER + world::BASE..][..world::CHURN].copy_from_slice(&churn);
         both
     }
 
@@ -450,11 +479,11 @@ mod tests {
         let new = Both::carrying((true, true));
         let old = new.back().unwrap();
         for octets in 0..=300 {
-            assert_eq!(new.moved(Report::Back, octets).is_some(), octets == 68);
-            assert_eq!(old.moved(Report::Forward, octets).is_some(), octets == 82);
+            assert_eq!(new.moved(Report::Back, octets).is_some(), octets == 75);
+            assert_eq!(old.moved(Report::Forward, octets).is_some(), octets == 89);
             assert!(new.moved(Report::Forward, octets).is_none() && old.moved(Report::Back, octets).is_none());
         }
-        for octets in [0, 1, 68, 82] {
+        for octets in [0, 1, 68, 75, 82, 89] {
             assert!(Both(Vec::new()).moved(Report::Forward, octets).is_none());
             assert!(Both(vec![0; octets]).moved(Report::Back, 11).is_none());
         }
@@ -468,12 +497,13 @@ mod tests {
             let mut new = Both(sound.0.clone());
             new.0[world::HEADER + at] = octet;
             let mut old = sound.back().unwrap();
-            if let Some(place) = old.0.get_mut(world::HEADER + at) {
-                *place = octet;
+            let kept = world::field(old.0.len(), 1, 0, at, 1);
+            if let Some(place) = kept.clone() {
+                old.0[place].fill(octet);
             }
             let in_range = new.reply(Report::Due.into()).outcome.answer == 0;
             assert_eq!(new.back().map(|moved| moved.0), in_range.then_some(old.0.clone()), "octet {at} is {octet}");
-            assert_eq!(old.forward().is_some(), in_range || at >= world::BASE, "octet {at} is {octet}");
+            assert_eq!(old.forward().is_some(), in_range || kept.is_none(), "octet {at} is {octet}");
         }
     }
 
@@ -485,11 +515,11 @@ mod tests {
             let new = watched(bits, states, 17, 0x0102_0304);
             let old = new.back().unwrap();
             let again = old.forward().unwrap();
-            assert_eq!((&old.0[..], again.back().unwrap().0), (&new.0[..68], old.0.clone()));
+            assert_eq!((&old.0, again.back().unwrap().0), (&new.unwatched(), old.0.clone()));
             let settled = |sync: u8| bits & 1 == 1 && bits >> sync & 1 == 1;
             let [actor, partner] = [1, 2].map(|sync| if settled(sync) { (0, [0, 0]) } else { (1, [2, 88]) });
             let churn = [&[actor.0, partner.0][..], &actor.1, &partner.1, &[0; 8]].concat();
-            assert_eq!((&again.0[..68], again.churn()), (&old.0[..], &churn[..]));
+            assert_eq!((&again.unwatched(), again.churn()), (&old.0, &churn[..]));
             assert_eq!(old.reply(Call::Tick).outcome.answer, 1);
         }
     }
@@ -544,6 +574,106 @@ mod tests {
         assert_eq!(added(&both.back().unwrap(), &fetch, world::FRAME), (1, [0; 7]));
         assert_eq!([1, 2, 3, 4].map(|address| both.fetch_anew(address)), [0, 0, 0, 11]);
         assert_eq!(added(&both, &fetch, world::FRAME), (11, [0; 7]));
+    }
+
+    #[test]
+    fn every_waiting_time() {
+        let both = Both::carrying((true, true));
+        for ticks in (0..=1300).chain([0xFFFF, 0x1_0000, 0x1_0001, 0x1_0258, 0x8000_0001, u32::MAX]) {
+            let reply = both.reply(Call::Ask { port: 1, ticks });
+            assert_eq!(reply.outcome.answer, if (1..=600).contains(&ticks) { 0 } else { 4 }, "{ticks}");
+            let (outcome, timer, next) = Both(reply.table).asked();
+            assert!(reply.outcome.answer == 4 || (outcome, u32::from(timer), next) == (1, ticks, 1));
+        }
+    }
+
+    #[test]
+    fn a_marker_times_out_at_its_last_tick() {
+        for ticks in [1, 2, 30, 600] {
+            let mut both = Both::carrying((true, true));
+            for number in 0..3 {
+                assert_eq!(both.call(Call::Ask { port: 1, ticks }), 0);
+                both.ticks(ticks - 1);
+                assert_eq!(both.asked(), (1, 1, number + 1));
+                assert_eq!(Both(both.0.clone()).respond([0; 12]), 0);
+                both.ticks(1);
+                assert_eq!((both.asked(), both.respond([0; 12])), ((3, 0, number + 1), 12));
+            }
+        }
+    }
+
+    #[test]
+    fn every_bit_of_what_was_asked_for() {
+        let mut both = Both::carrying((true, true));
+        both.put_asked((0, 0, 0x89AB_CDEF));
+        assert_eq!(both.call(Call::Ask { port: 1, ticks: 30 }), 0);
+        for (at, bit) in (0..world::REQUEST).flat_map(|at| (0..8).map(move |bit| (at, 1 << bit))) {
+            let mut changed = [0; world::REQUEST];
+            changed[at] = bit;
+            assert_eq!((both.respond(changed), both.asked()), (12, (1, 30, 0x89AB_CDF0)));
+        }
+        assert_eq!((both.respond([0; 12]), both.asked()), (0, (2, 0, 0x89AB_CDF0)));
+        assert_eq!((both.respond([0; 12]), both.asked()), (12, (2, 0, 0x89AB_CDF0)));
+    }
+
+    #[test]
+    fn every_change_of_link_and_duplex_while_a_marker_is_awaited() {
+        let lines = [(true, true), (true, false), (false, true), (false, false)];
+        for (old, (up, full)) in lines.into_iter().flat_map(|old| lines.map(|new| (old, new))) {
+            let carrying = Both::carrying(old);
+            for (outcome, timer) in (0..=4).flat_map(|outcome| [0, 1, 600].map(|timer| (outcome, timer))) {
+                let mut both = Both(carrying.0.clone());
+                both.put_asked((outcome, timer, 7));
+                assert_eq!(both.call(Call::Line { port: 1, up, full }), 0);
+                let falls = outcome == 1 && old.0 && old != (up, full);
+                assert_eq!(both.asked(), if falls { (4, 0, 7) } else { (outcome, timer, 7) });
+            }
+        }
+    }
+
+    #[test]
+    fn every_group_of_markers_in_any_memory() {
+        let reports = [Report::Back, Report::Due, Report::Port { port: 1 }].map(Call::from);
+        let carrying = Both::carrying((true, true));
+        for (outcome, timer) in (0..=6).flat_map(|outcome| [0, 1, 2, 255, 256, 600, 601].map(|timer| (outcome, timer)))
+        {
+            for next in [0, 1, 0xFFFF, 0x00FF_FFFF, u32::MAX] {
+                let mut both = Both(carrying.0.clone());
+                both.put_asked((outcome, timer, next));
+                let wrong = u32::from(outcome > 4 || timer > 600);
+                let expect = |call: Call, right: u32, after: (u8, u16, u32)| {
+                    let reply = both.reply_into(call, vec![0xA5; 200]);
+                    let right = if wrong == 1 { 1 } else { right };
+                    assert_eq!(reply.outcome.answer, right, "{outcome} {timer} {next}");
+                    let kept = (outcome, timer, next);
+                    assert_eq!(Both(reply.table).asked(), if right == 0 { after } else { kept });
+                };
+                let fallen = timer.saturating_sub(1);
+                let ticked = if outcome == 1 && fallen == 0 { (3, 0, next) } else { (outcome, fallen, next) };
+                expect(Call::Tick, 0, ticked);
+                let asked = (1, 5, next.wrapping_add(1));
+                expect(Call::Ask { port: 1, ticks: 5 }, if outcome == 1 { 14 } else { 0 }, asked);
+                expect(Call::Ask { port: 1, ticks: 0 }, 4, asked);
+                for call in &reports {
+                    assert_eq!(both.reply_into(call.clone(), vec![0xA5; 75]).outcome.answer, wrong);
+                }
+                let answered = if outcome == 1 { 0 } else { 12 };
+                assert_eq!(both.respond([0; 12]), if wrong == 1 { 1 } else { answered });
+                assert!(wrong == 1 || answered == 12 || both.asked() == (2, 0, next));
+            }
+        }
+    }
+
+    #[test]
+    fn a_move_keeps_what_was_asked_for() {
+        for outcome in 0..=4 {
+            let mut both = Both::carrying((true, true));
+            both.put_asked((outcome, 600, 0x0102_0304));
+            let old = both.back().unwrap();
+            assert_eq!(old.0[world::HEADER + world::BASE..], [outcome, 2, 88, 1, 2, 3, 4]);
+            assert_eq!(old.forward().unwrap().asked(), (outcome, 600, 0x0102_0304));
+            assert_eq!(old.reply(Call::Ask { port: 1, ticks: 1 }).outcome.answer, 1);
+        }
     }
 
     #[test]

@@ -1,10 +1,10 @@
 //! Any memory for a table.
 
 use crate::random::Random;
-use crate::world::{place, BASE, CHURN, HEADER, RECORD};
+use crate::world::{self, ASKED, ASKED_AT, BASE, CHURN, HEADER, OLD_RECORD, RECORD};
 
 /// The fields of a record by name, place and length; and what each may hold, if that is less than its octets can.
-pub const FIELDS: [(&str, usize, usize, Option<u32>); 32] = [
+pub const FIELDS: [(&str, usize, usize, Option<u32>); 35] = [
     ("receive state", 0, 1, Some(5)),
     ("periodic state", 1, 1, Some(3)),
     ("mux state", 2, 1, Some(4)),
@@ -37,7 +37,16 @@ pub const FIELDS: [(&str, usize, usize, Option<u32>); 32] = [
     ("partner's churn timer", 61, 2, Some(600)),
     ("actor's churn count", 63, 4, None),
     ("partner's churn count", 67, 4, None),
+    ("outcome of the last Marker", 71, 1, Some(4)),
+    ("timer of the last Marker", 72, 2, Some(600)),
+    ("number of the next Marker", 74, 4, None),
 ];
+
+/// The octets of a field of a port, from 0, in a table of that many ports, if it has such.
+fn field(table: &mut [u8], count: u32, port: u32, at: usize, length: usize) -> Option<&mut [u8]> {
+    let place = world::field(table.len(), count as usize, port as usize, at, length)?;
+    table.get_mut(place)
+}
 
 /// Changes the table, mostly so that it stays in range; true if a tick should come next.
 pub fn change(random: &mut Random, table: &mut Vec<u8>, count: u32) -> bool {
@@ -50,7 +59,8 @@ pub fn change(random: &mut Random, table: &mut Vec<u8>, count: u32) -> bool {
             }
         }
         63..=69 => monitor_all(random, table, count),
-        70..=87 => {
+        70..=75 => ask_all(random, table, count),
+        76..=87 => {
             for port in 0..count {
                 for field in 0..FIELDS.len() {
                     put_field(random, table, count, port, field);
@@ -59,13 +69,13 @@ pub fn change(random: &mut Random, table: &mut Vec<u8>, count: u32) -> bool {
         }
         88..=91 => table.fill_with(|| random.octet()),
         92..=94 => {
-            let groups = CHURN * count as usize;
-            let length = table.len().saturating_sub(random.of(&[1, 1, 11, CHURN, BASE, RECORD, groups, groups]));
+            let groups = some_groups(random, count);
+            let length = table.len().saturating_sub(random.of(&[1, 1, 11, ASKED, BASE, RECORD, groups, groups]));
             table.truncate(length);
         }
         95..=96 => {
-            let groups = CHURN * count as usize;
-            table.resize(table.len() + random.of(&[1, 2, CHURN, BASE, RECORD, 1000, groups, groups]), 0);
+            let groups = some_groups(random, count);
+            table.resize(table.len() + random.of(&[1, 2, ASKED, BASE, RECORD, 1000, groups, groups]), 0);
         }
         97 => {
             if let Some(first) = table.first_mut() {
@@ -77,7 +87,7 @@ pub fn change(random: &mut Random, table: &mut Vec<u8>, count: u32) -> bool {
             table.clear();
             table.resize_with(length, || random.octet());
             if let (Some(first), true) = (table.first_mut(), random.flag()) {
-                *first = (length.saturating_sub(HEADER) / random.of(&[BASE, RECORD])) as u8;
+                *first = (length.saturating_sub(HEADER) / random.of(&[OLD_RECORD, RECORD])) as u8;
             }
         }
     }
@@ -118,10 +128,14 @@ fn exceed_field(random: &mut Random, table: &mut [u8], count: u32) {
         14 => (at + random.place(3), 1, highest),
         _ => (at, length, highest),
     };
-    let start = place(count as usize, random.below(count) as usize, at);
-    if let Some(place) = table.get_mut(start..start + length) {
+    if let Some(place) = field(table, count, random.below(count), at, length) {
         place.copy_from_slice(&(highest + 1).to_be_bytes()[4 - length..]);
     }
+}
+
+/// The octets of the churn of all ports, of their Markers, or of both.
+fn some_groups(random: &mut Random, count: u32) -> usize {
+    random.of(&[CHURN, ASKED, CHURN + ASKED]) * count as usize
 }
 
 /// The place of a field that may hold less than its octets can.
@@ -144,15 +158,29 @@ fn change_field(random: &mut Random, table: &mut [u8], count: u32) {
 /// Every port is watched at both ends, and a watch ends soon; all else stays. So what counts churn is tried on tables that runs make.
 fn monitor_all(random: &mut Random, table: &mut [u8], count: u32) {
     for (port, end) in (0..count).flat_map(|port| [(port, 0), (port, 1)]) {
-        let mut put = |at: usize, octets: &[u8]| {
-            let start = place(count as usize, port as usize, at);
-            if let Some(place) = table.get_mut(start..start + octets.len()) {
-                place.copy_from_slice(octets);
-            }
-        };
+        let mut put = |at: usize, octets: &[u8]| put(table, count, port, at, octets);
         put(BASE + end, &[1]);
         put(BASE + 2 + 2 * end, &u16::to_be_bytes(random.of(&[0, 1, 1, 2, 5, 20, 600])));
         put(BASE + 6 + 4 * end, &any_count(random).to_be_bytes());
+    }
+}
+
+/// Every port distributes or does not, and awaits a Marker whose waiting time ends soon, or has awaited one; many a number is about to
+/// carry.
+fn ask_all(random: &mut Random, table: &mut [u8], count: u32) {
+    for port in 0..count {
+        let mut put = |at: usize, octets: &[u8]| put(table, count, port, at, octets);
+        put(2, &[random.of(&[3, 4, 4, 4])]);
+        put(ASKED_AT, &[random.of(&[0, 1, 1, 1, 2, 3, 4])]);
+        put(ASKED_AT + 1, &u16::to_be_bytes(random.of(&[0, 0, 1, 1, 2, 5, 600])));
+        put(ASKED_AT + 3, &any_count(random).to_be_bytes());
+    }
+}
+
+/// A field of a port holds these octets, if the table has such a field.
+fn put(table: &mut [u8], count: u32, port: u32, at: usize, octets: &[u8]) {
+    if let Some(place) = field(table, count, port, at, octets.len()) {
+        place.copy_from_slice(octets);
     }
 }
 
@@ -162,10 +190,9 @@ pub fn any_count(random: &mut Random) -> u32 {
     random.of(&[0, 1, 0xFF, 0xFFFF, 0x00FF_FFFF, u32::MAX, u32::MAX, any])
 }
 
-fn put_field(random: &mut Random, table: &mut [u8], count: u32, port: u32, field: usize) {
-    let (_, at, length, highest) = FIELDS[field];
-    let start = place(count as usize, port as usize, at);
-    let Some(place) = table.get_mut(start..start + length) else {
+fn put_field(random: &mut Random, table: &mut [u8], count: u32, port: u32, place: usize) {
+    let (_, at, length, highest) = FIELDS[place];
+    let Some(place) = field(table, count, port, at, length) else {
         return;
     };
     match (at, highest) {
@@ -177,7 +204,7 @@ fn put_field(random: &mut Random, table: &mut [u8], count: u32, port: u32, field
             place.copy_from_slice(&number.to_be_bytes()[4 - length..]);
         }
         (8 | 41 | 56, None) => place[0] = random.octet(),
-        (63 | 67, None) => place.copy_from_slice(&any_count(random).to_be_bytes()),
+        (63 | 67 | 74, None) => place.copy_from_slice(&any_count(random).to_be_bytes()),
         (_, None) => {
             place.fill(0);
             place[random.of(&[0, length - 1, length - 1])] = random.of(&[0, 1, 1, 5, 6, 9]);

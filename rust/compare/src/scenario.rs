@@ -46,6 +46,12 @@ enum Plan {
     /// Which ports have something to send; fetches that follow are held against it.
     Due,
     Fetch(u32),
+    /// A Marker on a port, to be awaited for so many ticks.
+    Ask(u32, u32),
+    /// The Response to the last Marker of a port comes in on a port: mostly the same.
+    Respond(u32, u32),
+    /// One that nearly fits comes in on that port.
+    Misrespond(u32),
     /// The table goes into the old form, and from there forward again.
     Back,
     Forward,
@@ -87,6 +93,8 @@ enum Action {
     FetchTooMuch,
     Marker,
     Response,
+    Ask,
+    Respond,
     Port,
     Aggregator,
     Due,
@@ -119,7 +127,9 @@ const REALISTIC: &[(u32, Action)] = &[
     (16, Action::FetchAll),
     (8, Action::FetchTooMuch),
     (16, Action::Marker),
-    (6, Action::Response),
+    (4, Action::Response),
+    (44, Action::Ask),
+    (6, Action::Respond),
     (16, Action::Port),
     (20, Action::Aggregator),
     (20, Action::Due),
@@ -144,7 +154,9 @@ const BALANCED: &[(u32, Action)] = &[
     (14, Action::Fetch),
     (2, Action::FetchTooMuch),
     (8, Action::Marker),
-    (2, Action::Response),
+    (1, Action::Response),
+    (14, Action::Ask),
+    (14, Action::Respond),
     (6, Action::Port),
     (8, Action::Aggregator),
     (8, Action::Due),
@@ -233,7 +245,9 @@ impl Scenario {
         self.plans.push_front(Plan::Forward);
         if random.percent(10) {
             let port = self.world.port(random);
+            let asked = [Plan::Ask(port, 1), Plan::Respond(port, port)];
             let refused = [Plan::Tick, Plan::Hear(port), Plan::Link(port, true), Plan::Settings(port), Plan::Due];
+            let refused = [&refused[..], &asked].concat();
             self.plans.push_front(random.of(&refused));
         }
     }
@@ -243,7 +257,7 @@ impl Scenario {
         let mut table = self.table.clone();
         let [old, new] = world::sizes(&table);
         let length = match call {
-            Call::Receive { .. } | Call::Fetch { .. } => FRAME + random.of(&[0, 0, 0, 1, 7, 60]),
+            Call::Receive { .. } | Call::Fetch { .. } | Call::Ask { .. } => FRAME + random.of(&[0, 0, 0, 1, 7, 60]),
             Call::Report(Report::Port { .. }) => {
                 let any = random.place(91);
                 random.of(&[0, 1, RECORD - 1, RECORD, RECORD, RECORD, RECORD + 1, any, any, any, 10 * any])
@@ -314,6 +328,15 @@ impl Scenario {
             }
             Plan::Due => Report::Due.into(),
             Plan::Fetch(port) => Call::Fetch { port },
+            Plan::Ask(port, ticks) => Call::Ask { port, ticks },
+            Plan::Respond(asking, port) => {
+                let said = world::requested(&self.table, asking);
+                Call::Receive { port, frame: world::response(random, &said).into() }
+            }
+            Plan::Misrespond(port) => {
+                let said = world::nearly(random, world::requested(&self.table, port));
+                Call::Receive { port, frame: world::response(random, &said).into() }
+            }
             Plan::Back => Report::Back.into(),
             Plan::Forward => Report::Forward.into(),
         }
@@ -351,6 +374,49 @@ impl Scenario {
         }
         self.ticks(random.of(&[1, 20, 21]));
         self.left += (self.plans.len() - before) as u32;
+    }
+
+    /// A Marker is asked for, mostly on a port that distributes. Then its Response comes, or too late, or the link falls first, or a
+    /// Response that does not fit; or something that ends nothing, and then its Response. Often enough it comes once more.
+    fn ask(&mut self, random: &mut Random, port: u32) {
+        let distributing = world::distributing(&self.table);
+        let port = if distributing.is_empty() || random.percent(10) { port } else { random.of(&distributing) };
+        if distributing.is_empty() && random.percent(80) {
+            self.plans.extend([Plan::Line(port, true, true), Plan::HearCollecting(port, true)]);
+            self.ticks(20);
+            self.plans.push_back(Plan::HearCollecting(port, true));
+        }
+        let other = self.world.port(random);
+        let ticks = random.weighted(&[(6, 1), (6, 2), (6, 3), (6, 7), (4, 12), (4, 40), (2, 600), (1, 0), (1, 601)]);
+        let respond = Plan::Respond(port, port);
+        self.plans.push_back(Plan::Ask(port, ticks));
+        match random.below(14) {
+            0..=2 => self.ticks(random.below(ticks.min(40))),
+            3..=5 => {
+                self.left += ticks;
+                self.ticks(ticks.saturating_sub(1));
+                self.plans.extend(random.percent(20).then_some(respond));
+                self.ticks(1);
+            }
+            6..=7 => {
+                self.ticks(random.below(ticks.min(3)));
+                let full = random.flag();
+                let falls = [Plan::Link(port, false), Plan::Duplex(port, false), Plan::Line(port, false, full)];
+                self.plans.push_back(random.of(&falls));
+            }
+            8..=9 => self.plans.extend((0..random.between(1, 3)).map(|_| Plan::Misrespond(port))),
+            10 => self.plans.extend([Plan::Respond(port, other), Plan::Respond(other, port)]),
+            11 => self.plans.push_back(Plan::Ask(port, random.of(&[1, ticks, 600, 601]))),
+            12 => self.plans.extend([Plan::HearCollecting(port, false), Plan::Ask(port, ticks)]),
+            _ => {
+                let (up, full) = world::line_of(&self.table, port);
+                let nothing = [Plan::Line(port, up, full), Plan::Settings(port), Plan::Link(other, false), Plan::Back];
+                self.plans.push_back(random.of(&nothing));
+            }
+        }
+        self.plans.push_back(respond);
+        self.plans.extend(random.percent(30).then_some(respond));
+        self.plans.push_back(Plan::Line(port, true, true));
     }
 
     fn hear_all(&mut self) {
@@ -428,6 +494,9 @@ impl Scenario {
                 let frame = world::marker(random, 2);
                 return self.request(random, Call::Receive { port, frame: frame.into() });
             }
+            Action::Ask => self.ask(random, port),
+            Action::Respond if random.flag() => self.plans.push_back(Plan::Misrespond(port)),
+            Action::Respond => self.plans.push_back(Plan::Respond(port, port)),
             Action::Port => return self.request(random, Report::Port { port }.into()),
             Action::Aggregator => return self.request(random, Report::Aggregator { aggregator: port }.into()),
             Action::Due => return self.request(random, Report::Due.into()),
@@ -455,7 +524,8 @@ impl Scenario {
         let port = self.world.port(random);
         let mut frame = match random.below(4) {
             0 => world::marker(random, 1),
-            1 => world::marker(random, 2),
+            1 if random.flag() => world::marker(random, 2),
+            1 => world::response(random, &world::requested(&self.table, port)),
             _ => self.world.lacpdu(random, &self.table, port),
         };
         if random.percent(50) {
@@ -488,7 +558,7 @@ impl Scenario {
         if random.percent(60) {
             settings.partner[14] ^= random.of(&[0x08, 0x10, 0x18]);
         }
-        let call = match random.below(13) {
+        let call = match random.below(15) {
             0 if random.percent(10) => Report::Version.into(),
             0 => sizes(random).into(),
             1 => match self.world.start(random) {
@@ -507,6 +577,10 @@ impl Scenario {
             8 => Report::Due.into(),
             9..=10 => Report::Back.into(),
             11 => Report::Forward.into(),
+            12..=13 => {
+                let any = random.bits() as u32;
+                Call::Ask { port, ticks: random.of(&[0, 1, 30, 600, 601, 0x1_0001, u32::MAX, any]) }
+            }
             _ if random.flag() => Call::Receive { port, frame: self.world.lacpdu(random, &self.table, port).into() },
             _ => match self.damaged(random) {
                 Call::Receive { frame, .. } => Call::Receive { port, frame },

@@ -1,7 +1,7 @@
 //! How many calls of each kind and each answer were compared.
 
 use crate::scenario::Kind;
-use crate::world::{self, BASE, HEADER, RECORD};
+use crate::world::{self, BASE, HEADER, RECORD, REQUEST, REQUEST_AT};
 use calls::{Call, Counters, Reply, Report, Request, NAMES};
 use std::collections::BTreeMap;
 use std::fmt;
@@ -23,6 +23,12 @@ pub struct Tally {
     churn: [[[u64; 3]; 2]; 2],
     /// How often each counter moved, and how often it wrapped.
     counters: [[u64; 2]; 7],
+    /// What came of Markers, in tables that runs make or in any memory.
+    asked: [[u64; 4]; 2],
+    /// How often the number of the next one wrapped.
+    wrapped: u64,
+    /// Responses, by how they fit what was asked for.
+    responses: [u64; 7],
 }
 
 const LINES: [(&str, (bool, bool)); 4] = [
@@ -33,11 +39,16 @@ const LINES: [(&str, (bool, bool)); 4] = [
 ];
 
 /// Octets lent for a record.
-const LENT: [&str; 4] = ["0", "1 to 70", "71", "more"];
+const LENT: [&str; 4] = ["0", "1 to 77", "78", "more"];
 /// Why a move was refused, if it was: the table has the size of the form into which it was to go, or of neither form, or only a field
 /// can be out of range; else the memory for the moved table has a wrong size.
 const MOVES: [&str; 5] = ["done", "other form", "neither form", "out of range", "target size"];
 const CHURN_STATES: [&str; 3] = ["NO_CHURN", "MONITOR", "CHURN"];
+const ASKED: [&str; 4] = ["awaited", "answered", "timed out", "cancelled"];
+/// How a Response fits what was asked for on its port: it is accepted; a bit of port, system or transaction is another; another port
+/// awaits it; it fits, and the Marker has ended; or otherwise.
+const RESPONSES: [&str; 7] =
+    ["accepted", "port off", "system off", "number off", "other port", "too late", "otherwise"];
 
 impl Tally {
     /// Counts a call that was compared, of a run of that kind.
@@ -62,10 +73,14 @@ impl Tally {
             _ => {}
         }
         self.count_counters(&request.counters, &reply.counters);
+        if let (Call::Receive { port, frame }, 0 | 12) = (&request.call, answer) {
+            self.count_response(&request.table, *port, frame, answer);
+        }
         if reply.outcome.answer == 0 {
             self.count_states(&reply.table);
             if !matches!(request.call, Call::Start { .. }) {
                 self.count_churn(kind, &request.table, &reply.table);
+                self.count_asked(kind, &request.table, &reply.table);
             }
         }
     }
@@ -88,6 +103,36 @@ impl Tally {
         }
     }
 
+    fn count_asked(&mut self, kind: Kind, before: &[u8], after: &[u8]) {
+        let counts = &mut self.asked[usize::from(kind == Kind::AnyMemory)];
+        for ((old, old_next), (new, next)) in world::asked(before).zip(world::asked(after)) {
+            if old != new {
+                raise(counts, new.wrapping_sub(1));
+            }
+            self.wrapped += u64::from(old_next > next);
+        }
+    }
+
+    fn count_response(&mut self, table: &[u8], port: u32, frame: &[u8], answer: u32) {
+        let Some(said) = frame.get(REQUEST_AT..REQUEST_AT + REQUEST).filter(|_| frame[14] == 2 && frame[16] == 2)
+        else {
+            return;
+        };
+        let awaits = |port| matches!(world::asked_on(table, port), Some((1, _)));
+        let awaited = matches!(world::asked_on(table, port), Some((2..=4, _)));
+        let fits = |port| world::requested(table, port) == said;
+        let place = match one_bit_off(&world::requested(table, port), said).filter(|_| awaits(port)) {
+            _ if answer == 0 => 0,
+            Some(0..2) => 1,
+            Some(2..8) => 2,
+            Some(_) => 3,
+            None if (1..=world::ports_of(table) as u32).any(|other| awaits(other) && fits(other)) => 4,
+            None if awaited && fits(port) => 5,
+            None => 6,
+        };
+        self.responses[place] += 1;
+    }
+
     fn count_counters(&mut self, before: &Counters, after: &Counters) {
         let numbers = before.numbers().into_iter().zip(after.numbers());
         for ([moved, wrapped], (before, after)) in self.counters.iter_mut().zip(numbers) {
@@ -100,6 +145,24 @@ impl Tally {
     #[cfg(test)]
     pub fn least_counter(&self) -> u64 {
         self.counters.iter().flatten().copied().min().unwrap_or(0)
+    }
+
+    /// The least of what came of Markers, in either kind of memory.
+    #[cfg(test)]
+    pub fn least_asked(&self) -> u64 {
+        self.asked.iter().flatten().copied().min().unwrap_or(0).min(self.wrapped)
+    }
+
+    /// The least of the ways in which a Response fits.
+    #[cfg(test)]
+    pub fn least_response(&self) -> u64 {
+        self.responses.into_iter().min().unwrap_or(0)
+    }
+
+    /// How often that call had that answer.
+    #[cfg(test)]
+    pub fn answered(&self, call: u8, answer: u32) -> u64 {
+        self.counts.get(&(call, answer)).copied().unwrap_or(0)
     }
 
     /// The least of the churn states entered, by either machine, in either kind of memory.
@@ -143,6 +206,13 @@ fn came_of_move(request: &Request, answer: u32, from: usize, to: usize) -> u8 {
     }
 }
 
+/// The octet in which alone two differ, if they do in a single bit.
+fn one_bit_off(one: &[u8], other: &[u8]) -> Option<usize> {
+    let mut differing = one.iter().zip(other).map(|(one, other)| (one ^ other).count_ones()).enumerate();
+    let first = differing.find(|(_, bits)| *bits > 0).filter(|(_, bits)| *bits == 1)?;
+    differing.all(|(_, bits)| bits == 0).then_some(first.0)
+}
+
 fn raise(counts: &mut [u64], state: u8) {
     if let Some(count) = counts.get_mut(usize::from(state)) {
         *count += 1;
@@ -161,13 +231,13 @@ fn row<T: fmt::Display, const N: usize>(f: &mut fmt::Formatter<'_>, name: &str, 
 impl fmt::Display for Tally {
     fn fmt(&self, f: &mut fmt::Formatter<'_>) -> fmt::Result {
         write!(f, "{:<15}", "answer")?;
-        for answer in 0..=12 {
+        for answer in 0..=14 {
             write!(f, "{answer:>9}")?;
         }
         writeln!(f)?;
         for (call, name) in (0..).zip(NAMES) {
             write!(f, "{name:<15}")?;
-            for answer in 0..=12 {
+            for answer in 0..=14 {
                 match self.counts.get(&(call, answer)) {
                     Some(count) => write!(f, "{count:>9}")?,
                     None => write!(f, "{:>9}", "-")?,
@@ -193,6 +263,13 @@ impl fmt::Display for Tally {
                 row(f, name, counts)?;
             }
         }
+        row(f, "Markers", ASKED)?;
+        for (name, counts) in ["  made", "  any"].iter().zip(self.asked) {
+            row(f, name, counts)?;
+        }
+        writeln!(f, "  numbers that wrapped: {}", self.wrapped)?;
+        row(f, "Responses", RESPONSES)?;
+        row(f, "", self.responses)?;
         writeln!(f, "{:<28}{:>14}{:>14}", "counters", "moved", "wrapped")?;
         for (name, [moved, wrapped]) in Counters::NAMES.iter().zip(self.counters) {
             writeln!(f, "  {name:<26}{moved:>14}{wrapped:>14}")?;

@@ -2,6 +2,7 @@
 
 use crate::random::Random;
 use calls::{Call, SettingsArguments};
+use std::ops::Range;
 
 /// Octets of an information block.
 pub const BLOCK: usize = 15;
@@ -11,10 +12,23 @@ pub const HEADER: usize = 11;
 pub const BASE: usize = 57;
 /// Octets of a record's churn. In a table these groups stand behind the last port's `BASE`.
 pub const CHURN: usize = 14;
+/// Octets of what a record keeps of its port's Markers. In a table these groups stand behind all else.
+pub const ASKED: usize = 7;
 /// Octets of a record, as a report gives it.
-pub const RECORD: usize = BASE + CHURN;
+pub const RECORD: usize = BASE + CHURN + ASKED;
+/// The same in a table of the old form, which has no churn.
+pub const OLD_RECORD: usize = BASE + ASKED;
 /// Octets of a sent frame.
 pub const FRAME: usize = 124;
+
+/// Where the group of a port's Markers stands in its record.
+pub const ASKED_AT: usize = BASE + CHURN;
+/// Octets of what a Marker and its Response say, and where they stand in the frame.
+pub const REQUEST: usize = 12;
+/// See [`REQUEST`].
+pub const REQUEST_AT: usize = 18;
+/// The Mux state in which a port is asked for Markers.
+const DISTRIBUTING: u8 = 4;
 
 const AGGREGATION: u8 = 0x04;
 const SYNCHRONIZATION: u8 = 0x08;
@@ -64,24 +78,39 @@ fn block(priority: u16, system: [u8; 6], key: u16, port_priority: u16, port: u16
     block
 }
 
-/// Where an octet of the record of a port, both from 0, stands in a table of that many ports.
-pub fn place(ports: usize, port: usize, at: usize) -> usize {
-    match at.checked_sub(BASE) {
-        None => HEADER + BASE * port + at,
-        Some(at) => HEADER + BASE * ports + CHURN * port + at,
-    }
+/// Where a field of the record of a port, both from 0, stands in a table of so many octets and ports; none if they end before it, or
+/// the table is of the old form and the field one of churn.
+pub fn field(octets: usize, ports: usize, port: usize, at: usize, length: usize) -> Option<Range<usize>> {
+    let old = octets == HEADER + OLD_RECORD * ports;
+    let start = match at {
+        0..BASE => HEADER + BASE * port + at,
+        ASKED_AT.. if old => HEADER + BASE * ports + ASKED * port + at - ASKED_AT,
+        ASKED_AT.. => HEADER + ASKED_AT * ports + ASKED * port + at - ASKED_AT,
+        _ if old => return None,
+        _ => HEADER + BASE * ports + CHURN * port + at - BASE,
+    };
+    Some(start..start + length).filter(|field| field.end <= octets)
+}
+
+/// The ports that a table says it has.
+pub fn ports_of(table: &[u8]) -> usize {
+    table.first().copied().map_or(0, usize::from)
 }
 
 /// The octets of a table with the port count of this one: in the old form, without churn, and in the new.
 pub fn sizes(table: &[u8]) -> [usize; 2] {
-    let ports = table.first().copied().map_or(0, usize::from);
-    [BASE, RECORD].map(|record| HEADER + record * ports)
+    [OLD_RECORD, RECORD].map(|record| HEADER + record * ports_of(table))
+}
+
+/// A part of the record of a port, if there is such a port.
+fn part_of(table: &[u8], port: u32, at: usize, length: usize) -> Option<&[u8]> {
+    let port = (port as usize).checked_sub(1)?;
+    field(table.len(), ports_of(table), port, at, length).and_then(|field| table.get(field))
 }
 
 /// The record of a port up to its partner, if there is such a port.
 fn base_of(table: &[u8], port: u32) -> Option<&[u8]> {
-    let at = place(0, (port as usize).saturating_sub(1), 0);
-    table.get(at..at + BASE)
+    part_of(table, port, 0, BASE)
 }
 
 /// Whether the link of a port is up and its duplex full, as the table has it; both where there is no such port.
@@ -91,9 +120,39 @@ pub fn line_of(table: &[u8], port: u32) -> (bool, bool) {
 
 /// The states of both Churn Detection machines of each port of a table, the actor's first.
 pub fn churn_states(table: &[u8]) -> impl Iterator<Item = [u8; 2]> + '_ {
-    let ports = table.first().copied().map_or(0, usize::from);
-    let groups = table.get(place(ports, 0, BASE)..).unwrap_or_default();
-    groups.chunks_exact(CHURN).map(|group| [group[0], group[1]])
+    ports_from_1(table).filter_map(|port| part_of(table, port, BASE, CHURN)).map(|group| [group[0], group[1]])
+}
+
+/// What came of the Marker that was asked for last on each port of a table, and the number of the next.
+pub fn asked(table: &[u8]) -> impl Iterator<Item = (u8, u32)> + '_ {
+    ports_from_1(table).filter_map(|port| asked_on(table, port))
+}
+
+/// The same of one port, if there is such a port.
+pub fn asked_on(table: &[u8], port: u32) -> Option<(u8, u32)> {
+    let group = part_of(table, port, ASKED_AT, ASKED)?;
+    Some((group[0], u32::from_be_bytes([group[3], group[4], group[5], group[6]])))
+}
+
+fn ports_from_1(table: &[u8]) -> impl Iterator<Item = u32> {
+    1..=ports_of(table) as u32
+}
+
+/// The ports that distribute, as the table has it.
+pub fn distributing(table: &[u8]) -> Vec<u32> {
+    let distributes = |port: &u32| base_of(table, *port).is_some_and(|record| record[2] == DISTRIBUTING);
+    ports_from_1(table).filter(distributes).collect()
+}
+
+/// What the Marker says that was asked for last on a port, as the table has it; zeros where there is no such port.
+pub fn requested(table: &[u8], port: u32) -> [u8; REQUEST] {
+    let mut said = [0; REQUEST];
+    if let (Some(header), Some((_, next))) = (table.get(..HEADER), asked_on(table, port)) {
+        said[0..2].copy_from_slice(&(port as u16).to_be_bytes());
+        said[2..8].copy_from_slice(&header[3..9]);
+        said[8..12].copy_from_slice(&next.wrapping_sub(1).to_be_bytes());
+    }
+    said
 }
 
 /// The actor block of a port, as the table has it; zeros where there is no such port.
@@ -296,6 +355,29 @@ pub fn marker(random: &mut Random, kind: u8) -> Vec<u8> {
     let mut frame = vec![0x01, 0x80, 0xC2, 0, 0, 2, 2, 0, 0, 0, 0, 5, 0x88, 0x09, 2, 1, kind, 16];
     let padded = random.flag();
     frame.resize_with(FRAME, || if padded { random.octet() } else { 0 });
-    frame[18..30].fill_with(|| random.octet());
+    frame[REQUEST_AT..][..REQUEST].fill_with(|| random.octet());
     frame
+}
+
+/// The Response that says this.
+pub fn response(random: &mut Random, said: &[u8; REQUEST]) -> Vec<u8> {
+    let mut frame = marker(random, 2);
+    frame[REQUEST_AT..][..REQUEST].copy_from_slice(said);
+    frame
+}
+
+/// What a Response says that nearly fits: a bit of port, system or transaction is another, or the transaction is one of those beside it.
+pub fn nearly(random: &mut Random, mut said: [u8; REQUEST]) -> [u8; REQUEST] {
+    let [.., t3, t2, t1, t0] = said;
+    let transaction = u32::from_be_bytes([t3, t2, t1, t0]);
+    match random.below(5) {
+        0 => said[random.place(2)] ^= random.bit(),
+        1 => said[2 + random.place(6)] ^= random.bit(),
+        2..=3 => said[8 + random.place(4)] ^= random.bit(),
+        _ => {
+            let other = random.of(&[transaction.wrapping_sub(1), transaction.wrapping_add(1)]);
+            said[8..].copy_from_slice(&other.to_be_bytes());
+        }
+    }
+    said
 }

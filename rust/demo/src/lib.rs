@@ -1,6 +1,6 @@
 //! Two switches of ours, A and B, joined by cables: a plain-text list of events is played on two tables of the library, and
-//! what becomes of the trunk, and which links never settle, is shown as a timeline in text and as a picture. The text ends with what each
-//! port has counted.
+//! what becomes of the trunk, which links never settle, and which drain, is shown as a timeline in text and as a picture. The text ends with
+//! what each port has counted.
 //!
 //! ```
 //! let script = demo::parse("switches 2\nup 1\nup 2\ntick 30\n").unwrap();

@@ -2,7 +2,10 @@
 
 use crate::cabling::{all_ports, Cabling, Port, Switch};
 use crate::script::{Command, LinkChange, Setting};
-use myrkosti::{Block, Counters, MuxState, PortState, ReceiveState, Record, Refusal, Settings, SystemId, Table, FRAME};
+use myrkosti::{
+    AskOutcome, Asked, Block, Counters, MuxState, PortState, ReceiveState, Received, Record, Refusal, Settings,
+    SystemId, Table, FRAME,
+};
 
 /// How a port stands, as the timeline shows it.
 #[derive(Clone, Copy, Debug, PartialEq, Eq)]
@@ -41,6 +44,10 @@ pub struct PortLook {
     churns: [bool; 2],
     /// The partner that it learned: system and port. None if it goes by the default.
     pub partner: Option<(SystemId, u16)>,
+    /// What came of the Marker that was asked for last.
+    pub asked: AskOutcome,
+    /// The transaction of that Marker, if there was one.
+    pub transaction: Option<u32>,
 }
 
 impl PortLook {
@@ -52,6 +59,8 @@ impl PortLook {
             aggregator: u32::from(record.aggregator),
             churns: [record.churn.actor.churns(), record.churn.partner.churns()],
             partner: learned.then_some(partner),
+            asked: record.asked.outcome,
+            transaction: record.asked.transaction(),
         }
     }
 
@@ -86,6 +95,15 @@ impl Look {
     }
 }
 
+/// What came of a Marker that was asked for.
+#[derive(Clone, Copy, Debug, PartialEq, Eq)]
+pub enum Came {
+    /// It was asked for in vain.
+    Refused(Refusal),
+    /// It has come to one of its ends.
+    Ended(Asked),
+}
+
 /// Two switches and their cables. A refusal of the library that is no part of the game ends it.
 pub struct Network {
     tables: [Table; 2],
@@ -94,6 +112,10 @@ pub struct Network {
     deaf: [Vec<bool>; 2],
     /// Those of each port of A and of B.
     counters: [Vec<Counters>; 2],
+    /// The ports that await the Response to a Marker.
+    awaiting: Vec<Port>,
+    /// What is to be told of Markers.
+    came: Vec<(Port, Came)>,
     ports: u32,
 }
 
@@ -103,7 +125,8 @@ impl Network {
         let tables = [start_switch(ports, 0x0A)?, start_switch(ports, 0x0B)?];
         let deaf = Switch::BOTH.map(|_| vec![false; ports as usize]);
         let counters = Switch::BOTH.map(|_| vec![Counters::default(); ports as usize]);
-        Ok(Network { tables, cabling: Cabling::straight(ports), deaf, counters, ports })
+        let (cabling, awaiting, came) = (Cabling::straight(ports), Vec::new(), Vec::new());
+        Ok(Network { tables, cabling, deaf, counters, awaiting, came, ports })
     }
 
     /// A tick passes at both switches, and what is due goes over the cables.
@@ -111,7 +134,8 @@ impl Network {
         for table in &mut self.tables {
             table.tick()?;
         }
-        self.exchange()
+        self.exchange()?;
+        self.note_ended()
     }
 
     /// Performs a command other than a tick, and what is due goes over the cables. A moved table has nothing due that it had not before.
@@ -121,10 +145,26 @@ impl Network {
             Command::Deaf(port) => self.set_deaf(*port, true),
             Command::Set(setting, port) => self.set(*setting, *port)?,
             Command::Move(port, to) => self.move_cable(port.cable_to(*to))?,
+            Command::Ask(port, ticks) => self.ask(*port, *ticks)?,
             Command::Reload(switch) => return self.reload(*switch),
             Command::Tick(_) | Command::Note(_) => return Ok(()),
         }
-        self.exchange()
+        self.exchange()?;
+        self.note_ended()
+    }
+
+    /// What is to be told of Markers since it was told last.
+    pub fn tell(&mut self) -> Vec<(Port, Came)> {
+        std::mem::take(&mut self.came)
+    }
+
+    /// The Markers that were asked for on the ports of A and of B.
+    pub fn asked(&self) -> Result<[Vec<Asked>; 2], Refusal> {
+        let mut asked = [Vec::new(), Vec::new()];
+        for port in all_ports(self.ports) {
+            asked[port.switch.index()].push(self.table(port).port(port.number)?.asked);
+        }
+        Ok(asked)
     }
 
     /// What the reports show now.
@@ -200,13 +240,43 @@ impl Network {
                 frames.push((port, out));
             }
         }
-        for (port, frame) in frames {
-            if let Some(far) = self.way_from(port) {
-                let (table, counters) = self.counting(far);
-                match table.receive(far.number, &frame, &mut [0; FRAME], counters) {
-                    Ok(_) | Err(Refusal::LacpOff) => {}
-                    Err(refusal) => return Err(refusal),
-                }
+        frames.iter().try_for_each(|(port, frame)| self.carry(*port, frame))
+    }
+
+    /// A frame of a port arrives at the other end of its cable, if it is not lost, and the Response to a Marker comes back.
+    fn carry(&mut self, port: Port, frame: &[u8; FRAME]) -> Result<(), Refusal> {
+        let Some(far) = self.way_from(port) else { return Ok(()) };
+        let mut response = [0; FRAME];
+        let (table, counters) = self.counting(far);
+        match table.receive(far.number, frame, &mut response, counters) {
+            Ok(Received::Marker(_)) => self.carry(far, &response),
+            Ok(_) | Err(Refusal::LacpOff | Refusal::NotCollecting) => Ok(()),
+            Err(refusal) => Err(refusal),
+        }
+    }
+
+    /// A Marker goes to the far end, unless the port is not to be asked.
+    fn ask(&mut self, port: Port, ticks: u32) -> Result<(), Refusal> {
+        let mut marker = [0; FRAME];
+        match self.table_mut(port).ask(port.number, ticks, &mut marker) {
+            Ok(_) => {
+                self.awaiting.push(port);
+                self.carry(port, &marker)
+            }
+            Err(refusal @ (Refusal::NotDistributing | Refusal::AlreadyAwaiting)) => {
+                self.came.push((port, Came::Refused(refusal)));
+                Ok(())
+            }
+            Err(refusal) => Err(refusal),
+        }
+    }
+
+    /// Takes note of the Markers that are awaited no longer.
+    fn note_ended(&mut self) -> Result<(), Refusal> {
+        for port in std::mem::take(&mut self.awaiting) {
+            match self.table(port).port(port.number)?.asked {
+                asked if asked.outcome.ended() => self.came.push((port, Came::Ended(asked))),
+                _ => self.awaiting.push(port),
             }
         }
         Ok(())

@@ -1,9 +1,10 @@
 //! What became of the trunk, in words, from the reports.
 
 use crate::cabling::{all_ports, Port, Switch};
-use crate::network::{End, Look, State, Trunk};
-use crate::story::{Churning, Story};
+use crate::network::{Came, End, Look, State, Trunk};
+use crate::story::{Churning, Marker, Story};
 use crate::timeline::seconds;
+use myrkosti::{AskOutcome, Refusal};
 use std::rc::Rc;
 
 /// What became of the trunk from the event at this place to the next.
@@ -14,6 +15,7 @@ pub fn outcome(story: &Story, event: usize) -> String {
     let mut sentences = vec![if a == b { format!("A and B: {a}.") } else { format!("A: {a}; B: {b}.") }];
     sentences.extend(standstill(span));
     sentences.extend(lost(story.ports, span));
+    sentences.extend(markers(story, event));
     sentences.extend(churning(story, event));
     sentences.extend(displaced(story.ports, span, before));
     sentences.join(" ")
@@ -86,6 +88,29 @@ fn churning(story: &Story, event: usize) -> Vec<String> {
         }
     }
     told.iter().map(|(told, ports)| churning_words(ports, told)).collect()
+}
+
+/// What came of Markers from the event to the next, and which are awaited then.
+fn markers(story: &Story, event: usize) -> Vec<String> {
+    let (from, span) = (story.events[event].tick, story.span(event));
+    let to = story.events.get(event + 1).map_or(usize::MAX, |next| next.tick);
+    let here = story.markers.iter().filter(|marker| (from..to).contains(&marker.tick));
+    let ended_behind = |port| here.clone().any(|marker| marker.port == port && marker.tick >= from + span.len());
+    let awaited = all_ports(story.ports).filter_map(|port| {
+        let look = span.last()?.port(port);
+        let transaction = look.transaction.filter(|_| look.asked == AskOutcome::Awaiting && !ended_behind(port))?;
+        Some(format!("{port}: Marker {transaction} awaited."))
+    });
+    here.clone().map(|marker| marker_words(marker, from)).chain(awaited).collect()
+}
+
+fn marker_words(Marker { port, tick, came }: &Marker, from: usize) -> String {
+    let when = if *tick == from { "at once".into() } else { format!("at {}", at(*tick)) };
+    match came {
+        Came::Refused(Refusal::AlreadyAwaiting) => format!("{port}: no further Marker while one is awaited."),
+        Came::Refused(_) => format!("{port}: no Marker, for it does not distribute."),
+        Came::Ended(asked) => format!("{port}: {asked} {when}."),
+    }
 }
 
 /// What is told of churn: of which end, since which tick and, if it is over, up to which.

@@ -1,6 +1,7 @@
 //! The plain-text list of events: its commands, and how it is read.
 
 use crate::cabling::{Cabling, Port, Switch};
+use myrkosti::LONGEST_WAIT;
 use std::ops::RangeInclusive;
 use std::str::SplitWhitespace;
 
@@ -12,8 +13,9 @@ const DEFAULT_PORTS: u32 = 4;
 const PORTS: RangeInclusive<u32> = 1..=8;
 const TICKS: RangeInclusive<u32> = 1..=100_000;
 const KEYS: RangeInclusive<u32> = 0..=65_535;
+const WAITS: RangeInclusive<u32> = 1..=LONGEST_WAIT;
 const COMMANDS: &str =
-    "switches, tick, up, down, silence, deaf, speak, half, full, key, move, long, short, passive, active, reload or note";
+    "switches, tick, up, down, silence, deaf, speak, half, full, key, move, long, short, passive, active, ask, reload or note";
 
 /// A list of events that has been read.
 #[derive(Clone, Debug, PartialEq, Eq)]
@@ -33,6 +35,8 @@ pub enum Command {
     Set(Setting, Port),
     /// The cable of a port now ends at that port of the other switch.
     Move(Port, u32),
+    /// A Marker is asked for on that port, and its Response awaited for so many ticks.
+    Ask(Port, u32),
     /// The table of a switch goes into the old form and into the new again.
     Reload(Switch),
     Note(String),
@@ -146,6 +150,7 @@ impl Line<'_> {
                 Command::Set(Setting::Key(self.number("a key", KEYS)? as u16), port)
             }
             "move" => Command::Move(self.port()?, self.number("a port of the other switch", 1..=self.ports)?),
+            "ask" => Command::Ask(self.port()?, self.number("a waiting time", WAITS)?),
             "reload" => Command::Reload(self.switch()?),
             "note" => Command::Note(self.text()?),
             name => return Err(format!("expected {COMMANDS}, found '{name}'")),
@@ -201,18 +206,20 @@ mod tests {
     #[test]
     fn every_command_is_read() {
         let text = "\u{feff}# all\r\nswitches 5\n\nup 1 # one\ndown 2\nsilence 3\nspeak 3\nhalf A 1\nfull B 5\nkey B 2 65535\n\
-                    move A 4 5\ndeaf B 5\nlong A 1\nshort A 1\npassive B 1\nactive B 1\nreload B\nnote  all  is well # so far\ntick 100000";
+                    move A 4 5\ndeaf B 5\nlong A 1\nshort A 1\npassive B 1\nactive B 1\nreload B\nnote  all  is well # so far\nask B 5 600\ntick 100000";
         let script = parse(text).unwrap();
-        assert_eq!((script.ports, script.commands.len()), (5, 16));
+        assert_eq!((script.ports, script.commands.len()), (5, 17));
         assert_eq!(script.commands[6], Command::Set(Setting::Key(65_535), Port::b(2)));
         assert_eq!(script.commands[7], Command::Move(Port::a(4), 5));
         assert_eq!(script.commands[8], Command::Deaf(Port::b(5)));
         assert_eq!(script.commands[13], Command::Reload(Switch::B));
         assert_eq!(script.commands[14], Command::Note("all is well".into()));
+        assert_eq!(script.commands[15], Command::Ask(Port::b(5), 600));
         assert_eq!(parse("").unwrap(), Script { ports: 4, commands: vec![] });
         assert!(parse(BUILT_IN).is_ok() && parse(include_str!("../stories/silent-first-link.txt")).is_ok());
         assert!(parse(include_str!("../stories/never-settles.txt")).is_ok());
         assert!(parse(include_str!("../stories/new-firmware.txt")).is_ok());
+        assert!(parse(include_str!("../stories/drained.txt")).is_ok());
     }
 
     #[test]
@@ -229,6 +236,12 @@ mod tests {
         assert_eq!(message("move A 1"), "line 1: 'move' wants a port of the other switch from 1 to 4, found nothing");
         assert_eq!(message("reload"), "line 1: 'reload' wants a switch, A or B, found nothing");
         assert_eq!(message("reload A 1"), "line 1: 'reload' wants nothing more, found '1'");
+        assert_eq!(message("ask 1 30"), "line 1: 'ask' wants a switch, A or B, found '1'");
+        assert_eq!(message("ask A 5 30"), "line 1: 'ask' wants a port from 1 to 4, found '5'");
+        assert_eq!(message("ask A 1"), "line 1: 'ask' wants a waiting time from 1 to 600, found nothing");
+        assert_eq!(message("ask A 1 0"), "line 1: 'ask' wants a waiting time from 1 to 600, found '0'");
+        assert_eq!(message("ask A 1 601"), "line 1: 'ask' wants a waiting time from 1 to 600, found '601'");
+        assert_eq!(message("ask A 1 30 s"), "line 1: 'ask' wants nothing more, found 's'");
         assert_eq!(message("note # nothing"), "line 1: 'note' wants a text, found nothing");
         assert_eq!(message("up 1 2"), "line 1: 'up' wants nothing more, found '2'");
         assert_eq!(message("Tick 1"), format!("line 1: expected {COMMANDS}, found 'Tick'"));

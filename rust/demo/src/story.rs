@@ -1,9 +1,10 @@
 //! A script as it was played: what the reports showed in every tick, and the events.
 
 use crate::cabling::{all_ports, Port};
-use crate::network::{End, Look, Network};
+use crate::network::{Came, End, Look, Network};
+use crate::outcome::ticks;
 use crate::script::{Command, LinkChange, Script, Setting};
-use myrkosti::{Counters, Refusal};
+use myrkosti::{Asked, Counters, Refusal};
 use std::ops::Range;
 use std::rc::Rc;
 
@@ -20,8 +21,19 @@ pub struct Story {
     pub(crate) events: Vec<Event>,
     /// When links churned, in the order of the ports.
     pub(crate) churning: Vec<Churning>,
+    /// What is told of Markers, in the order of time.
+    pub(crate) markers: Vec<Marker>,
     /// What the ports of A and of B had counted in the end.
     counters: [Vec<Counters>; 2],
+    /// The Markers that had been asked for on them.
+    asked: [Vec<Asked>; 2],
+}
+
+/// What is told of a Marker that a port was asked for.
+pub struct Marker {
+    pub port: Port,
+    pub tick: usize,
+    pub came: Came,
 }
 
 /// A time during which a port's link churned at one end.
@@ -54,16 +66,18 @@ pub fn play(script: &Script) -> Result<Story, Refusal> {
             for _ in 0..*ticks {
                 story.keep(&network)?;
                 network.tick()?;
+                story.keep_markers(&mut network);
             }
         } else {
             network.perform(command)?;
+            story.keep_markers(&mut network);
             story.event_now().add(command);
         }
     }
     if !matches!(script.commands.last(), Some(Command::Tick(_))) {
         story.keep(&network)?;
     }
-    story.counters = network.counters();
+    (story.counters, story.asked) = (network.counters(), network.asked()?);
     for port in all_ports(script.ports) {
         End::BOTH.into_iter().for_each(|end| story.keep_churning(port, end));
     }
@@ -78,7 +92,9 @@ impl Story {
             sent: Vec::new(),
             events: Vec::new(),
             churning: Vec::new(),
+            markers: Vec::new(),
             counters: [Vec::new(), Vec::new()],
+            asked: [Vec::new(), Vec::new()],
         }
     }
 
@@ -98,6 +114,11 @@ impl Story {
         &self.counters
     }
 
+    /// The Markers that had been asked for on the ports of A and of B in the end.
+    pub fn asked(&self) -> &[Vec<Asked>; 2] {
+        &self.asked
+    }
+
     /// What the reports showed from the event at this place to the next.
     pub(crate) fn span(&self, event: usize) -> &[Rc<Look>] {
         let from = self.events[event].tick;
@@ -112,6 +133,12 @@ impl Story {
         self.looks.push(same.unwrap_or_else(|| Rc::new(look)));
         self.sent.push(network.sent());
         Ok(())
+    }
+
+    /// What the network has to tell of Markers came with this tick.
+    fn keep_markers(&mut self, network: &mut Network) {
+        let tick = self.looks.len();
+        self.markers.extend(network.tell().into_iter().map(|(port, came)| Marker { port, tick, came }));
     }
 
     /// Remembers when that end churned, which a report does not tell.
@@ -144,6 +171,7 @@ impl Event {
             Command::Deaf(port) => (port.to_string(), "deaf".into()),
             Command::Set(setting, port) => (port.to_string(), setting_words(*setting)),
             Command::Move(port, to) => (format!("cable of {port}"), format!("now ends at {}", port.opposite(*to))),
+            Command::Ask(port, wait) => (port.to_string(), asked_words(*wait)),
             Command::Reload(switch) => (format!("table of {switch:?}"), RELOADED.into()),
         };
         self.acts.push(act);
@@ -164,6 +192,10 @@ impl Event {
 fn done_alike(acts: &[(String, String)]) -> String {
     let subjects: Vec<&str> = acts.iter().map(|(subject, _)| subject.as_str()).collect();
     format!("{} {}", subjects.join(", "), acts[0].1)
+}
+
+fn asked_words(wait: u32) -> String {
+    format!("asked for a Marker, to be awaited for {}", ticks(wait as usize))
 }
 
 fn change_words(change: LinkChange) -> &'static str {

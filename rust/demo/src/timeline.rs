@@ -5,6 +5,7 @@ use crate::network::{End, State};
 use crate::outcome::{outcome, ticks};
 use crate::page::page;
 use crate::story::Story;
+use myrkosti::AskOutcome;
 
 /// Characters of a line at most.
 pub const LINE: usize = 100;
@@ -28,6 +29,9 @@ pub const LEGEND: [(State, char, &str); 8] = [
 /// What the row under a port that churns shows.
 const CHURN: &str = "t f b  the link churns: for a minute and more t this end, f the far end, b both are out of sync";
 
+/// What the row under a port that was asked for Markers shows.
+const ASKED: &str = "o + x /  the last Marker that was asked for: o awaited, + answered, x timed out, / cancelled";
+
 /// The legend, the timeline, the events with what became of the trunk, and the port pages.
 pub fn text(story: &Story) -> String {
     let step = round_step(|step| story.looks.len().div_ceil(step) <= COLUMNS);
@@ -39,6 +43,10 @@ pub fn text(story: &Story) -> String {
         if story.churning.iter().any(|churning| churning.port == port) {
             let churns = |tick: usize| churning(End::BOTH.map(|end| story.looks[tick].port(port).churns(end)));
             lines.push(row(&format!("{port} churn"), story, step, churns));
+        }
+        let asked = |tick: usize| story.looks[tick].port(port).asked;
+        if (0..story.looks.len()).any(|tick| asked(tick) != AskOutcome::None) {
+            lines.push(row(&format!("{port} asked"), story, step, |tick| asked_character(asked(tick))));
         }
     }
     lines.push(String::new());
@@ -53,7 +61,9 @@ pub fn text(story: &Story) -> String {
         lines.extend(paragraph(&format!("{:>2}", at + 1), &words));
         lines.extend(paragraph("", &outcome(story, at)));
     }
-    lines.extend(Switch::BOTH.into_iter().zip(story.counters()).flat_map(|(switch, ports)| page(switch, ports)));
+    for (switch, (ports, asked)) in Switch::BOTH.into_iter().zip(story.counters().iter().zip(story.asked())) {
+        lines.extend(page(switch, ports, asked));
+    }
     lines.iter().map(|line| format!("{}\n", line.trim_end())).collect()
 }
 
@@ -69,6 +79,17 @@ fn churning(ends: [bool; 2]) -> char {
         [true, false] => 't',
         [false, true] => 'f',
         [true, true] => 'b',
+    }
+}
+
+/// The character of what came of the last Marker.
+fn asked_character(outcome: AskOutcome) -> char {
+    match outcome {
+        AskOutcome::None => ' ',
+        AskOutcome::Awaiting => 'o',
+        AskOutcome::Answered => '+',
+        AskOutcome::TimedOut => 'x',
+        AskOutcome::Cancelled => '/',
     }
 }
 
@@ -116,8 +137,10 @@ fn introduction(story: &Story, step: usize) -> Vec<String> {
     let entry = |(_, character, words): &(_, char, &str)| format!("{character} {words:<43}");
     let legend = LEGEND.chunks(2).map(|pair| format!("    {}", pair.iter().map(entry).collect::<String>()));
     let churn = (!story.churning.is_empty()).then(|| format!("    {CHURN}"));
+    let asked = story.looks.iter().any(|look| look.ports.iter().flatten().any(|port| port.transaction.is_some()));
+    let asked = asked.then(|| format!("    {ASKED}"));
     let blank = || [String::new()];
-    wrap(&about, LINE).into_iter().chain(blank()).chain(legend).chain(churn).chain(blank()).collect()
+    wrap(&about, LINE).into_iter().chain(blank()).chain(legend).chain(churn).chain(asked).chain(blank()).collect()
 }
 
 fn row(label: &str, story: &Story, step: usize, shown: impl Fn(usize) -> char) -> String {

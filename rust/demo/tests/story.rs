@@ -47,11 +47,13 @@ fn a_link_that_never_settles() {
     assert_eq!(stripes(&svg(&story)), 2 + 4);
 }
 
-/// Both stories have the same ports in the same aggregators, and the same LACPDUs sent, in every tick, and the same port pages.
+/// Both stories have the same ports in the same aggregators, and the same LACPDUs sent, in every tick, and the same port pages and
+/// Markers.
 fn carry_alike(one: &Story, other: &Story) {
     assert_eq!(one.held(), other.held());
     assert_eq!(one.sent(), other.sent());
     assert_eq!(one.counters(), other.counters());
+    assert_eq!(one.asked(), other.asked());
 }
 
 #[test]
@@ -82,7 +84,7 @@ fn a_table_may_be_moved_in_every_tick() {
         Some(ticks) => "reload A\nreload B\ntick 1\n".repeat(ticks.parse().unwrap()),
         None => format!("{line}\n"),
     };
-    for script in [BUILT_IN, include_str!("../stories/silent-first-link.txt")] {
+    for script in [BUILT_IN, include_str!("../stories/silent-first-link.txt"), include_str!("../stories/drained.txt")] {
         carry_alike(&story(script), &story(&script.lines().map(every_tick).collect::<String>()));
     }
 }
@@ -128,15 +130,85 @@ fn the_text_ends_with_the_port_pages() {
     let text = text(&story);
     let pages: Vec<&str> = text.split("\nPort page of ").skip(1).collect();
     assert_eq!(pages.len(), 2);
-    for ((switch, page), counters) in ["A", "B"].iter().zip(pages).zip(story.counters()) {
+    for ((switch, page), (counters, asked)) in
+        ["A", "B"].iter().zip(pages).zip(story.counters().iter().zip(story.asked()))
+    {
         assert!(page.starts_with(&format!("{switch}: what has come in and gone out on each port\n")));
         let rows = page.lines().filter(|line| line.starts_with(*switch)).skip(1);
-        let expected = (1..).zip(counters).map(|(number, port)| {
+        let expected = (1..).zip(counters.iter().zip(asked)).map(|(number, (port, asked))| {
             let numbers = port.numbers().map(|number| number.to_string());
-            format!("{switch}{number} {}", numbers.join(" "))
+            format!("{switch}{number} {} {}", numbers.join(" "), asked.outcome)
         });
         assert_eq!(rows.map(words).collect::<Vec<_>>(), expected.collect::<Vec<_>>());
     }
+}
+
+#[test]
+fn a_link_drains_or_not() {
+    let story = story(include_str!("../stories/drained.txt"));
+    let (text, said) = (text(&story), words(&text(&story)));
+    for told in [
+        "[link 1, link 2 up; A1 asked for a Marker, to be awaited for 30 ticks]",
+        "No traffic for 21 ticks. A1: no Marker, for it does not distribute.",
+        "[A1, A2 asked for a Marker, to be awaited for 30 ticks]",
+        "all the while. A1: Marker 0 answered at once. A2: Marker 0 answered at once.",
+        "A1: Marker 1 timed out at tick 70 (7 s). B1: Marker 0 awaited.",
+        "A and B: aggregator 1 carries on ports 1 2 after 11 ticks. B1: Marker 0 timed out at tick 110 (11 s).",
+        "A2: Marker 1 awaited.",
+        "A2: Marker 1 cancelled at once.",
+    ] {
+        assert!(said.contains(told), "{said}");
+    }
+    assert_eq!(row(&text, "A1 asked").trim(), format!("{}{}{}", "+".repeat(5), "o".repeat(10), "x".repeat(48)));
+    assert!(row(&text, "A2 asked").trim_end().ends_with("++oo///////////") && !text.contains("B2 asked"));
+    assert!(text.contains("o awaited, + answered, x timed out, / cancelled"));
+    assert!(text.lines().all(|line| line.chars().count() <= LINE));
+    assert!(words(&svg(&story)).contains("A2: Marker 1 cancelled at once."));
+    let asked = story.asked().each_ref().map(|ports| ports.iter().map(ToString::to_string).collect::<Vec<_>>());
+    assert_eq!(asked[0], ["Marker 1 timed out", "Marker 1 cancelled"]);
+    assert_eq!(asked[1], ["Marker 0 timed out", "no Marker asked for"]);
+    let [a, b] = story.counters();
+    assert_eq!([a, b].map(|ports| ports[1].marker_responses_received), [1, 0]);
+    assert_eq!((b[1].markers_received, b[1].marker_responses_sent), (2, 2));
+}
+
+/// Up to where both links carry.
+const CARRYING: &str = "switches 2\nup 1\nup 2\ntick 40\n";
+
+#[test]
+fn a_marker_is_told_where_it_ends() {
+    let said = |script: &str| words(&text(&story(&format!("{CARRYING}{script}"))));
+    let twice = said("silence 1\nask A 1 5\nask A 1 5\ntick 3\nask A 1 600\ntick 10");
+    assert_eq!(twice.matches("A1: no further Marker while one is awaited.").count(), 2, "{twice}");
+    assert!(twice.contains("A1: no further Marker while one is awaited. A1: Marker 0 awaited."), "{twice}");
+    assert!(twice.contains("A1: no further Marker while one is awaited. A1: Marker 0 timed out at tick 45 (4.5 s)."));
+    // at the last tick, which no column shows
+    let last = said("silence 1\nask A 1 5\ntick 5");
+    assert!(last.contains("A1: Marker 0 timed out at tick 45 (4.5 s).") && !last.contains("awaited."), "{last}");
+    // several between two ticks, the last of which is lost
+    let many = said("ask B 2 5\nask B 2 5\nsilence 2\nask B 2 7\ntick 1");
+    assert!(many.contains("B2: Marker 0 answered at once. B2: Marker 1 answered at once. B2: Marker 2 awaited."));
+    // the far end left the trunk and says so; or A does not hear it, and the Marker finds no port that collects
+    let left = said("key B 1 2\nask A 1 9\ntick 15");
+    assert!(left.contains("A1: no Marker, for it does not distribute."), "{left}");
+    let unheard = story(&format!("{CARRYING}deaf A 1\nkey B 1 2\nask A 1 9\ntick 15"));
+    assert!(words(&text(&unheard)).contains("A1: Marker 0 timed out at tick 49 (4.9 s)."));
+    let b = unheard.counters()[1][0];
+    assert_eq!((b.markers_received, b.marker_responses_sent), (1, 0));
+    for (cut, what) in [("down 1", "link 1 down"), ("half A 1", "A1 at half duplex"), ("move A 1 2", "cable of A1")] {
+        let said = said(&format!("deaf A 1\nask A 1 99\ntick 2\n{cut}\ntick 20"));
+        assert!(said.contains(what) && said.contains("A1: Marker 0 cancelled at once."), "{said}");
+    }
+    for change in ["up 1", "full A 1", "key A 1 2", "long A 1", "down 2", "reload A", "half B 1"] {
+        let said = said(&format!("deaf A 1\nask A 1 29\ntick 2\n{change}\ntick 30"));
+        assert!(said.contains("A1: Marker 0 timed out at tick 69 (6.9 s)."), "{change}: {said}");
+    }
+}
+
+#[test]
+fn a_story_without_markers_shows_nothing_of_them() {
+    let text = text(&story(BUILT_IN));
+    assert!(!text.contains("asked for:") && !text.contains("1 asked") && !text.contains("Marker 0"));
 }
 
 #[test]
@@ -157,9 +229,10 @@ fn two_runs_show_the_same() {
 #[test]
 fn odd_scripts_are_shown_too() {
     let many = "switches 8\nup 8\ntick 1\nkey A 8 2\nmove B 8 1\ntick 201\nlong A 1\npassive B 8\ndown 1";
+    let asked = "ask B 4 600\nmove A 4 1\nask A 4 1\ntick 30\nask A 4 1\nask A 4 1\nask B 1 1\nmove B 1 4\nask B 1 1";
     let silent = "switches 8\nup 1\nup 8\nsilence 1\nsilence 8\nnote x\ntick 700\nmove A 1 8\nhalf B 8\ntick 5000";
     let notes = "note x\ntick 1\n".repeat(120);
-    for script in ["", "note <&>", &format!("note {}", "long".repeat(99)), many, silent, &notes] {
+    for script in ["", "note <&>", &format!("note {}", "long".repeat(99)), many, asked, silent, &notes] {
         let story = story(script);
         assert!(text(&story).lines().all(|line| line.chars().count() <= LINE), "{}", text(&story));
         assert!(!svg(&story).contains("<&"));

@@ -176,11 +176,101 @@ pub enum Breakage {
     CounterOfSixteenBits,
     /// A counter that wraps carries into the next of the record.
     CounterCarries,
+    /// A Response is accepted whatever port it names.
+    ResponsePortUncompared,
+    /// A Response is accepted whatever system it names.
+    ResponseSystemUncompared,
+    /// A Response is accepted whatever transaction it names.
+    ResponseTransactionUncompared,
+    /// Only the low 16 bits of the transaction are compared.
+    ResponseTransactionOfSixteenBits,
+    /// A Response that a port awaits is accepted on any other.
+    ResponseAcceptedOnAnyPort,
+    /// A Response that is awaited is refused on a port that does not distribute.
+    ResponseRefusedUnlessDistributing,
+    /// So long as no other Marker is asked for, each copy of its Response is accepted.
+    SecondCopyAccepted,
+    /// A Response is accepted after the waiting time.
+    LateResponseAccepted,
+    /// A Response is accepted after its link fell.
+    ResponseAcceptedAfterFall,
+    /// An accepted Response counts nowhere.
+    AcceptedResponseUncounted,
+    /// An accepted Response is answered.
+    AcceptedResponseSends,
+    /// An accepted Response runs the machines.
+    AcceptedResponseRunsMachines,
+    /// An ask runs the machines.
+    AskRunsMachines,
+    /// An ask uses no number.
+    NumberStands,
+    /// The number of the next transaction stays at its highest value.
+    NumberSaturates,
+    /// The number of the next transaction wraps at 16 bits.
+    NumberOfSixteenBits,
+    /// A refused ask uses a number.
+    RefusedAskTakesNumber,
+    /// A port that only collects is asked for a Marker.
+    AskedWhileCollecting,
+    /// A port that awaits a Response is asked for another Marker.
+    AskedWhileAwaiting,
+    /// Answer 14 comes before 13.
+    AwaitingTestedFirst,
+    /// Answer 4 comes before 3.
+    WaitTestedBeforeBuffer,
+    /// Answer 4 comes after 13 and 14.
+    WaitTestedLast,
+    /// A waiting time of 0 is accepted.
+    WaitOfZeroAccepted,
+    /// A waiting time of 601 is accepted.
+    WaitOf601Accepted,
+    /// Only the low 16 bits of a waiting time are looked at.
+    WaitOfSixteenBits,
+    /// A Marker times out one tick after its waiting time.
+    WaitEndsATickLate,
+    /// The timer runs on when a Marker has ended.
+    EndLeavesTimer,
+    /// A change of duplex on an up port cancels no Marker.
+    DuplexCancelsNothing,
+    /// A change of link or duplex on a down port cancels one.
+    DownPortCancels,
+    /// Link and duplex as they were cancel one.
+    RepeatedLineCancels,
+    /// A link that falls cancels what has ended too.
+    LinkFallForgetsOutcome,
+    /// A port that leaves DISTRIBUTING cancels its Marker.
+    LeavingDistributingCancels,
+    /// Other settings cancel one.
+    SettingsCancel,
+    /// The source of a Marker is the system address.
+    MarkerFromSystemAddress,
+    /// A Marker names the transaction after its own.
+    MarkerNamesNextTransaction,
+    /// A Marker names the partner's system.
+    MarkerNamesPartnersSystem,
+    /// A start keeps the numbers of the table that was in its memory.
+    StartKeepsNumbers,
+    /// A start keeps what became of its Markers.
+    StartKeepsOutcome,
+    /// A table that goes forward forgets its Markers.
+    ForwardForgetsAsks,
+    /// So does a table that goes back.
+    BackForgetsAsks,
+    /// Forward takes Markers that are out of range.
+    ForwardSkipsAsks,
+    /// So does back.
+    BackSkipsAsks,
+    /// A stored outcome of 5 is in range, and taken for cancelled.
+    OutcomeOf5Accepted,
+    /// A stored waiting time of 601 is in range.
+    WaitTimerOf601Accepted,
+    /// A Marker that is awaited with its timer at 0 is out of range.
+    AwaitingAtZeroRefused,
 }
 
 impl Breakage {
     /// Every breakage, with the name by which it is asked for.
-    pub const ALL: [(&'static str, Breakage); 85] = [
+    pub const ALL: [(&'static str, Breakage); 130] = [
         ("partners-timeout", Breakage::PartnersTimeout),
         ("compares-after-recording", Breakage::ComparesAfterRecording),
         ("expired-records-default", Breakage::ExpiredRecordsDefault),
@@ -266,6 +356,51 @@ impl Breakage {
         ("counter-saturates", Breakage::CounterSaturates),
         ("counter-of-sixteen-bits", Breakage::CounterOfSixteenBits),
         ("counter-carries", Breakage::CounterCarries),
+        ("response-port-uncompared", Breakage::ResponsePortUncompared),
+        ("response-system-uncompared", Breakage::ResponseSystemUncompared),
+        ("response-transaction-uncompared", Breakage::ResponseTransactionUncompared),
+        ("response-transaction-of-sixteen-bits", Breakage::ResponseTransactionOfSixteenBits),
+        ("response-accepted-on-any-port", Breakage::ResponseAcceptedOnAnyPort),
+        ("response-refused-unless-distributing", Breakage::ResponseRefusedUnlessDistributing),
+        ("second-copy-accepted", Breakage::SecondCopyAccepted),
+        ("late-response-accepted", Breakage::LateResponseAccepted),
+        ("response-accepted-after-fall", Breakage::ResponseAcceptedAfterFall),
+        ("accepted-response-uncounted", Breakage::AcceptedResponseUncounted),
+        ("accepted-response-sends", Breakage::AcceptedResponseSends),
+        ("accepted-response-runs-machines", Breakage::AcceptedResponseRunsMachines),
+        ("ask-runs-machines", Breakage::AskRunsMachines),
+        ("number-stands", Breakage::NumberStands),
+        ("number-saturates", Breakage::NumberSaturates),
+        ("number-of-sixteen-bits", Breakage::NumberOfSixteenBits),
+        ("refused-ask-takes-number", Breakage::RefusedAskTakesNumber),
+        ("asked-while-collecting", Breakage::AskedWhileCollecting),
+        ("asked-while-awaiting", Breakage::AskedWhileAwaiting),
+        ("awaiting-tested-first", Breakage::AwaitingTestedFirst),
+        ("wait-tested-before-buffer", Breakage::WaitTestedBeforeBuffer),
+        ("wait-tested-last", Breakage::WaitTestedLast),
+        ("wait-of-zero-accepted", Breakage::WaitOfZeroAccepted),
+        ("wait-of-601-accepted", Breakage::WaitOf601Accepted),
+        ("wait-of-sixteen-bits", Breakage::WaitOfSixteenBits),
+        ("wait-ends-a-tick-late", Breakage::WaitEndsATickLate),
+        ("end-leaves-timer", Breakage::EndLeavesTimer),
+        ("duplex-cancels-nothing", Breakage::DuplexCancelsNothing),
+        ("down-port-cancels", Breakage::DownPortCancels),
+        ("repeated-line-cancels", Breakage::RepeatedLineCancels),
+        ("link-fall-forgets-outcome", Breakage::LinkFallForgetsOutcome),
+        ("leaving-distributing-cancels", Breakage::LeavingDistributingCancels),
+        ("settings-cancel", Breakage::SettingsCancel),
+        ("marker-from-system-address", Breakage::MarkerFromSystemAddress),
+        ("marker-names-next-transaction", Breakage::MarkerNamesNextTransaction),
+        ("marker-names-partners-system", Breakage::MarkerNamesPartnersSystem),
+        ("start-keeps-numbers", Breakage::StartKeepsNumbers),
+        ("start-keeps-outcome", Breakage::StartKeepsOutcome),
+        ("forward-forgets-asks", Breakage::ForwardForgetsAsks),
+        ("back-forgets-asks", Breakage::BackForgetsAsks),
+        ("forward-skips-asks", Breakage::ForwardSkipsAsks),
+        ("back-skips-asks", Breakage::BackSkipsAsks),
+        ("outcome-of-5-accepted", Breakage::OutcomeOf5Accepted),
+        ("wait-timer-of-601-accepted", Breakage::WaitTimerOf601Accepted),
+        ("awaiting-at-zero-refused", Breakage::AwaitingAtZeroRefused),
     ];
 
     /// The breakage of that name.

@@ -1,19 +1,20 @@
 //! The calls of `rust/calls`, which are those of `include/myrkosti.h`: refusals in their order (R2.14 of docs/RULES.md), then the
 //! steps of R4. Each answers its number (R2).
 
+use crate::asks::{self, Asked, Fate};
 use crate::breakage::{self, Breakage};
 use crate::churn::Churn;
 use crate::counters;
 use crate::moves;
 use crate::receive::displace;
 use crate::record::{
-    Form, Mux, Periodic, Port, Receive, Settings, Table, BASE, CHURN, HEADER, OLDEST_AGE, OWN_BITS, RECORD,
+    Form, Mux, Periodic, Port, Receive, Settings, Table, ASKED, BASE, CHURN, HEADER, OLDEST_AGE, OWN_BITS, RECORD,
 };
 use crate::wire::{self, Block, Frame, State, FRAME};
 use ::calls::{Call, Counters, Outcome, Report, SettingsArguments};
 
 /// The version of the interface that the model performs.
-const VERSION: u32 = 0x0200;
+const VERSION: u32 = 0x0201;
 
 /// Why a call was refused; the discriminants are the answer numbers.
 #[derive(Clone, Copy, Debug, PartialEq, Eq)]
@@ -22,7 +23,7 @@ pub enum Refusal {
     TableWrong = 1,
     NoSuchPort = 2,
     BufferShort = 3,
-    DefaultWrong = 4,
+    ArgumentWrong = 4,
     LacpOff = 5,
     Foreign = 6,
     Unknown = 7,
@@ -31,6 +32,8 @@ pub enum Refusal {
     NothingToSend = 10,
     TooManySends = 11,
     Response = 12,
+    NotDistributing = 13,
+    Awaiting = 14,
 }
 
 /// A received frame that is accepted.
@@ -40,6 +43,8 @@ pub enum Accepted {
     Lacpdu,
     /// A Marker, whose Response is to be sent.
     Marker,
+    /// A Response that was awaited.
+    Response,
 }
 
 fn number<T>(result: Result<T, Refusal>) -> u32 {
@@ -61,7 +66,7 @@ pub fn perform(call: &Call, table: &mut [u8], out: &mut [u8], counters: &mut Cou
         }
         Call::Receive { port, ref frame } => {
             let received = receive(table, port, frame, out);
-            outcome.sent = if received == Ok(Accepted::Marker) { FRAME as u32 } else { 0 };
+            outcome.sent = if received == Ok(Accepted::Marker) || sent_wrongly(received) { FRAME as u32 } else { 0 };
             counters::received(counters, received);
             number(received)
         }
@@ -73,6 +78,7 @@ pub fn perform(call: &Call, table: &mut [u8], out: &mut [u8], counters: &mut Cou
             counters::fetched(counters, fetched);
             number(fetched)
         }
+        Call::Ask { port, ticks } => number(ask(table, port, ticks, out)),
         Call::Report(asked) => return report(asked, table, out),
     };
     outcome
@@ -115,7 +121,7 @@ pub fn table_size(ports: u32) -> u32 {
 /// The same of the old form.
 pub fn old_table_size(ports: u32) -> u32 {
     if breakage::is(Breakage::OldSizeOfAnyCount) {
-        return ports.wrapping_mul(BASE as u32).wrapping_add(HEADER as u32);
+        return ports.wrapping_mul((BASE + ASKED) as u32).wrapping_add(HEADER as u32);
     }
     Form::Old.size(ports).map_or(0, |size| size as u32)
 }
@@ -134,13 +140,13 @@ fn long_enough(out: &mut [u8]) -> Result<&mut [u8; FRAME], Refusal> {
     out.first_chunk_mut().ok_or(Refusal::BufferShort)
 }
 
-/// Test 4.
+/// Test 4 of settings.
 fn right_default(settings: &Settings) -> Result<(), Refusal> {
     let state = settings.default.state;
     if state.has(State::COLLECTING) == state.has(State::SYNCHRONIZATION) {
         Ok(())
     } else {
-        Err(Refusal::DefaultWrong)
+        Err(Refusal::ArgumentWrong)
     }
 }
 
@@ -185,13 +191,26 @@ fn begun(memory: &[u8], ports: u32, settings: &Settings) -> Result<Vec<Port>, Re
     }
     right_default(settings)?;
     let mut begun = vec![begun_port(settings); ports as usize];
-    let old = if breakage::is(Breakage::StartKeepsCounts) { Table::read(memory) } else { None };
-    if let Some(old) = old {
-        for (port, old) in begun.iter_mut().zip(old.ports) {
-            (port.churn.actor.count, port.churn.partner.count) = (old.churn.actor.count, old.churn.partner.count);
-        }
+    let keeps = matches!(
+        breakage::in_force(),
+        Some(Breakage::StartKeepsCounts | Breakage::StartKeepsNumbers | Breakage::StartKeepsOutcome)
+    );
+    if let Some(old) = if keeps { Table::read(memory) } else { None } {
+        begun.iter_mut().zip(old.ports).for_each(|(port, old)| keep(port, &old));
     }
     Ok(begun)
+}
+
+/// What the breakages of a start keep of the port that was in its memory.
+fn keep(port: &mut Port, old: &Port) {
+    match breakage::in_force() {
+        Some(Breakage::StartKeepsCounts) => {
+            (port.churn.actor.count, port.churn.partner.count) = (old.churn.actor.count, old.churn.partner.count);
+        }
+        Some(Breakage::StartKeepsNumbers) => port.asked.next = old.asked.next,
+        Some(Breakage::StartKeepsOutcome) => (port.asked.fate, port.asked.timer) = (old.asked.fate, old.asked.timer),
+        _ => {}
+    }
 }
 
 /// Starts a table.
@@ -222,6 +241,7 @@ fn begun_port(settings: &Settings) -> Port {
         default: settings.default,
         partner: settings.default,
         churn: Churn::begun(),
+        asked: Asked::begun(),
     };
     port.initialize();
     port
@@ -249,8 +269,20 @@ fn receive(memory: &mut [u8], n: u32, frame: &[u8], out: &mut [u8]) -> Result<Ac
             *out = wire::marker_response(&port.address, octets);
             Ok(Accepted::Marker)
         }
-        Frame::Response => Err(Refusal::Response),
+        Frame::Response(said) if table.answered(n, &said) => {
+            if breakage::is(Breakage::AcceptedResponseRunsMachines) {
+                work(&mut table);
+            }
+            table.write(memory);
+            Ok(Accepted::Response)
+        }
+        Frame::Response(_) => Err(Refusal::Response),
     }
+}
+
+/// Where something is sent in answer to a Response: nowhere, but in a breakage.
+fn sent_wrongly(received: Result<Accepted, Refusal>) -> bool {
+    received == Ok(Accepted::Response) && breakage::is(Breakage::AcceptedResponseSends)
 }
 
 /// A tenth of a second has passed.
@@ -292,6 +324,7 @@ impl Port {
         if !breakage::is(Breakage::ChurnTimersFallLast) {
             self.churn.ticked();
         }
+        self.asked.ticked();
         let oldest = if breakage::is(Breakage::AgeForgottenAtTen) { OLDEST_AGE - 1 } else { OLDEST_AGE };
         self.ages = self.ages.map(|age| age.map(|age| age + 1).filter(|age| *age <= oldest));
     }
@@ -320,9 +353,14 @@ fn line(memory: &mut [u8], n: u32, new: (bool, bool)) -> Result<(), Refusal> {
     let at = n as usize - 1;
     let old = table.ports[at].line();
     if old == new {
+        if breakage::is(Breakage::RepeatedLineCancels) {
+            table.ports[at].asked.end(Fate::Cancelled);
+            table.write(memory);
+        }
         unchanged(table, memory, Breakage::RepeatedLineRunsMonitors);
         return Ok(());
     }
+    table.ports[at].line_changes(old, new);
     if let Some(way) = by_way_of(old, new).filter(|way| *way != old && *way != new) {
         table.ports[at].relined(way);
         work(&mut table);
@@ -367,6 +405,9 @@ fn set(memory: &mut [u8], n: u32, new: &Settings) -> Result<(), Refusal> {
     }
     port.put_settings(new);
     port.ntt = true;
+    if breakage::is(Breakage::SettingsCancel) {
+        port.asked.end(Fate::Cancelled);
+    }
     if breakage::is(Breakage::DefaultAppliedAtOnce) && port.actor_state.has(State::DEFAULTED) {
         port.partner = new.default;
     }
@@ -392,14 +433,60 @@ fn fetch(memory: &mut [u8], n: u32, out: &mut [u8]) -> Result<(), Refusal> {
     Ok(())
 }
 
-/// The record of a port, from its two places.
+/// A Marker on a port, whose Response is awaited for so many ticks: changes only what that port keeps of its Markers.
+fn ask(memory: &mut [u8], n: u32, ticks: u32, out: &mut [u8]) -> Result<(), Refusal> {
+    let mut table = open(memory, n)?;
+    if breakage::is(Breakage::WaitTestedBeforeBuffer) {
+        asks::waiting_time(ticks)?;
+    }
+    let out = long_enough(out)?;
+    if breakage::is(Breakage::WaitTestedLast) {
+        table.ports[n as usize - 1].may_ask()?;
+    }
+    let ticks = asks::waiting_time(ticks)?;
+    let port = &mut table.ports[n as usize - 1];
+    if let Err(refusal) = port.may_ask() {
+        if breakage::is(Breakage::RefusedAskTakesNumber) {
+            port.asked.take_number();
+            table.write(memory);
+        }
+        return Err(refusal);
+    }
+    port.asked.ask(ticks);
+    *out = marker_of(&table, n);
+    if breakage::is(Breakage::AskRunsMachines) {
+        work(&mut table);
+    }
+    table.write(memory);
+    Ok(())
+}
+
+/// The Marker that was asked for last on port n.
+fn marker_of(table: &Table, n: u32) -> [u8; FRAME] {
+    let (mut source, mut said) = (table.ports[n as usize - 1].address, table.requested(n));
+    match breakage::in_force() {
+        Some(Breakage::MarkerFromSystemAddress) => source = table.system,
+        Some(Breakage::MarkerNamesNextTransaction) => said.transaction = said.transaction.wrapping_add(1),
+        Some(Breakage::MarkerNamesPartnersSystem) => said.system = table.ports[n as usize - 1].partner.system,
+        _ => {}
+    }
+    wire::marker(&source, &said)
+}
+
+/// The record of a port, from its three places.
 fn record_of(memory: &[u8], n: u32) -> Result<[u8; RECORD], Refusal> {
     let count = open(memory, n)?.ports.len();
     let before = n as usize - 1;
-    let (base, churn) = (HEADER + BASE * before, HEADER + BASE * count + CHURN * before);
+    let places = [
+        (HEADER + BASE * before, BASE),
+        (HEADER + BASE * count + CHURN * before, CHURN),
+        (HEADER + (BASE + CHURN) * count + ASKED * before, ASKED),
+    ];
+    let octets = places.into_iter().flat_map(|(at, length)| &memory[at..at + length]);
     let mut record = [0; RECORD];
-    record[..BASE].copy_from_slice(&memory[base..base + BASE]);
-    record[BASE..].copy_from_slice(&memory[churn..churn + CHURN]);
+    for (place, octet) in record.iter_mut().zip(octets) {
+        *place = *octet;
+    }
     Ok(record)
 }
 

@@ -37,7 +37,7 @@ fn counted_as(answer: Result<Accepted, Refusal>) -> Option<Counter> {
     match answer {
         Ok(Accepted::Lacpdu) | Err(Refusal::LacpOff) => Some(Counter::LacpdusReceived),
         Ok(Accepted::Marker) | Err(Refusal::NotCollecting) => Some(Counter::MarkersReceived),
-        Err(Refusal::Response) => Some(Counter::MarkerResponsesReceived),
+        Ok(Accepted::Response) | Err(Refusal::Response) => Some(Counter::MarkerResponsesReceived),
         Err(Refusal::Unknown) => Some(Counter::UnknownReceived),
         Err(Refusal::Illegal) => Some(Counter::IllegalReceived),
         Err(_) => None,
@@ -77,6 +77,9 @@ fn one_more(number: u32) -> u32 {
 
 /// Where the breakages count a received frame; nothing if none of them is in force, or it says nothing of this answer.
 fn miscounted(answer: Result<Accepted, Refusal>) -> Option<Option<Counter>> {
+    if answer == Ok(Accepted::Response) && breakage::is(Breakage::AcceptedResponseUncounted) {
+        return Some(None);
+    }
     match (breakage::in_force()?, answer.err()?) {
         (Breakage::ResponseCountedAsMarker, Refusal::Response) => Some(Some(Counter::MarkersReceived)),
         (Breakage::RefusedMarkerUncounted, Refusal::NotCollecting) => Some(None),

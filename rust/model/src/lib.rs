@@ -2,8 +2,8 @@
 //!
 //! It performs the calls of `include/myrkosti.h` over the same octets, and was written from the papers without sight of the
 //! library's source, so that each can check the other: they share the type of a call (`rust/calls`), and no rule. [`counters`] and
-//! [`moves`] were written after the library's definitions of them had been read, though not its code. It reads the whole table into values, works on those, and
-//! writes the whole table back: plain before fast.
+//! [`moves`] were written after the library's definitions of them had been read, though not its code, [`asks`] after a description in
+//! words. It reads the whole table into values, works on those, and writes the whole table back: plain before fast.
 //!
 //! | File | Subject |
 //! |---|---|
@@ -14,6 +14,7 @@
 //! | [`mux`] | Mux machine, independent control |
 //! | [`churn`] | Churn Detection machines |
 //! | [`select`] | the selection rule, Ready, steps 3 to 6 of the order of work, and what runs behind them |
+//! | [`asks`] | Markers that are asked for, and their Responses |
 //! | [`moves`] | moves of a table from one form into the other |
 //! | [`counters`] | the counters of a port, which stand outside the table |
 //! | [`calls`] | the calls, their refusals in document 01's order |
@@ -21,6 +22,7 @@
 
 #![forbid(unsafe_code)]
 
+pub mod asks;
 pub mod breakage;
 pub mod calls;
 pub mod churn;

@@ -1,5 +1,6 @@
 //! Mux machine with independent control (43.4.15, Figure 43-13).
 
+use crate::asks::Fate;
 use crate::breakage::{self, Breakage};
 use crate::record::{Mux, Port, AGGREGATE_WAIT_TIME};
 use crate::wire::State;
@@ -7,6 +8,9 @@ use crate::wire::State;
 impl Port {
     /// Enters a state: its actions, in the figure's order as far as the record shows them.
     pub fn enter(&mut self, mux: Mux) {
+        if self.mux == Mux::Distributing && breakage::is(Breakage::LeavingDistributingCancels) {
+            self.asked.end(Fate::Cancelled);
+        }
         self.mux = mux;
         self.wait_while = if mux == Mux::Waiting { AGGREGATE_WAIT_TIME } else { 0 };
         match mux {

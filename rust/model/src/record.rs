@@ -1,5 +1,6 @@
 //! A port's record, the table in memory, and the ranges of its fields.
 
+use crate::asks::{Asked, Fate};
 use crate::breakage::{self, Breakage};
 use crate::churn::{Churn, ChurnState, Monitor};
 use crate::wire::{Block, State, BLOCK};
@@ -10,8 +11,10 @@ pub const HEADER: usize = 11;
 pub const BASE: usize = 57;
 /// Octets of a port's churn; in a table these groups stand behind the last port's `BASE`.
 pub const CHURN: usize = 14;
+/// Octets of what a port keeps of its Markers; in a table these groups stand behind all else.
+pub const ASKED: usize = 7;
 /// Octets of a port's record, as it is reported: one behind the other.
-pub const RECORD: usize = BASE + CHURN;
+pub const RECORD: usize = BASE + CHURN + ASKED;
 /// The most ports that a table has.
 pub const PORTS: u32 = 32;
 
@@ -25,6 +28,8 @@ pub const SHORT_TIMEOUT_TIME: u16 = 30;
 pub const LONG_TIMEOUT_TIME: u16 = 900;
 /// Churn_Detection_Time in ticks.
 pub const CHURN_DETECTION_TIME: u16 = 600;
+/// The most ticks for which a Marker's Response is awaited.
+pub const WAITING_TIME: u16 = 600;
 /// Aggregate_Wait_Time in ticks.
 pub const AGGREGATE_WAIT_TIME: u8 = 20;
 /// The oldest age in ticks of a send that is remembered.
@@ -83,6 +88,10 @@ impl Periodic {
 
 impl ChurnState {
     const IN_MEMORY: [ChurnState; 3] = [ChurnState::NoChurn, ChurnState::Monitor, ChurnState::Churn];
+}
+
+impl Fate {
+    const IN_MEMORY: [Fate; 5] = [Fate::None, Fate::Awaiting, Fate::Answered, Fate::TimedOut, Fate::Cancelled];
 }
 
 impl Mux {
@@ -163,6 +172,8 @@ pub struct Port {
     pub partner: Block,
     /// The Churn Detection machines.
     pub churn: Churn,
+    /// What it keeps of the Markers that it is asked for.
+    pub asked: Asked,
 }
 
 impl Port {
@@ -186,8 +197,8 @@ impl Port {
         self.default = settings.default;
     }
 
-    /// The record in these octets, with that churn, if every field is in its range for a table of `count` ports.
-    fn read(base: &[u8], churn: Churn, count: u8) -> Option<Port> {
+    /// The record in these octets, with that churn and those Markers, if every field is in its range for a table of `count` ports.
+    fn read(base: &[u8], churn: Churn, asked: Asked, count: u8) -> Option<Port> {
         let mut reader = Reader(base);
         let port = Port {
             receive: *Receive::IN_MEMORY.get(usize::from(reader.octet()?))?,
@@ -209,6 +220,7 @@ impl Port {
             default: Block::read(&reader.octets::<BLOCK>()?),
             partner: Block::read(&reader.octets::<BLOCK>()?),
             churn,
+            asked,
         };
         let in_range = (1..=count).contains(&port.aggregator)
             && port.current_while <= LONG_TIMEOUT_TIME
@@ -217,7 +229,7 @@ impl Port {
         in_range.then_some(port)
     }
 
-    /// All but the churn.
+    /// All but the churn and the Markers.
     fn write(&self, to: &mut Vec<u8>) {
         to.push(self.receive as u8);
         to.push(self.periodic as u8);
@@ -259,6 +271,22 @@ impl Churn {
     }
 }
 
+impl Asked {
+    /// The group in these octets, if every field is in its range. A Marker that is awaited with its timer at 0 is: the next tick ends it.
+    pub(crate) fn read(octets: &[u8]) -> Option<Asked> {
+        let mut reader = Reader(octets);
+        let asked = Asked { fate: reader.fate()?, timer: reader.waiting_time()?, next: reader.count()? };
+        let at_zero = asked.fate == Fate::Awaiting && asked.timer == 0;
+        (!at_zero || !breakage::is(Breakage::AwaitingAtZeroRefused)).then_some(asked)
+    }
+
+    pub(crate) fn write(&self, to: &mut Vec<u8>) {
+        to.push(self.fate as u8);
+        to.extend(self.timer.to_be_bytes());
+        to.extend(self.next.to_be_bytes());
+    }
+}
+
 /// A table: one Aggregation System. Port n is `ports[n - 1]`.
 #[derive(Clone, Debug, PartialEq, Eq)]
 pub struct Table {
@@ -285,7 +313,7 @@ impl Form {
     /// The octets of the memory of a table of that many ports; none for a count outside 1 to 32.
     pub fn size(self, ports: u32) -> Option<usize> {
         let record = match self {
-            Form::Old => BASE,
+            Form::Old => BASE + ASKED,
             Form::New => RECORD,
         };
         (1..=PORTS).contains(&ports).then(|| HEADER + record * ports as usize)
@@ -313,10 +341,11 @@ impl Table {
             ports: Vec::with_capacity(usize::from(count)),
         };
         let (records, groups) = rest.split_at_checked(BASE * usize::from(count))?;
-        let mut groups = groups.chunks_exact(CHURN);
-        for base in records.chunks_exact(BASE) {
-            let churn = groups.next().map_or(Some(Churn::begun()), Churn::read)?;
-            table.ports.push(Port::read(base, churn, count)?);
+        let (watched, asked) = groups.split_at_checked(groups.len().checked_sub(ASKED * usize::from(count))?)?;
+        let mut watched = watched.chunks_exact(CHURN);
+        for (base, asked) in records.chunks_exact(BASE).zip(asked.chunks_exact(ASKED)) {
+            let churn = watched.next().map_or(Some(Churn::begun()), Churn::read)?;
+            table.ports.push(Port::read(base, churn, Asked::read(asked)?, count)?);
         }
         Some(table)
     }
@@ -338,6 +367,9 @@ impl Table {
         }
         for port in self.ports.iter().filter(|_| form == Form::New) {
             port.churn.write(&mut octets);
+        }
+        for port in &self.ports {
+            port.asked.write(&mut octets);
         }
         octets
     }
@@ -387,6 +419,17 @@ impl Reader<'_> {
     fn churn_timer(&mut self) -> Option<u16> {
         let beyond = u16::from(breakage::is(Breakage::ChurnTimerOf601Accepted));
         self.number().filter(|ticks| *ticks <= CHURN_DETECTION_TIME + beyond)
+    }
+
+    fn fate(&mut self) -> Option<Fate> {
+        let code = self.octet()?;
+        let code = if breakage::is(Breakage::OutcomeOf5Accepted) && code == 5 { 4 } else { code };
+        Fate::IN_MEMORY.get(usize::from(code)).copied()
+    }
+
+    fn waiting_time(&mut self) -> Option<u16> {
+        let beyond = u16::from(breakage::is(Breakage::WaitTimerOf601Accepted));
+        self.number().filter(|ticks| *ticks <= WAITING_TIME + beyond)
     }
 
     fn flag(&mut self) -> Option<bool> {

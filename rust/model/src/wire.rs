@@ -7,6 +7,9 @@ use crate::calls::Refusal;
 pub const FRAME: usize = 124;
 /// Octets of an information block.
 pub const BLOCK: usize = 15;
+/// Octets of what a Marker says, and where they stand.
+const REQUEST: usize = 12;
+const REQUEST_AT: usize = 18;
 
 const SLOW_PROTOCOLS_MULTICAST: [u8; 6] = [0x01, 0x80, 0xC2, 0x00, 0x00, 0x02];
 const SLOW_PROTOCOLS_TYPE: [u8; 2] = [0x88, 0x09];
@@ -121,8 +124,39 @@ pub enum Frame<'a> {
     },
     /// A well-formed Marker; its octets from 18 on.
     Marker(&'a [u8]),
-    /// A well-formed Marker Response.
-    Response,
+    /// A well-formed Marker Response: what it says.
+    Response(Request),
+}
+
+/// What a Marker and its Response say: who asked for it, and for which of the Markers (43.5.3.2).
+#[derive(Clone, Copy, Debug, PartialEq, Eq)]
+pub struct Request {
+    /// Requester_Port.
+    pub port: u16,
+    /// Requester_System.
+    pub system: [u8; 6],
+    /// Requester_Transaction_ID.
+    pub transaction: u32,
+}
+
+impl Request {
+    /// What these octets say.
+    fn read(octets: &[u8; REQUEST]) -> Request {
+        let [n1, n0, a, b, c, d, e, f, t3, t2, t1, t0] = *octets;
+        Request {
+            port: u16::from_be_bytes([n1, n0]),
+            system: [a, b, c, d, e, f],
+            transaction: u32::from_be_bytes([t3, t2, t1, t0]),
+        }
+    }
+
+    /// The octets that say this.
+    fn octets(&self) -> [u8; REQUEST] {
+        let [n1, n0] = self.port.to_be_bytes();
+        let [a, b, c, d, e, f] = self.system;
+        let [t3, t2, t1, t0] = self.transaction.to_be_bytes();
+        [n1, n0, a, b, c, d, e, f, t3, t2, t1, t0]
+    }
 }
 
 fn block_at(frame: &[u8; FRAME], at: usize) -> Block {
@@ -160,8 +194,12 @@ fn read_lacpdu(frame: &[u8; FRAME]) -> Result<Frame<'_>, Refusal> {
 
 fn read_marker(frame: &[u8; FRAME]) -> Result<Frame<'_>, Refusal> {
     match (frame[16], frame[17]) {
-        (MARKER_TYPE, MARKER_LENGTH) => Ok(Frame::Marker(&frame[18..])),
-        (RESPONSE_TYPE, MARKER_LENGTH) => Ok(Frame::Response),
+        (MARKER_TYPE, MARKER_LENGTH) => Ok(Frame::Marker(&frame[REQUEST_AT..])),
+        (RESPONSE_TYPE, MARKER_LENGTH) => {
+            let mut said = [0; REQUEST];
+            said.copy_from_slice(&frame[REQUEST_AT..REQUEST_AT + REQUEST]);
+            Ok(Frame::Response(Request::read(&said)))
+        }
         _ => Err(Refusal::Illegal),
     }
 }
@@ -188,13 +226,22 @@ pub fn lacpdu(source: &[u8; 6], actor: &Block, partner: &Block, collector_max_de
     frame
 }
 
+/// The Marker that says this.
+pub fn marker(source: &[u8; 6], said: &Request) -> [u8; FRAME] {
+    let mut frame = slow_protocols_frame(source, MARKER_SUBTYPE);
+    frame[16] = MARKER_TYPE;
+    frame[17] = MARKER_LENGTH;
+    frame[REQUEST_AT..REQUEST_AT + REQUEST].copy_from_slice(&said.octets());
+    frame
+}
+
 /// The Response to a Marker whose octets from 18 on are given: it copies 18 to 29 and has zeros after them.
 pub fn marker_response(source: &[u8; 6], marker: &[u8]) -> [u8; FRAME] {
-    let copied = if breakage::is(Breakage::ResponseRepeatsPadding) { FRAME - 18 } else { 12 };
+    let copied = if breakage::is(Breakage::ResponseRepeatsPadding) { FRAME - REQUEST_AT } else { REQUEST };
     let mut frame = slow_protocols_frame(source, MARKER_SUBTYPE);
     frame[16] = RESPONSE_TYPE;
     frame[17] = MARKER_LENGTH;
-    for (to, from) in frame[18..].iter_mut().zip(marker).take(copied) {
+    for (to, from) in frame[REQUEST_AT..].iter_mut().zip(marker).take(copied) {
         *to = *from;
     }
     frame

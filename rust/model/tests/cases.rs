@@ -4,7 +4,7 @@ mod common;
 
 use calls::{Call, Outcome, Report};
 use common::{far, lacpdu, marker, set, Bench, ADDRESS, DELAY};
-use model::record::{Mux, Receive};
+use model::record::{Mux, Receive, RECORD};
 use model::wire::FRAME;
 
 #[test]
@@ -139,9 +139,9 @@ fn unproved_cases() {
     assert_eq!(t.hand(1, &frame[..13]), 6);
     for n in [0, 33, u32::MAX] {
         assert_eq!(t.hand(n, &frame), 2);
-        assert_eq!(t.record(n, 71), (2, vec![0; 71]));
+        assert_eq!(t.record(n, RECORD), (2, vec![0; RECORD]));
     }
-    assert_eq!(t.record(32, 71), (0, t.octets(32)));
+    assert_eq!(t.record(32, RECORD), (0, t.octets(32)));
 }
 
 #[test]
@@ -182,11 +182,11 @@ fn a_response_as_laid_out() {
 
 #[test]
 fn version() {
-    assert_eq!(Bench { memory: Vec::new() }.report(Report::Version), Outcome { answer: 0x0200, ..Outcome::UNTOUCHED });
+    assert_eq!(Bench { memory: Vec::new() }.report(Report::Version), Outcome { answer: 0x0201, ..Outcome::UNTOUCHED });
 }
 
 #[test]
 fn sizes() {
     assert_eq!((0..34).map(model::table_size).filter(|size| *size == 0).count(), 2);
-    assert_eq!((model::table_size(1), model::table_size(32), model::table_size(u32::MAX)), (82, 2283, 0));
+    assert_eq!((model::table_size(1), model::table_size(32), model::table_size(u32::MAX)), (89, 2507, 0));
 }

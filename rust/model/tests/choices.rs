@@ -4,7 +4,7 @@ mod common;
 
 use calls::{Call, Outcome, Report, SettingsArguments};
 use common::{far, lacpdu, marker, set, Bench, Set};
-use model::record::{Mux, Periodic, Port, Receive};
+use model::record::{Mux, Periodic, Port, Receive, RECORD};
 use model::wire::{Block, State, FRAME};
 
 fn distributing(bits: u8) -> Bench {
@@ -384,7 +384,7 @@ fn ages_are_ranged() {
     for at in [14, 15, 16] {
         for (age, answer) in [(0, 0), (9, 0), (10, 0), (11, 1), (12, 1), (254, 1), (255, 0)] {
             t.memory[11 + at] = age;
-            assert_eq!(t.record(1, 71).0, answer, "{age} in octet {at}");
+            assert_eq!(t.record(1, RECORD).0, answer, "{age} in octet {at}");
         }
     }
     for (at, first_wrong) in [(0, 6), (1, 4), (2, 5), (3, 2), (4, 2), (5, 2), (6, 2), (7, 2), (13, 21)] {
@@ -449,7 +449,7 @@ fn displaced() {
 
 #[test]
 fn loopback_and_zeros() {
-    let mut t = Bench { memory: vec![0; 11 + 71 * 2] };
+    let mut t = Bench { memory: vec![0; model::table_size(2) as usize] };
     for default_state in [0, 0x04] {
         let mut settings = SettingsArguments { activity: true, timeout: true, aggregation: true, ..Default::default() };
         settings.partner[14] = default_state;
@@ -648,7 +648,7 @@ fn memory_size_is_exact() {
         let mut other = Bench { memory: t.memory.clone() };
         other.memory.resize(length, 0);
         assert_eq!(other.call(&Call::Tick), 1);
-        assert_eq!(other.record(1, 71), (1, vec![0; 71]));
+        assert_eq!(other.record(1, RECORD), (1, vec![0; RECORD]));
     }
 }
 
@@ -665,8 +665,8 @@ fn a_record_goes_as_far_as_it_fits() {
             holds
         };
         assert_eq!(t.record(2, lent), (0, holds(&t.octets(2))));
-        assert_eq!(t.record(3, lent), (2, holds(&[0; 71])));
-        assert_eq!(no_table.record(2, lent), (1, holds(&[0; 71])));
+        assert_eq!(t.record(3, lent), (2, holds(&[0; RECORD])));
+        assert_eq!(no_table.record(2, lent), (1, holds(&[0; RECORD])));
     }
 }
 

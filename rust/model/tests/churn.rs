@@ -6,7 +6,7 @@ mod common;
 use calls::{Call, Report};
 use common::{any_call, far, lacpdu, marker, numbers, set, Bench, Set};
 use model::churn::{Churn, ChurnState, Monitor};
-use model::record::{Mux, Port, Receive};
+use model::record::{Mux, Port, Receive, RECORD};
 use model::wire::State;
 use ChurnState::{Churn as CHURN, Monitor as MONITOR, NoChurn as NO_CHURN};
 
@@ -222,7 +222,7 @@ fn counts_have_32_bits() {
         t.poke(1, |p| p.churn = Churn { actor: about_to, partner: about_to });
         t.ticks(1);
         assert_eq!(t.port(1).churn, Churn { actor: monitor(CHURN, 0, after), partner: monitor(CHURN, 0, after) });
-        assert_eq!(t.record(1, 71).1[63..], [after.to_be_bytes(), after.to_be_bytes()].concat());
+        assert_eq!(t.record(1, RECORD).1[63..71], [after.to_be_bytes(), after.to_be_bytes()].concat());
     }
 }
 
@@ -322,7 +322,7 @@ fn where_nothing_changes_the_machines_stand_still() {
         assert_eq!(t.settings(1, Set { default: before.default, ..set(5, 0) }), 0);
         assert_eq!(t.hand(1, &lacpdu()), 5);
         t.hand(1, &marker(1));
-        assert_eq!((t.fetch(1), t.record(1, 71).0), (10, 0));
+        assert_eq!((t.fetch(1), t.record(1, RECORD).0), (10, 0));
         assert_eq!((t.report(Report::Aggregator { aggregator: 1 }).answer, t.due()), (0, 0));
         assert_eq!((t.restart(2, set(5, 0)), t.settings(1, set(5, 0x10))), (1, 4));
         assert_eq!(t.memory, kept);
@@ -339,7 +339,7 @@ fn churn_is_ranged() {
     let answer = |at: usize, octets: &[u8]| {
         let mut other = Bench { memory: t.memory.clone() };
         other.memory[at..at + octets.len()].copy_from_slice(octets);
-        let answers = [other.record(1, 71).0, other.report(Report::Due).answer, other.call(&Call::Tick)];
+        let answers = [other.record(1, RECORD).0, other.report(Report::Due).answer, other.call(&Call::Tick)];
         assert!(answers == [0; 3] || answers == [1; 3]);
         answers[0]
     };
@@ -366,14 +366,14 @@ fn a_group_as_laid_out() {
     let churn = Churn { actor: monitor(CHURN, 0x0102, 0x0304_0506), partner: monitor(NO_CHURN, 0x0203, 0x0708_090A) };
     t.poke(2, |p| p.churn = churn);
     let octets = [2, 0, 1, 2, 2, 3, 3, 4, 5, 6, 7, 8, 9, 10];
-    assert_eq!((t.memory.len(), &t.memory[11 + 57 * 2 + 14..]), (11 + 71 * 2, &octets[..]));
-    let (answer, record) = t.record(2, 71);
-    assert_eq!((answer, &record[..57], &record[57..]), (0, &t.memory[11 + 57..][..57], &octets[..]));
+    assert_eq!((t.memory.len(), &t.memory[11 + 57 * 2 + 14..][..14]), (11 + 78 * 2, &octets[..]));
+    let (answer, record) = t.record(2, RECORD);
+    assert_eq!((answer, &record[..57], &record[57..71]), (0, &t.memory[11 + 57..][..57], &octets[..]));
 }
 
 #[test]
 fn a_table_without_monitors_is_no_table() {
     let mut t = Bench::start(2, 5, 0);
-    t.memory.truncate(11 + 57 * 2);
-    assert_eq!((t.call(&Call::Tick), t.record(1, 71)), (1, (1, vec![0; 71])));
+    t.memory.drain(11 + 57 * 2..11 + 71 * 2);
+    assert_eq!((t.call(&Call::Tick), t.record(1, RECORD)), (1, (1, vec![0; RECORD])));
 }

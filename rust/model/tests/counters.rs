@@ -190,7 +190,7 @@ fn a_frame_counts_as_what_it_is() {
         let came = match wire::read(&frame) {
             Ok(Frame::Lacpdu { .. }) => LACPDU,
             Ok(Frame::Marker(_)) => MARKER,
-            Ok(Frame::Response) => RESPONSE,
+            Ok(Frame::Response(_)) => RESPONSE,
             Err(Refusal::Unknown) => UNKNOWN,
             Err(Refusal::Illegal) => ILLEGAL,
             Err(_) => NOTHING,

@@ -7,7 +7,12 @@ use calls::{Call, Outcome};
 use common::{any_call, far, numbers, Bench};
 use model::churn::{Churn, ChurnState, Monitor};
 use model::record::Port;
+use std::ops::Range;
 
+/// The octets of a table of three ports in the old form and in the new, and where the churn of the new stands.
+const OLD: usize = 11 + 64 * 3;
+const NEW: usize = 11 + 78 * 3;
+const CHURN: Range<usize> = 11 + 57 * 3..11 + 71 * 3;
 const SETTLED: Monitor = Monitor { state: ChurnState::NoChurn, timer: 0, count: 0 };
 const WATCHED: Monitor = Monitor { state: ChurnState::Monitor, timer: 600, count: 0 };
 
@@ -21,7 +26,7 @@ fn into(move_to: Report, source: &[u8], octets: usize) -> (u32, Vec<u8>) {
 
 /// The octets of a table with the port count of this one, in the old form and in the new.
 fn sizes(table: &[u8]) -> [usize; 2] {
-    [57, 71].map(|record| 11 + record * usize::from(table[0]))
+    [64, 78].map(|record| 11 + record * usize::from(table[0]))
 }
 
 fn back(t: &Bench) -> Vec<u8> {
@@ -34,6 +39,11 @@ fn forward(old: &[u8]) -> Bench {
     let (answer, memory) = into(Forward, old, sizes(old)[1]);
     assert_eq!(answer, 0);
     Bench { memory }
+}
+
+/// A table of three ports without its churn.
+fn base(t: &Bench) -> Vec<u8> {
+    [&t.memory[..CHURN.start], &t.memory[CHURN.end..]].concat()
 }
 
 /// Three ports: the first carries, the second has churned for a minute, the third has no link.
@@ -52,16 +62,16 @@ fn three() -> Bench {
 #[test]
 fn sizes_of_the_old_form() {
     assert_eq!((0..34).map(model::old_table_size).filter(|size| *size == 0).count(), 2);
-    assert_eq!((model::old_table_size(1), model::old_table_size(32), model::old_table_size(u32::MAX)), (68, 1835, 0));
+    assert_eq!((model::old_table_size(1), model::old_table_size(32), model::old_table_size(u32::MAX)), (75, 2059, 0));
 }
 
 #[test]
 fn there_and_back_again() {
     let t = three();
     let old = back(&t);
-    assert_eq!(old, t.memory[..11 + 57 * 3]);
+    assert_eq!(old, base(&t));
     let again = forward(&old);
-    assert_eq!(again.memory[..11 + 57 * 3], old);
+    assert_eq!(base(&again), old);
     assert_eq!(back(&again), old);
 }
 
@@ -93,12 +103,13 @@ fn another_size_is_refused() {
     let old = back(&t);
     for octets in 0..=400 {
         let lent = |answer| (answer, vec![0xEE; octets]);
-        assert!(octets == 182 || into(Back, &t.memory, octets) == lent(1), "{octets}");
-        assert!(octets == 224 || into(Forward, &old, octets) == lent(1), "{octets}");
+        assert!(octets == OLD || into(Back, &t.memory, octets) == lent(1), "{octets}");
+        assert!(octets == NEW || into(Forward, &old, octets) == lent(1), "{octets}");
         assert_eq!((into(Forward, &t.memory, octets), into(Back, &old, octets)), (lent(1), lent(1)));
         let source: Vec<u8> = t.memory.iter().copied().chain([0; 200]).take(octets).collect();
-        assert!(octets == 224 || into(Back, &source, 182) == (1, vec![0xEE; 182]), "{octets}");
-        assert!(octets == 182 || into(Forward, &source, 224) == (1, vec![0xEE; 224]), "{octets}");
+        assert!(octets == NEW || into(Back, &source, OLD) == (1, vec![0xEE; OLD]), "{octets}");
+        let source: Vec<u8> = old.iter().copied().chain([0; 400]).take(octets).collect();
+        assert!(octets == OLD || into(Forward, &source, NEW) == (1, vec![0xEE; NEW]), "{octets}");
     }
 }
 
@@ -110,14 +121,14 @@ fn a_source_out_of_range_is_refused() {
         let mut new = Bench { memory: t.memory.clone() };
         new.memory[at] = octet;
         let answer = new.report(Report::Due).answer;
-        assert_eq!(into(Back, &new.memory, 182).0, answer, "octet {at} is {octet}");
-        if at < 182 {
-            assert_eq!(into(Forward, &new.memory[..182], 224).0, answer, "octet {at} is {octet}");
+        assert_eq!(into(Back, &new.memory, OLD).0, answer, "octet {at} is {octet}");
+        if !CHURN.contains(&at) {
+            assert_eq!(into(Forward, &base(&new), NEW).0, answer, "octet {at} is {octet}");
         }
     }
     for count in [0, 1, 2, 4, 33, 255] {
         let with = |source: &[u8]| [&[count][..], &source[1..]].concat();
-        for octets in [11, 68, 125, 182, 224, 239] {
+        for octets in [11, 75, 89, 139, OLD, NEW, 267] {
             assert_eq!(into(Back, &with(&t.memory), octets).0, 1);
             assert_eq!(into(Forward, &with(&back(&t)), octets).0, 1);
         }
@@ -138,7 +149,6 @@ fn a_table_of_the_old_form_is_refused_by_every_other_call() {
 fn a_moved_table_goes_on_as_if_it_had_not_been() {
     let (mut t, mut moved) = (Bench::start(3, 7, 0), Bench::start(3, 7, 0));
     let (mut one, mut same) = (numbers(), numbers());
-    let base = |t: &Bench| t.memory[..11 + 57 * 3].to_vec();
     let mut differed = 0;
     for step in 0..20_000 {
         if step % 17 == 0 {

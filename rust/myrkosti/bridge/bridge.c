@@ -5,7 +5,7 @@
  * A batch is its length in octets (4), then its requests, one after the other. A request is
  *
  *    0       call: 0 table_size, 1 start, 2 receive, 3 tick, 4 line, 5 settings, 6 fetch, 7 port, 8 aggregator, 9 due,
- *            10 version, 11 old_table_size, 12 forward, 13 back
+ *            10 version, 11 old_table_size, 12 forward, 13 back, 14 ask
  *    1       flags: bit 0 activity or up; bit 1 timeout or full; bit 2 aggregation
  *    2-5     ports, port or aggregator
  *    6-7     system priority          8-9     CollectorMaxDelay
@@ -14,7 +14,8 @@
  *   26-40    partner
  *   41-44    octets of the table     45-48    octets of the frame
  *   49-52    octets of what is written beside the table: the outgoing buffer, the record, or the table that a move makes of the first
- *   53-80    seven counters of a port
+ *   53-56    ticks for which a Marker is awaited
+ *   57-84    seven counters of a port
  *
  * and then those octets. A reply is answer (4), sent (4), five numbers of an aggregator (4 each), the set of what is due (4), the seven
  * counters (4 each), then the octets of the table and of what is written beside it. A number that a call does not write comes back as 0xEE in
@@ -32,7 +33,7 @@
 #include <sys/mman.h>
 #include <unistd.h>
 
-enum { COUNTERS = 7, REQUEST = 53 + 4 * COUNTERS, PAGE = 65536, AREA = 4 * PAGE, BEFORE = 64, UNTOUCHED = 0xee, GUARD = 0xa5, BATCH = 1 << 24 };
+enum { COUNTERS = 7, AT_COUNTERS = 57, REQUEST = AT_COUNTERS + 4 * COUNTERS, PAGE = 65536, AREA = 4 * PAGE, BEFORE = 64, UNTOUCHED = 0xee, GUARD = 0xa5, BATCH = 1 << 24 };
 
 _Static_assert(sizeof(struct myrkosti_counters) == COUNTERS * sizeof(uint32_t), "the record is its counters alone");
 
@@ -161,9 +162,9 @@ static uint8_t *perform(const uint8_t **request, const uint8_t *end, uint8_t *re
     uint8_t *table = lend(table_end, r + REQUEST, table_len);
     uint8_t *frame = lend(frame_end, r + REQUEST + table_len, frame_len);
     uint8_t *out = lend(out_end, r + REQUEST + table_len + frame_len, out_len);
-    struct myrkosti_counters *counters = lend_counters(r + 53);
+    struct myrkosti_counters *counters = lend_counters(r + AT_COUNTERS);
 
-    uint32_t n = number(r + 2, 4), answer, sent, five[5], due;
+    uint32_t n = number(r + 2, 4), ticks = number(r + 53, 4), answer, sent, five[5], due;
     uint16_t system_priority = (uint16_t)number(r + 6, 2), delay = (uint16_t)number(r + 8, 2);
     uint16_t key = (uint16_t)number(r + 10, 2), priority = (uint16_t)number(r + 12, 2);
     const uint8_t *system = r + 14, *address = r + 20, *partner = r + 26;
@@ -189,6 +190,7 @@ static uint8_t *perform(const uint8_t **request, const uint8_t *end, uint8_t *re
     case 11: answer = myrkosti_old_table_size(n); break;
     case 12: answer = myrkosti_forward(table, table_len, out, out_len); break;
     case 13: answer = myrkosti_back(table, table_len, out, out_len); break;
+    case 14: answer = myrkosti_ask(table, table_len, n, ticks, out, out_len); break;
     default: fail("no such call"); return reply;
     }
 

@@ -22,7 +22,7 @@ pub enum Refusal {
     NoSuchPort,
     /// 3: the outgoing buffer is too short for a frame.
     BufferShort,
-    /// 4: in the default partner block Collecting and Synchronization differ.
+    /// 4: in the default partner block Collecting and Synchronization differ; of an ask: the waiting time is not 1 to 600 ticks.
     DefaultWrong,
     /// 5: an LACPDU without fault, but the link is down or the duplex half.
     LacpOff,
@@ -39,8 +39,12 @@ pub enum Refusal {
     /// 11: something is due, but three LACPDUs went with fewer than eleven ticks after the first of them; ask again after the next
     /// tick.
     TooManySends,
-    /// 12: a Marker Response, for which nobody here waits.
+    /// 12: a Marker Response that nobody awaits: the port asked for no Marker, or not for this one, or waits no longer.
     Response,
+    /// 13: a Marker is asked for on a port that does not distribute.
+    NotDistributing,
+    /// 14: a Marker is asked for on a port that awaits the Response to another.
+    AlreadyAwaiting,
     /// A number that this interface has no name for: that of a later library.
     Unnamed(u32),
     /// The library could not be reached. Only where it runs under an emulator, beside a program that did not start or ended.
@@ -64,6 +68,8 @@ impl Answer {
             10 => Refusal::NothingToSend,
             11 => Refusal::TooManySends,
             12 => Refusal::Response,
+            13 => Refusal::NotDistributing,
+            14 => Refusal::AlreadyAwaiting,
             u32::MAX => Refusal::Unreachable,
             number => Refusal::Unnamed(number),
         })
@@ -102,6 +108,8 @@ impl Refusal {
             Refusal::NothingToSend => 10,
             Refusal::TooManySends => 11,
             Refusal::Response => 12,
+            Refusal::NotDistributing => 13,
+            Refusal::AlreadyAwaiting => 14,
             Refusal::Unnamed(number) => number,
             Refusal::Unreachable => u32::MAX,
         }
@@ -120,7 +128,9 @@ impl fmt::Display for Refusal {
             Refusal::TableWrong => "the memory is no table",
             Refusal::NoSuchPort => "no such port or aggregator",
             Refusal::BufferShort => "the outgoing buffer has under 124 octets",
-            Refusal::DefaultWrong => "the default partner block has Collecting different from Synchronization",
+            Refusal::DefaultWrong => {
+                "the default partner block has Collecting different from Synchronization, or a waiting time is not 1 to 600 ticks"
+            }
             Refusal::LacpOff => "an LACPDU while the link is down or the duplex half",
             Refusal::Foreign => "a frame that is not for this part",
             Refusal::Unknown => "a frame of another type or of an unknown Slow Protocol",
@@ -129,6 +139,8 @@ impl fmt::Display for Refusal {
             Refusal::NothingToSend => "nothing to send",
             Refusal::TooManySends => "three LACPDUs went with fewer than eleven ticks after the first of them",
             Refusal::Response => "a Marker Response that nobody awaits",
+            Refusal::NotDistributing => "a Marker asked for on a port that does not distribute",
+            Refusal::AlreadyAwaiting => "a Marker asked for on a port that awaits the Response to another",
             Refusal::Unnamed(number) => return write!(f, "answer {number}, which has no name here"),
             Refusal::Unreachable => "the library could not be reached",
         })
@@ -148,6 +160,10 @@ mod tests {
         }
         assert_eq!(Answer::from_number(0), Answer::Done);
         assert_eq!(Answer::from_number(12), Refusal::Response.into());
-        assert!((13..40).all(|n| Answer::from_number(n) == Refusal::Unnamed(n).into()));
+        assert_eq!(
+            [13, 14].map(Answer::from_number),
+            [Refusal::NotDistributing, Refusal::AlreadyAwaiting].map(Answer::from)
+        );
+        assert!((15..40).all(|n| Answer::from_number(n) == Refusal::Unnamed(n).into()));
     }
 }

@@ -47,6 +47,9 @@
 //! lent to each [`Table::receive`] and [`Table::fetch`] on that port, and may hold any numbers then. Who keeps none lends some that nobody
 //! reads.
 //!
+//! Before a conversation is moved to another link, the one that it leaves must have drained. [`Table::ask`] gives a Marker to be sent
+//! behind it, and the port's [`Record`] then says whether its Response came: [`Asked`].
+//!
 //! Before churn was watched for, a table had another form. [`Table::from_old`] and [`Table::to_old`] move one from either form into the
 //! other while its trunks carry: for firmware that is changed between two calls.
 //!
@@ -57,12 +60,14 @@
 //! [`raw`] has the calls as in `include/myrkosti.h`, with numbers and lent octets, and a way to perform many at once.
 
 mod answer;
+mod asked;
 mod churn;
 pub mod raw;
 mod record;
 mod table;
 
 pub use answer::{Answer, Refusal};
+pub use asked::{AskOutcome, Asked};
 #[doc(inline)]
 pub use calls::{Counters, BLOCK};
 pub use churn::{Churn, ChurnMonitor, ChurnSince, ChurnState};
@@ -70,13 +75,15 @@ pub use record::{Block, MuxState, PeriodicState, PortState, ReceiveState, Record
 pub use table::{AggregatorReport, PortSet, Received, Table, TableRef};
 
 /// The version of the library's interface that this crate was written for.
-pub const VERSION: u32 = 0x0200;
+pub const VERSION: u32 = 0x0201;
 /// The most ports that a table has.
 pub const PORTS: u32 = 32;
 /// Octets of a port's record.
-pub const RECORD: usize = 71;
+pub const RECORD: usize = 78;
 /// Ticks for which a link is watched before it is said to churn (Churn_Detection_Time, 43.4.4).
 pub const CHURN_DETECTION_TIME: u16 = 600;
+/// The most ticks for which a Marker's Response is awaited; the least is 1.
+pub const LONGEST_WAIT: u32 = 600;
 /// Octets of every frame that the library writes, without FCS; an outgoing buffer has at least as many.
 pub const FRAME: usize = 124;
 

@@ -1,5 +1,6 @@
 //! Settings, information blocks, and a port's record, decoded.
 
+use crate::asked::Asked;
 use crate::churn::Churn;
 use crate::{BLOCK, RECORD};
 use std::fmt;
@@ -225,6 +226,8 @@ pub struct Record {
     pub partner: Block,
     /// Whether the link has settled at either end. It prints in words.
     pub churn: Churn,
+    /// What came of the Marker that was asked for last. It prints in words.
+    pub asked: Asked,
 }
 
 impl Record {
@@ -258,6 +261,7 @@ impl Record {
             },
             partner: Block::from_octets(&fields.octets()?),
             churn: Churn::from_octets(&fields.octets()?)?,
+            asked: Asked::from_octets(&fields.octets()?)?,
         })
     }
 }
@@ -320,6 +324,7 @@ impl Fields<'_> {
 #[cfg(test)]
 mod tests {
     use super::*;
+    use crate::asked::AskOutcome;
     use crate::churn::{ChurnMonitor, ChurnState};
 
     #[test]
@@ -328,6 +333,7 @@ mod tests {
         octets[..9].copy_from_slice(&[5, 2, 4, 1, 7, 0, 1, 1, 0x3D]);
         octets[15] = 255;
         octets[57..59].copy_from_slice(&[1, 2]);
+        octets[71] = 3;
         let record = Record::from_octets(&octets).unwrap();
         assert_eq!((record.receive, record.mux), (ReceiveState::Current, MuxState::Distributing));
         assert_eq!((record.current_while, record.periodic_timer, record.wait_while), (0x090A, 0x0B0C, 13));
@@ -344,6 +350,8 @@ mod tests {
             record.churn.partner,
             ChurnMonitor { state: ChurnState::Churn, ticks_left: 0x3D3E, count: 0x4344_4546 }
         );
+        let asked = Asked { outcome: AskOutcome::TimedOut, ticks_left: 0x4849, next_transaction: 0x4A4B_4C4D };
+        assert_eq!(record.asked, asked);
         assert!(record.settings.activity && !record.settings.short_timeout && record.settings.aggregation);
         for at in 0..RECORD {
             for octet in 0..=255 {

@@ -21,7 +21,7 @@ pub struct Table<M = Box<[u8]>> {
 /// # fn main() -> Result<(), Refusal> {
 /// # let settings = Settings { address: [0; 6], key: 1, port_priority: 1, activity: true, short_timeout: true,
 /// #     aggregation: true, default_partner: Block::default() };
-/// let mut memory = [0; 82]; // Table::size(1)
+/// let mut memory = [0; 89]; // Table::size(1)
 /// TableRef::start_in(&mut memory[..], 1, SystemId::default(), 0, &settings)?;
 /// let mut table = Table::from_memory(&mut memory[..]);
 /// table.line(1, true, true)?;
@@ -38,6 +38,8 @@ pub enum Received<'a> {
     Lacpdu,
     /// A Marker. This Response, which stands at the beginning of the outgoing buffer, is to be sent on that port.
     Marker(&'a [u8]),
+    /// The Response to the Marker that was asked for on that port. Nothing is to be sent, and the outgoing buffer is as it came.
+    Response,
 }
 
 /// A set of ports.
@@ -93,7 +95,7 @@ impl Table {
     }
 
     /// A table of the old form, of [`Table::old_size`] octets, moved into the form of today: what it holds is as it was, and so its
-    /// trunks go on. The monitors of churn begin afresh, with nothing counted, and have run once.
+    /// trunks go on, and Markers that are awaited stay so. The monitors of churn begin afresh, with nothing counted, and have run once.
     ///
     /// ```
     /// # use myrkosti::{Block, Refusal, Settings, SystemId, Table};
@@ -120,6 +122,10 @@ impl Table {
         octets(Report::OldTableSize { ports })
     }
 }
+
+/// The octet of a frame that names the Slow Protocol, and what it says of Markers and their Responses.
+const SUBTYPE: usize = 14;
+const MARKER_SUBTYPE: u8 = 2;
 
 /// A size that the library gives.
 fn octets(asked: Report) -> Option<usize> {
@@ -201,7 +207,7 @@ impl<M: AsRef<[u8]> + AsMut<[u8]>> Table<M> {
     }
 
     /// Begins anew in the same memory. As [`Table::start_in`]. What was sent before is forgotten: let a second pass before you
-    /// tell of the first link that is up, or more LACPDUs could go than three a second.
+    /// tell of the first link that is up, or more LACPDUs could go than three a second. Markers that were awaited are forgotten too.
     ///
     /// # Errors
     /// As [`Table::start_in`]; then the table is as it was.
@@ -218,8 +224,8 @@ impl<M: AsRef<[u8]> + AsMut<[u8]>> Table<M> {
     }
 
     /// A frame came in on a port: hand over every frame to 01-80-C2-00-00-02, without FCS, as it came. The outgoing buffer has at
-    /// least [`FRAME`] octets, whatever the frame is. `counters` are those of the port: the frame is counted, and the Response to a
-    /// Marker.
+    /// least [`FRAME`] octets, whatever the frame is. `counters` are those of the port: the frame is counted, and the Response that
+    /// goes out to a Marker.
     ///
     /// # Errors
     /// Refusals 1 to 3, 5 to 9 and 12. All but 1, 2, 3 and 6 are counted too.
@@ -234,6 +240,7 @@ impl<M: AsRef<[u8]> + AsMut<[u8]>> Table<M> {
         let out: &'o [u8] = out;
         Ok(match (sent as usize, out.get(..FRAME)) {
             (FRAME, Some(response)) => Received::Marker(response),
+            _ if frame.get(SUBTYPE) == Some(&MARKER_SUBTYPE) => Received::Response,
             _ => Received::Lacpdu,
         })
     }
@@ -249,7 +256,8 @@ impl<M: AsRef<[u8]> + AsMut<[u8]>> Table<M> {
 
     /// The link of a port is up or down now, and its duplex full or half: both as the driver reads them together. With both as they
     /// were nothing changes. At half duplex LACP is off, and a port that comes up so has nothing to send. A port whose link falls
-    /// keeps its partner, whatever its duplex does in the same call; an up port that goes to half duplex forgets it.
+    /// keeps its partner, whatever its duplex does in the same call; an up port that goes to half duplex forgets it. A Marker that an up
+    /// port awaits is cancelled by any change.
     ///
     /// # Errors
     /// [`Refusal::TableWrong`], [`Refusal::NoSuchPort`].
@@ -273,6 +281,44 @@ impl<M: AsRef<[u8]> + AsMut<[u8]>> Table<M> {
     /// Refusals 1 to 3, [`Refusal::NothingToSend`], [`Refusal::TooManySends`]. None is counted.
     pub fn fetch<'o>(&mut self, port: u32, out: &'o mut [u8], counters: &mut Counters) -> Result<&'o [u8], Refusal> {
         self.perform(&Call::Fetch { port }, out, counters)?;
+        let out: &'o [u8] = out;
+        out.get(..FRAME).ok_or(Refusal::BufferShort)
+    }
+
+    /// A Marker for a port (43.5), to be sent on it at once, behind what waits there: the first [`FRAME`] octets of the outgoing buffer.
+    /// First stop sending frames of the conversation on that port. The Marker's Response, handed to [`Table::receive`] on the same port, says
+    /// that all has arrived which was sent before it. It is awaited for so many ticks, 1 to [`LONGEST_WAIT`](crate::LONGEST_WAIT): what came
+    /// of it stands in the port's [`Record::asked`] until the next ask. A port awaits one Marker at a time.
+    ///
+    /// Ask no more often than 43B.2 allows, five Markers in any one second on a port: nothing here limits it.
+    ///
+    /// ```
+    /// # use myrkosti::{AskOutcome, Block, Counters, PortState, Received, Refusal, Settings, SystemId, Table, FRAME};
+    /// # fn main() -> Result<(), Refusal> {
+    /// # let default_partner = Block { state: PortState(0x1C), ..Block::default() };
+    /// # let settings = Settings { address: [0; 6], key: 1, port_priority: 1, activity: true, short_timeout: true,
+    /// #     aggregation: true, default_partner };
+    /// # let mut table = Table::start(1, SystemId::default(), 0, &settings)?;
+    /// # table.line(1, true, false)?;
+    /// # (0..20).try_for_each(|_| table.tick())?;
+    /// let (mut out, mut counters) = ([0; FRAME], Counters::default());
+    /// let marker = table.ask(1, 30, &mut out)?.to_vec(); // send it on port 1
+    /// assert_eq!(table.port(1)?.asked.to_string(), "Marker 0 awaited, 30 ticks left");
+    /// assert_eq!(table.ask(1, 30, &mut out), Err(Refusal::AlreadyAwaiting));
+    ///
+    /// let mut response = marker;
+    /// response[16] = 2; // the far end sends it back as a Response
+    /// assert_eq!(table.receive(1, &response, &mut out, &mut counters)?, Received::Response);
+    /// assert_eq!(table.port(1)?.asked.outcome, AskOutcome::Answered);
+    /// # Ok(())
+    /// # }
+    /// ```
+    ///
+    /// # Errors
+    /// Refusals 1 to 3, [`Refusal::DefaultWrong`] for a waiting time out of range, [`Refusal::NotDistributing`],
+    /// [`Refusal::AlreadyAwaiting`]. A refused ask uses no transaction.
+    pub fn ask<'o>(&mut self, port: u32, ticks: u32, out: &'o mut [u8]) -> Result<&'o [u8], Refusal> {
+        self.perform(&Call::Ask { port, ticks }, out, &mut Counters::default())?;
         let out: &'o [u8] = out;
         out.get(..FRAME).ok_or(Refusal::BufferShort)
     }

@@ -1,8 +1,8 @@
 //! Every method of a table, with its refusals, and the version.
 
 use myrkosti::{
-    raw, version, Block, Churn, ChurnMonitor, ChurnState, Counters, MuxState, PortState, ReceiveState, Received,
-    Refusal, Settings, SystemId, Table, TableRef, FRAME, RECORD, VERSION,
+    raw, version, AskOutcome, Asked, Block, Churn, ChurnMonitor, ChurnState, Counters, MuxState, PortState,
+    ReceiveState, Received, Refusal, Settings, SystemId, Table, TableRef, FRAME, LONGEST_WAIT, RECORD, VERSION,
 };
 
 const OURS: SystemId = SystemId { priority: 1, address: [0, 0, 0, 0, 0, 9] };
@@ -55,7 +55,7 @@ fn actor(table: &Table, port: u32) -> Block {
 
 #[test]
 fn the_version_is_the_one_written_for() {
-    assert_eq!((version(), VERSION), (Ok(0x0200), 0x0200));
+    assert_eq!((version(), VERSION), (Ok(0x0201), 0x0201));
 }
 
 #[test]
@@ -177,10 +177,17 @@ fn a_link_that_never_settles_churns() {
 #[test]
 fn a_table_without_monitors_is_no_table() {
     let table = Table::start(3, OURS, 0, &settings()).unwrap().into_memory();
-    assert_eq!((Table::size(3), table.len()), (Some(11 + 71 * 3), 11 + 71 * 3));
+    assert_eq!((Table::size(3), table.len()), (Some(11 + 78 * 3), 11 + 78 * 3));
     assert!(Table::from_memory(table.clone()).port(3).is_ok());
-    let shorter = Table::from_memory(table[..11 + 57 * 3].to_vec());
-    assert_eq!(shorter.port(3), Err(Refusal::TableWrong));
+    for shorter in [unwatched(&table), table[..11 + 71 * 3].to_vec(), table[..11 + 57 * 3].to_vec()] {
+        assert_eq!(Table::from_memory(shorter).port(3), Err(Refusal::TableWrong));
+    }
+}
+
+/// The octets of a table without its monitors.
+fn unwatched(table: &[u8]) -> Vec<u8> {
+    let ports = usize::from(table[0]);
+    [&table[..11 + 57 * ports], &table[11 + 71 * ports..]].concat()
 }
 
 /// Two ports: the first carries, the second has churned for a minute.
@@ -203,9 +210,9 @@ fn one_carries() -> Table {
 fn a_table_moves_into_the_old_form_and_back() {
     let table = one_carries();
     let old = table.to_old().unwrap();
-    assert_eq!((old.as_slice(), Table::old_size(2)), (&table.as_octets()[..11 + 57 * 2], Some(old.len())));
+    assert_eq!((&old, Table::old_size(2)), (&unwatched(table.as_octets()), Some(old.len())));
     let mut moved = Table::from_old(&old).unwrap();
-    assert_eq!((&moved.as_octets()[..old.len()], moved.to_old()), (&old[..], Ok(old.clone())));
+    assert_eq!((unwatched(moved.as_octets()), moved.to_old()), (old.clone(), Ok(old.clone())));
     assert_eq!((moved.aggregator(1), moved.due()), (table.aggregator(1), table.due()));
     let (settled, watched) = (monitor(ChurnState::NoChurn, 0, 0), monitor(ChurnState::Monitor, 600, 0));
     let churns = [1, 2].map(|port| moved.port(port).unwrap().churn);
@@ -222,7 +229,7 @@ fn a_table_moves_into_the_old_form_and_back() {
 #[test]
 fn a_move_in_lent_memory() {
     let table = one_carries();
-    let (mut old, mut new) = ([0xA5; 125], [0xA5; 153]);
+    let (mut old, mut new) = ([0xA5; 139], [0xA5; 167]);
     table.to_old_in(&mut old).unwrap();
     assert_eq!(table.to_old(), Ok(old.to_vec()));
     let moved = TableRef::from_old_in(&mut new[..], &old).unwrap();
@@ -233,7 +240,7 @@ fn a_move_in_lent_memory() {
 #[test]
 fn a_move_is_refused() {
     assert_eq!([0, 33, u32::MAX].map(Table::old_size), [None; 3]);
-    assert_eq!((Table::old_size(1), Table::old_size(32)), (Some(68), Some(1835)));
+    assert_eq!((Table::old_size(1), Table::old_size(32)), (Some(75), Some(2059)));
     let table = one_carries();
     let old = table.to_old().unwrap();
     for octets in (0..400).filter(|octets| *octets != old.len()) {
@@ -243,6 +250,8 @@ fn a_move_is_refused() {
         let mut other = old.clone();
         other.resize(octets, 0);
         assert_eq!(Table::from_old(&other), Err(Refusal::TableWrong));
+        let mut other = table.as_octets().to_vec();
+        other.resize(octets, 0);
         assert_eq!(Table::from_memory(other).to_old().is_ok(), octets == table.as_octets().len());
     }
     for octets in (0..400).filter(|octets| Some(*octets) != Table::size(2)) {
@@ -251,10 +260,14 @@ fn a_move_is_refused() {
         assert_eq!(lent, vec![0xA5; octets]);
     }
     assert_eq!(Table::from_old(table.as_octets()), Err(Refusal::TableWrong));
-    for (at, octet) in [(0, 1), (0, 33), (11, 6), (11 + 57 + 13, 21), (11 + 57 * 2, 3), (11 + 57 * 2 + 4, 3)] {
+    let (churn, asked) = (11 + 57 * 2, 11 + 71 * 2);
+    let wrong =
+        [(0, 1), (0, 33), (11, 6), (11 + 57 + 13, 21), (churn, 3), (churn + 4, 3), (asked + 7, 5), (asked + 1, 3)];
+    for (at, octet) in wrong {
         let mut wrong = table.as_octets().to_vec();
         wrong[at] = octet;
-        assert!(at >= old.len() || Table::from_old(&wrong[..old.len()]) == Err(Refusal::TableWrong));
+        let wrong_old = [&wrong[..churn], &wrong[asked..]].concat();
+        assert!((churn..asked).contains(&at) || Table::from_old(&wrong_old) == Err(Refusal::TableWrong));
         assert_eq!(Table::from_memory(wrong).to_old(), Err(Refusal::TableWrong));
     }
 }
@@ -318,6 +331,10 @@ fn refusals() {
     assert_eq!(table.fetch(1, &mut out[1..], &mut unread()), Err(Refusal::BufferShort));
     assert_eq!(table.fetch(1, &mut [], &mut unread()), Err(Refusal::BufferShort));
     assert_eq!(table.fetch(1, &mut out, &mut unread()), Err(Refusal::NothingToSend));
+    assert_eq!([0, 30].map(|ticks| table.ask(3, ticks, &mut []).err()), [Some(Refusal::NoSuchPort); 2]);
+    assert_eq!([0, 30].map(|ticks| table.ask(1, ticks, &mut out[1..]).err()), [Some(Refusal::BufferShort); 2]);
+    assert_eq!([0, 601].map(|ticks| table.ask(1, ticks, &mut out).err()), [Some(Refusal::DefaultWrong); 2]);
+    assert_eq!([1, 600].map(|ticks| table.ask(1, ticks, &mut out).err()), [Some(Refusal::NotDistributing); 2]);
     assert_eq!(table.receive(1, &[], &mut [], &mut unread()), Err(Refusal::BufferShort));
     assert_eq!(table.receive(1, &[], &mut out, &mut unread()), Err(Refusal::Foreign));
     assert_eq!(table.receive(1, &frame[..123], &mut out, &mut unread()), Err(Refusal::Illegal));
@@ -387,14 +404,129 @@ fn a_fetch_that_is_not_refused_is_counted() {
     assert_eq!(fetch(&mut no_table, 1, &mut [0; FRAME]), (Err(Refusal::TableWrong), 10));
 }
 
+/// The Marker that a port is asked for.
+fn ask(table: &mut Table, port: u32, ticks: u32) -> Result<[u8; FRAME], Refusal> {
+    let (before, mut out) = (table.clone(), [0xFF; FRAME + 1]);
+    let asked = table.ask(port, ticks, &mut out).map(|marker| <[u8; FRAME]>::try_from(marker).unwrap());
+    assert_eq!(out[FRAME], 0xFF);
+    assert!(asked.is_ok() || (&*table, out) == (&before, [0xFF; FRAME + 1]));
+    asked
+}
+
+fn response_to(marker: &[u8; FRAME]) -> [u8; FRAME] {
+    let mut response = *marker;
+    (response[11], response[16]) = (5, 2);
+    response
+}
+
+/// What the table makes of a Response to that Marker on a port.
+fn answered(table: &mut Table, port: u32, marker: &[u8; FRAME]) -> Result<(), Refusal> {
+    let (mut out, mut counters) = ([0xFF; FRAME], unread());
+    let received = table.receive(port, &response_to(marker), &mut out, &mut counters);
+    assert!(matches!(received, Ok(Received::Response) | Err(Refusal::Response)), "{received:?}");
+    let accepted = received.map(|_| ());
+    assert_eq!((out, counters), ([0xFF; FRAME], Counters { marker_responses_received: 1, ..unread() }));
+    accepted
+}
+
+fn outcome(table: &Table, port: u32) -> (AskOutcome, u16, u32) {
+    let Asked { outcome, ticks_left, next_transaction } = table.port(port).unwrap().asked;
+    (outcome, ticks_left, next_transaction)
+}
+
+#[test]
+fn a_marker_is_asked_for_and_answered() {
+    let mut table = one_carries();
+    assert_eq!(outcome(&table, 1), (AskOutcome::None, 0, 0));
+    for transaction in 0..3 {
+        let marker = ask(&mut table, 1, LONGEST_WAIT).unwrap();
+        let mut laid_out = [0; FRAME];
+        laid_out[..6].copy_from_slice(&[0x01, 0x80, 0xC2, 0, 0, 2]);
+        laid_out[6..12].copy_from_slice(&settings().address);
+        laid_out[12..20].copy_from_slice(&[0x88, 0x09, 2, 1, 1, 16, 0, 1]);
+        laid_out[20..26].copy_from_slice(&OURS.address);
+        laid_out[29] = transaction;
+        assert_eq!(marker, laid_out);
+        let next = u32::from(transaction) + 1;
+        assert_eq!(outcome(&table, 1), (AskOutcome::Awaiting, 600, next));
+        assert_eq!(ask(&mut table, 1, 1), Err(Refusal::AlreadyAwaiting));
+        for at in 18..30 {
+            let mut other = marker;
+            other[at] ^= 0x80;
+            assert_eq!(answered(&mut table, 1, &other), Err(Refusal::Response));
+        }
+        assert_eq!(answered(&mut table, 2, &marker), Err(Refusal::Response));
+        assert_eq!(outcome(&table, 1), (AskOutcome::Awaiting, 600, next));
+        assert_eq!(answered(&mut table, 1, &marker), Ok(()));
+        assert_eq!(outcome(&table, 1), (AskOutcome::Answered, 0, next));
+        assert_eq!(answered(&mut table, 1, &marker), Err(Refusal::Response));
+    }
+    assert_eq!(table.port(1).unwrap().asked.to_string(), "Marker 2 answered");
+    assert_eq!((ask(&mut table, 2, 1), outcome(&table, 2)), (Err(Refusal::NotDistributing), (AskOutcome::None, 0, 0)));
+}
+
+#[test]
+fn a_marker_times_out() {
+    let mut table = one_carries();
+    let marker = ask(&mut table, 1, 3).unwrap();
+    for left in [3, 2, 1] {
+        assert_eq!(outcome(&table, 1), (AskOutcome::Awaiting, left, 1));
+        assert_eq!(answered(&mut table.clone(), 1, &marker), Ok(()));
+        table.tick().unwrap();
+    }
+    assert_eq!(outcome(&table, 1), (AskOutcome::TimedOut, 0, 1));
+    assert_eq!(answered(&mut table, 1, &marker), Err(Refusal::Response));
+}
+
+#[test]
+fn a_marker_is_cancelled() {
+    for (up, full) in [(false, true), (false, false), (true, false)] {
+        let mut table = one_carries();
+        let marker = ask(&mut table, 1, 30).unwrap();
+        table.line(1, true, true).unwrap();
+        table.line(2, false, true).unwrap();
+        table.settings(1, &Settings { key: 7, ..settings() }).unwrap();
+        assert_eq!(outcome(&table, 1), (AskOutcome::Awaiting, 30, 1));
+        table.line(1, up, full).unwrap();
+        assert_eq!(outcome(&table, 1), (AskOutcome::Cancelled, 0, 1));
+        assert_eq!(answered(&mut table, 1, &marker), Err(Refusal::Response));
+    }
+}
+
+#[test]
+fn moves_carry_markers_and_starts_forget_them() {
+    let mut table = one_carries();
+    let marker = ask(&mut table, 1, 30).unwrap();
+    table.tick().unwrap();
+    let mut moved = Table::from_old(&table.to_old().unwrap()).unwrap();
+    assert_eq!((outcome(&moved, 1), outcome(&moved, 2)), ((AskOutcome::Awaiting, 29, 1), (AskOutcome::None, 0, 0)));
+    assert_eq!(answered(&mut moved, 1, &marker), Ok(()));
+    table.restart(2, OURS, 0, &settings()).unwrap();
+    assert_eq!(outcome(&table, 1), (AskOutcome::None, 0, 0));
+    assert_eq!(answered(&mut table, 1, &marker), Err(Refusal::Response));
+}
+
+/// Firmware from before Markers were asked for has tables that end before them.
+#[test]
+fn a_table_from_before_markers_becomes_one_of_today() {
+    let table = one_carries();
+    let before = &table.as_octets()[..11 + 71 * 2];
+    let today = Table::from_memory([before, &[0; 7 * 2]].concat());
+    assert_eq!(today.as_octets(), table.as_octets());
+    let old = table.to_old().unwrap();
+    let before = &old[..11 + 57 * 2];
+    assert_eq!(Table::from_old(before), Err(Refusal::TableWrong));
+    assert!(Table::from_old(&[before, &[0; 7 * 2]].concat()).is_ok());
+}
+
 #[test]
 fn any_memory() {
-    for length in [0, 1, 10, 11, 12, 68, 81, 82, 83, 1835, 2283, 2284, 32_768, 300_000] {
+    for length in [0, 1, 10, 11, 12, 68, 75, 82, 88, 89, 90, 2059, 2507, 2508, 32_768, 300_000] {
         for octet in [0, 1, 255] {
             let mut memory = vec![octet; length];
             let mut table: TableRef<'_> = Table::from_memory(&mut memory[..]);
             let (mut out, mut counters) = ([0; FRAME], Counters::default());
-            let all_ones = length == 82 && octet == 1;
+            let all_ones = length == 89 && octet == 1;
             let wrong = |result: Result<(), Refusal>| {
                 assert!(all_ones || result == Err(Refusal::TableWrong), "{length} of {octet}: {result:?}");
             };
@@ -403,12 +535,13 @@ fn any_memory() {
             wrong(table.settings(1, &settings()));
             wrong(table.fetch(1, &mut out, &mut counters).map(|_| ()));
             wrong(table.receive(1, &[], &mut out, &mut counters).map(|_| ()));
+            wrong(table.ask(1, 1, &mut out).map(|_| ()));
             assert!(all_ones || counters == Counters::default());
             wrong(table.port(1).map(|_| ()));
             wrong(table.aggregator(1).map(|_| ()));
             wrong(table.due().map(|_| ()));
             wrong(table.to_old().map(|_| ()));
-            let of_old_form = length == 68 && octet == 1;
+            let of_old_form = length == 75 && octet == 1;
             assert!(of_old_form || Table::from_old(table.as_octets()) == Err(Refusal::TableWrong));
             assert!(all_ones || table.as_octets().iter().all(|at| *at == octet));
         }
@@ -417,21 +550,22 @@ fn any_memory() {
 
 #[test]
 fn lent_memory() {
-    let mut memory = [0xA5; 82];
+    let mut memory = [0xA5; 89];
     assert_eq!(Table::size(1), Some(memory.len()));
     let mut table = TableRef::start_in(&mut memory[..], 1, OURS, 0, &settings()).unwrap();
     table.lend().line(1, true, true).unwrap();
     assert!(table.port(1).unwrap().link_up);
     let memory = table.into_memory();
-    assert_eq!(memory.len(), 82);
+    assert_eq!(memory.len(), 89);
     let again = Table::from_memory(memory);
     assert!(again.port(1).unwrap().link_up);
 }
 
-/// The record of a port from its two places in the table.
+/// The record of a port from its three places in the table.
 fn octets(table: &[u8], port: usize) -> Vec<u8> {
-    let churn = &table[11 + 57 * usize::from(table[0])..];
-    [&table[11 + 57 * (port - 1)..][..57], &churn[14 * (port - 1)..][..14]].concat()
+    let ports = usize::from(table[0]);
+    let place = |before: usize, length: usize| &table[11 + before * ports + length * (port - 1)..][..length];
+    [place(0, 57), place(57, 14), place(71, 7)].concat()
 }
 
 #[test]

@@ -1,4 +1,4 @@
--- `fetch_counted` meets its contract: `whole::fetch`, its answer's number, and what that answer counts. Assumes nothing.
+-- `fetch_counted` meets its contract: `asked::fetch`, its answer's number, and what that answer counts. Assumes nothing.
 use mathlib.Core.Path.{ap, _∙_}
 use Rattle.control.specs.declared.answer.Answer.{Answer}
 use Rattle.control.specs.Answer.{answerNumber}

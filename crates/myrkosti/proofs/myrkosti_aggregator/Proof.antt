@@ -1,4 +1,4 @@
--- `myrkosti_aggregator` meets its contract: `whole::report_aggregator`, number by number. Assumes nothing.
+-- `myrkosti_aggregator` meets its contract: `asked::report_aggregator`, number by number. Assumes nothing.
 use mathlib.Core.Path.{ap, _∙_}
 use Rattle.control.specs.declared.answer.AggregatorReport.{AggregatorReport}
 use Rattle.control.specs.Answer.{answerNumber}

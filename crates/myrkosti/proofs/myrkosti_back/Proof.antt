@@ -1,4 +1,4 @@
--- `myrkosti_back` meets its contract: `whole::back`, and its answer's number. Assumes nothing.
+-- `myrkosti_back` meets its contract: `asked::back`, and its answer's number. Assumes nothing.
 use mathlib.Core.Path.{ap, _∙_}
 use Rattle.control.specs.Answer.{answerNumber}
 use borrow.Author.Needs.{needs}

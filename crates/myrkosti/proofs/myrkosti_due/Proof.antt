@@ -1,4 +1,4 @@
--- `myrkosti_due` meets its contract: `whole::report_due`, number by number. Assumes nothing.
+-- `myrkosti_due` meets its contract: `asked::report_due`, number by number. Assumes nothing.
 use mathlib.Core.Path.{ap, _∙_}
 use Rattle.control.specs.declared.answer.DueReport.{DueReport}
 use Rattle.control.specs.Answer.{answerNumber}

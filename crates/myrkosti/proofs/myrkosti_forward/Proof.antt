@@ -1,4 +1,4 @@
--- `myrkosti_forward` meets its contract: `whole::forward`, and its answer's number. Assumes nothing.
+-- `myrkosti_forward` meets its contract: `asked::forward`, and its answer's number. Assumes nothing.
 use mathlib.Core.Path.{ap, _∙_}
 use Rattle.control.specs.Answer.{answerNumber}
 use borrow.Author.Needs.{needs}

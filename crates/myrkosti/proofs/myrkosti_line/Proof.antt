@@ -1,4 +1,4 @@
--- `myrkosti_line` meets its contract: `whole::line`, and its answer's number. Assumes nothing.
+-- `myrkosti_line` meets its contract: `asked::line`, and its answer's number. Assumes nothing.
 use mathlib.Core.Path.{ap, _∙_}
 use Rattle.control.specs.Answer.{answerNumber}
 use borrow.Author.Needs.{needs}

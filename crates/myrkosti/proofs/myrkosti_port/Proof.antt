@@ -1,4 +1,4 @@
--- `myrkosti_port` meets its contract: `whole::report_port`, and its answer's number. Assumes nothing.
+-- `myrkosti_port` meets its contract: `asked::report_port`, and its answer's number. Assumes nothing.
 use mathlib.Core.Path.{ap, _∙_}
 use Rattle.control.specs.Answer.{answerNumber}
 use borrow.Author.Needs.{needs}

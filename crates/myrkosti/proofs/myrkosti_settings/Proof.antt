@@ -1,10 +1,11 @@
--- `myrkosti_settings` meets its contract: `whole::configure` with the settings that the octets say. Assumes nothing.
+-- `myrkosti_settings` meets its contract: `asked::configure` with the settings that the octets say. Assumes nothing.
 use mathlib.Core.Path.{ap, _∙_}
 use denote.Ref.{now}
 use Rattle.settings.specs.declared.Settings.{Settings}
 use Rattle.control.specs.Answer.{answerNumber}
 use Rattle.control.specs.Call.{configure}
-use Rattle.whole.specs.Calls.{wholeAnswer, wholeAfter}
+use Rattle.asked.specs.Layer.{newLayer}
+use Rattle.asked.specs.Calls.{askedAnswer, askedAfter}
 use borrow.Author.Needs.{needs}
 use Rattle.myrkosti.proofs.myrkosti_settings.Statement.{statement}
 use Rattle.myrkosti.proofs.myrkosti_settings.Tie as tie
@@ -30,8 +31,8 @@ returns c =
     let t = now (a .table) in
     let did = (c .before .before .before .configure .ensures) in
     let said = (c .before .before .before .before .before .settings-of .ensures) in (
-      c .number .ensures ∙ ap answerNumber (did .0) ∙ ap (λ (s : Settings). answerNumber (wholeAnswer (configure (a .port) s) t)) said,
-      did .1 ∙ ap (λ (s : Settings). wholeAfter (configure (a .port) s) t) said,
+      c .number .ensures ∙ ap answerNumber (did .0) ∙ ap (λ (s : Settings). answerNumber (askedAnswer newLayer (configure (a .port) s) t)) said,
+      did .1 ∙ ap (λ (s : Settings). askedAfter newLayer (configure (a .port) s) t) said,
     )
 
 pub myrkosti-settings-spec : {M : Type 1} → statement M

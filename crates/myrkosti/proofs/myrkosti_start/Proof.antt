@@ -1,9 +1,10 @@
--- `myrkosti_start` meets its contract: `whole::start` with the system and the settings that the octets say. Assumes nothing.
+-- `myrkosti_start` meets its contract: `asked::start` with the system and the settings that the octets say. Assumes nothing.
 use mathlib.Core.Path.{_≡_, ap, _∙_}
 use denote.Ref.{now}
 use Rattle.control.specs.Answer.{answerNumber}
 use Rattle.control.specs.Call.{Call, start}
-use Rattle.whole.specs.Calls.{wholeAnswer, wholeAfter}
+use Rattle.asked.specs.Layer.{newLayer}
+use Rattle.asked.specs.Calls.{askedAnswer, askedAfter}
 use borrow.Author.Needs.{needs}
 use Rattle.myrkosti.proofs.myrkosti_start.Statement.{statement}
 use Rattle.myrkosti.proofs.myrkosti_start.Tie as tie
@@ -34,7 +35,7 @@ returns c =
     let said = (c .before .before .before .before .before .settings-of .ensures) in
     let address = (c .before .before .before .before .before .before .read .ensures) in
     let is : _≡_ {A = Call} _ _ = λ j. start (a .ports) (record { priority = a .system-priority; address = address j }) (record { 0 = a .collector-max-delay }) (said j) in
-    (c .number .ensures ∙ ap answerNumber (did .0) ∙ ap (λ (x : Call). answerNumber (wholeAnswer x t)) is, did .1 ∙ ap (λ (x : Call). wholeAfter x t) is)
+    (c .number .ensures ∙ ap answerNumber (did .0) ∙ ap (λ (x : Call). answerNumber (askedAnswer newLayer x t)) is, did .1 ∙ ap (λ (x : Call). askedAfter newLayer x t) is)
 
 pub myrkosti-start-spec : {M : Type 1} → statement M
 myrkosti-start-spec =

@@ -1,4 +1,4 @@
--- `myrkosti_tick` meets its contract: `whole::tick`, and its answer's number. Assumes nothing.
+-- `myrkosti_tick` meets its contract: `asked::tick`, and its answer's number. Assumes nothing.
 use mathlib.Core.Path.{ap, _∙_}
 use Rattle.control.specs.Answer.{answerNumber}
 use borrow.Author.Needs.{needs}

@@ -1,4 +1,4 @@
--- `receive_counted` meets its contract: `whole::receive`, its answer's number, the length sent, and what that answer counts. Assumes nothing.
+-- `receive_counted` meets its contract: `asked::receive`, its answer's number, the length sent, and what that answer counts. Assumes nothing.
 use mathlib.Core.Path.{ap, _∙_}
 use Rattle.control.specs.declared.answer.Answer.{Answer}
 use Rattle.control.specs.Answer.{answerNumber, lengthSent}

@@ -3,8 +3,8 @@ use mathlib.Core.Path.{sym, ap, _∙_, subst}
 use denote.Ref.{now}
 use Rattle.control.specs.declared.answer.Answer.{Answer}
 use Rattle.control.specs.Accepted.{accepted}
-use Rattle.promises.specs.Run.{WholeMade}
-use Rattle.promises.proofs.Run.{made-forward}
+use Rattle.promises.specs.Asked.{NewAsked}
+use Rattle.promises.proofs.Demands.{made-forward}
 use borrow.Author.Needs.{needs}
 use Rattle.promises.proofs.forward.Statement.{statement}
 use Rattle.promises.proofs.forward.Tie as tie
@@ -20,7 +20,7 @@ returns c = λ e.
     let start = c .before .before .before .before .before .before in
     let a = start .args in
     let says = c .before .before .forward .ensures in
-    subst WholeMade (sym (says .1))
+    subst NewAsked (sym (says .1))
     (made-forward (now (a .old)) (start .pre) (now (a .new)) (λ j. c .before .before .before .before .slice-known .given j .fits)
     (ap (λ (r : Answer). accepted r) (sym (says .0)) ∙ e))
 

@@ -1,9 +1,9 @@
--- `promises::receive` leaves a table that a start and calls made, by `whole-made-call`; that its arguments are what `Takes` asks for, their types say. Assumes nothing.
+-- `promises::receive` leaves a table that a start and later steps made, by `made-call`; that its arguments are what `Takes` asks for, their types say. Assumes nothing.
 use mathlib.Core.Path.{sym, subst}
 use denote.Ref.{now}
 use Rattle.control.specs.Call.{receive as Call·receive}
-use Rattle.promises.specs.Run.{WholeMade}
-use Rattle.promises.proofs.Run.{whole-made-call}
+use Rattle.promises.specs.Asked.{NewAsked}
+use Rattle.promises.proofs.Demands.{made-call}
 use borrow.Author.Needs.{needs}
 use Rattle.promises.proofs.receive.Statement.{statement}
 use Rattle.promises.proofs.receive.Tie as tie
@@ -21,8 +21,8 @@ returns : tie.Need-returns
 returns c =
     let start = c .before .before .before .before .before .before .before .before .before .before in
     let a = start .args in
-    subst WholeMade (sym (c .before .before .before .before .receive .ensures .1))
-    (whole-made-call (now (a .table)) (start .pre) (Call·receive (a .n) (now (a .frame)) (now (a .out)))
+    subst NewAsked (sym (c .before .before .before .before .receive .ensures .1))
+    (made-call (now (a .table)) (start .pre) (Call·receive (a .n) (now (a .frame)) (now (a .out)))
     (λ j. c .before .before .before .before .before .before .before .before .shared-slice-known .given j .fits, λ j. c .before .before .before .before .before .before .before .slice-known2 .given j .fits))
 
 pub receive-spec : {M : Type 1} → statement M

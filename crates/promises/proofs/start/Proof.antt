@@ -1,9 +1,8 @@
 -- `promises::start` makes such a table of any memory where it is accepted; that its arguments are what `Takes` asks for, their types say. Assumes nothing.
 use mathlib.Core.Path.{sym, ap, _∙_, subst}
 use denote.Ref.{now}
-use Rattle.control.specs.Call.{start as Call·start}
-use Rattle.promises.specs.Run.{WholeMade}
-use Rattle.promises.proofs.Run.{whole-made-start}
+use Rattle.promises.specs.Asked.{NewAsked}
+use Rattle.promises.proofs.Demands.{made-start}
 use Rattle.table.specs.Range.{headerFits}
 use Rattle.octets.proofs.RangeLaws.{both-true}
 use Rattle.control.specs.declared.answer.Answer.{Answer}
@@ -28,8 +27,8 @@ returns c = λ e.
     let s = start .good .1 .1 .0 in
     let x = s .1 .1 .1 .0 in
     let system = both-true (fit _ (s .1 .1 .0 .1)) (both-true (both-true (fit _ (x .1 .1 .0 .1)) (both-true (fit _ (x .1 .1 .1 .0 .1)) (fit _ (x .1 .1 .1 .1 .0 .1)))) (fit _ (start .good .1 .1 .1 .0 .1 .1 .0 .1))) in
-    subst WholeMade (sym (says .1))
-    (whole-made-start (now (a .table)) (λ j. c .before .before .before .before .slice-known .given j .fits) (a .count) (a .system) (a .delay) (a .settings)
+    subst NewAsked (sym (says .1))
+    (made-start (now (a .table)) (λ j. c .before .before .before .before .slice-known .given j .fits) (a .count) (a .system) (a .delay) (a .settings)
     (system, settings-typed (a .settings) _ _ (start .good .1 .1 .1 .1 .0 .1)) (ap (λ (r : Answer). accepted r) (sym (says .0)) ∙ e))
 
 pub start-spec : {M : Type 1} → statement M

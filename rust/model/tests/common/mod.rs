@@ -95,10 +95,11 @@ impl Bench {
         (outcome.answer, record)
     }
 
-    /// The record of a port as it stands in memory, in its two places.
+    /// The record of a port as it stands in memory, in its three places.
     pub fn octets(&self, n: usize) -> Vec<u8> {
-        let churn = &self.memory[11 + 57 * usize::from(self.memory[0])..];
-        [&self.memory[11 + 57 * (n - 1)..][..57], &churn[14 * (n - 1)..][..14]].concat()
+        let ports = usize::from(self.memory[0]);
+        let place = |before: usize, length: usize| &self.memory[11 + before * ports + length * (n - 1)..][..length];
+        [place(0, 57), place(57, 14), place(71, 7)].concat()
     }
 
     pub fn table(&self) -> Table {
@@ -176,6 +177,13 @@ impl Bench {
         assert_eq!(self.rx_both(n, actor, partner), 0);
     }
 
+    /// The answer to an ask, and the frame that it gives, 0xEE before it.
+    pub fn ask(&mut self, n: u32, ticks: u32) -> (u32, [u8; FRAME]) {
+        let mut out = [0xEE; FRAME];
+        let answer = self.perform(&Call::Ask { port: n, ticks }, &mut out).answer;
+        (answer, out)
+    }
+
     /// The aggregators held.
     pub fn held(&self) -> Vec<u8> {
         self.table().ports.iter().map(|port| port.aggregator).collect()
@@ -191,6 +199,11 @@ pub fn marker(kind: u8) -> [u8; FRAME] {
     frame[14..].fill(0x77);
     frame[14..18].copy_from_slice(&[2, 1, kind, 16]);
     frame
+}
+
+/// The Response to a Marker, from another address, with its pad and reserved octets at 0x77.
+pub fn response_to(marker: &[u8]) -> Vec<u8> {
+    [&marker[..6], &[2, 0, 0, 0, 0, 5], &marker[12..16], &[2, 16], &marker[18..30], &[0x77; 94]].concat()
 }
 
 /// Numbers below a bound, the same each time.

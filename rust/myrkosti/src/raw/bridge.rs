@@ -94,6 +94,7 @@ struct Arguments<'a> {
     collector_max_delay: u16,
     system: [u8; 6],
     settings: SettingsArguments,
+    ticks: u32,
     frame: &'a [u8],
 }
 
@@ -114,6 +115,7 @@ fn arguments<'a>(call: &'a Call) -> Arguments<'a> {
         Call::Line { port, up, full } => Arguments { flags: flags([up, full, false]), number: port, ..none },
         Call::Settings { port, settings } => Arguments { flags: own_bits(&settings), number: port, settings, ..none },
         Call::Fetch { port } => Arguments { number: port, ..none },
+        Call::Ask { port, ticks } => Arguments { number: port, ticks, ..none },
         Call::Report(
             Report::TableSize { ports: number }
             | Report::OldTableSize { ports: number }
@@ -148,6 +150,7 @@ fn encode(request: &Request, to: &mut Vec<u8>) {
     for lent in [&request.table, arguments.frame, &request.out] {
         to.extend((lent.len() as u32).to_le_bytes());
     }
+    to.extend(arguments.ticks.to_le_bytes());
     for counter in request.counters.numbers() {
         to.extend(counter.to_le_bytes());
     }

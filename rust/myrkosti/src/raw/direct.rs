@@ -56,6 +56,14 @@ mod library {
             out_len: usize,
             counters: *mut Counters,
         ) -> u32;
+        pub fn myrkosti_ask(
+            table: *mut u8,
+            table_len: usize,
+            port: u32,
+            ticks: u32,
+            out: *mut u8,
+            out_len: usize,
+        ) -> u32;
         pub fn myrkosti_port(table: *const u8, table_len: usize, port: u32, record: *mut u8, record_len: usize) -> u32;
         pub fn myrkosti_aggregator(
             table: *const u8,
@@ -127,6 +135,9 @@ pub fn perform(call: &Call, table: &mut [u8], out: &mut [u8], counters: &mut Cou
             ),
             Call::Fetch { port } => {
                 library::myrkosti_fetch(table.as_mut_ptr(), table.len(), *port, out.as_mut_ptr(), out.len(), counters)
+            }
+            Call::Ask { port, ticks } => {
+                library::myrkosti_ask(table.as_mut_ptr(), table.len(), *port, *ticks, out.as_mut_ptr(), out.len())
             }
             Call::Report(asked) => return report(*asked, table, out),
         }

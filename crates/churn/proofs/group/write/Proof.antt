@@ -3,9 +3,9 @@ use mathlib.Core.Path.{_∙_}
 use mathlib.Core.List.{[], _∷_}
 use native.Mathlib.Omega.{arith}
 use denote.Ref.{now}
-use Rattle.octets.specs.Octets.{numberOctets}
+use Rattle.octets.specs.Octets.{numberOctets, longOctets}
 use Rattle.octets.proofs.Laws.{written, over-all}
-use Rattle.churn.specs.Group.{churnCode, longOctets, groupOctets}
+use Rattle.churn.specs.Group.{churnCode, groupOctets}
 use borrow.Author.Needs.{needs}
 use Rattle.churn.proofs.group.write.Statement.{statement}
 use Rattle.churn.proofs.group.write.Tie as tie

@@ -19,6 +19,9 @@ as-marker-requires c κs = search needs
 counted-if-requires-2 : tie.Need-counted-if-requires-2
 counted-if-requires-2 c κs = search needs
 
+as-response-requires : tie.Need-as-response-requires
+as-response-requires c κs = search needs
+
 counted-if-requires-3 : tie.Need-counted-if-requires-3
 counted-if-requires-3 c κs = search needs
 
@@ -37,15 +40,16 @@ counted-if-requires-6 c κs = search needs
 returns : tie.Need-returns
 unfolding received
 returns c =
-    let first = c .before .before .before .before .before .before .before in
+    let first = c .before .before .before .before .before .before .before .before in
     simp (
       c .counted-if6 .ensures,
       c .before .is-marker .ensures,
       c .before .before .counted-if5 .ensures,
       c .before .before .before .counted-if4 .ensures,
       c .before .before .before .before .counted-if3 .ensures,
-      c .before .before .before .before .before .counted-if2 .ensures,
-      c .before .before .before .before .before .before .as-marker .ensures,
+      c .before .before .before .before .before .as-response .ensures,
+      c .before .before .before .before .before .before .counted-if2 .ensures,
+      c .before .before .before .before .before .before .before .as-marker .ensures,
       first .counted-if .ensures,
       first .before .as-lacpdu .ensures,
       first .before .before .number .ensures,
@@ -60,6 +64,7 @@ received-spec =
     counted-if-requires
     as-marker-requires
     counted-if-requires-2
+    as-response-requires
     counted-if-requires-3
     counted-if-requires-4
     counted-if-requires-5

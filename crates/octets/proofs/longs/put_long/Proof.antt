@@ -3,11 +3,11 @@ use Prim.Native.Nat.{_/_, _%_}
 use mathlib.Core.List.{[], _∷_}
 use native.Mathlib.Omega.{arith}
 use denote.Ref.{now}
 use Rattle.octets.specs.Octets.{numberOctets}
 use Rattle.octets.proofs.Laws.{puts-at}
 use borrow.Author.Needs.{needs}
-use Rattle.churn.proofs.group.put_long.Statement.{statement}
-use Rattle.churn.proofs.group.put_long.Tie as tie
+use Rattle.octets.proofs.longs.put_long.Statement.{statement}
+use Rattle.octets.proofs.longs.put_long.Tie as tie
 
 cast-put-number : tie.Need-cast-put-number
 cast-put-number c = search needs

@@ -1,0 +1,3 @@
+pub mod GroupLaws
+pub mod AskLaws
+pub mod MadeLaws
