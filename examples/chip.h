@@ -45,6 +45,9 @@ void chip_may_move(uint32_t port, bool arrived);
 /* The links of these ports are up and have not settled for a minute: somebody should look. */
 void chip_unsettled(uint32_t ports);
 
+/* For the log and the port's page: why a port carries from now on, or does not, by the numbers of myrkosti_why. */
+void chip_why(uint32_t port, uint32_t cause, uint32_t holder, uint32_t ticks);
+
 /* What the page of a port has to show from now on. */
 struct myrkosti_counters;
 void chip_page(uint32_t port, const struct myrkosti_counters *counters);

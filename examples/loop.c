@@ -10,6 +10,7 @@ static struct myrkosti_counters counters[CHIP_PORTS + 1]; /* of each port, from 
 static uint8_t unsent[CHIP_PORTS + 1][MYRKOSTI_FRAME]; /* of each port, what was fetched and could not be sent */
 static uint32_t waiting;                               /* the ports that have such a frame */
 static uint32_t collecting, distributing[CHIP_PORTS + 1]; /* as the chip is programmed: ports; ports of each trunk */
+static uint32_t carried, churned;                      /* the ports that carried, and that churned, in the turn before */
 static uint32_t draining;                              /* the ports on which a Marker is awaited */
 static uint32_t pauses[CHIP_PORTS + 1];                /* of each port, the ticks until another may go */
 
@@ -95,10 +96,20 @@ static bool churns(const uint8_t *record)
     return record[MYRKOSTI_AT_ACTOR_CHURN] == MYRKOSTI_CHURN || record[MYRKOSTI_AT_PARTNER_CHURN] == MYRKOSTI_CHURN;
 }
 
+/* Of these ports alone: every report looks over the whole table. */
+static void tell_why(uint32_t ports)
+{
+    for (uint32_t port = 1; port <= CHIP_PORTS; port++) {
+        uint32_t cause, holder, ticks;
+        if ((ports & bit(port)) != 0 && myrkosti_why(table, sizeof table, port, &cause, &holder, &ticks) == MYRKOSTI_DONE)
+            chip_why(port, cause, holder, ticks);
+    }
+}
+
 /* Step 5, once a turn. First what the LACPDUs will say, then the LACPDUs, then what the neighbours allow. */
 static void program_and_send(void)
 {
-    uint32_t collect = 0, unsettled = 0, distribute[CHIP_PORTS + 1];
+    uint32_t collect = 0, carry = 0, unsettled = 0, distribute[CHIP_PORTS + 1];
     for (uint32_t i = 1; i <= CHIP_PORTS; i++) {
         uint8_t record[MYRKOSTI_RECORD];
         uint32_t holding, attached, count, lowest;
@@ -108,6 +119,7 @@ static void program_and_send(void)
         if (churns(record))
             unsettled |= bit(i);
         myrkosti_aggregator(table, sizeof table, i, &holding, &attached, &distribute[i], &count, &lowest);
+        carry |= distribute[i];
     }
     chip_collect(collecting | collect);
     for (uint32_t trunk = 1; trunk <= CHIP_PORTS; trunk++)
@@ -117,6 +129,9 @@ static void program_and_send(void)
         chip_distribute(trunk, distributing[trunk] = distribute[trunk]);
     chip_collect(collecting = collect);
     chip_unsettled(unsettled);
+    tell_why((carried ^ carry) | (unsettled & ~churned)); /* those that begin or stop to carry, and those that begin to churn */
+    carried = carry;
+    churned = unsettled;
 }
 
 /* A Marker behind the last frame of the conversations that are to leave a port. One that cannot be sent times out. */

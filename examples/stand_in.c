@@ -232,6 +232,22 @@ void chip_unsettled(uint32_t ports)
     unsettled = ports;
 }
 
+/* The sentence for the desk, as docs/GUIDE-SUPPORT.md has it. */
+void chip_why(uint32_t port, uint32_t cause, uint32_t holder, uint32_t ticks)
+{
+    static const char *const said[] = {"does not carry", "carries", "carries on its settings alone: no partner is heard to agree",
+                                       "does not carry: its link is down", "does not carry: its link is at half duplex, so LACP is off",
+                                       "does not carry: no partner is heard on it", "does not carry: its partner is silent", "waits", "waits",
+                                       "does not carry: its partner is not in sync with it", "does not carry: its partner is in sync, but does not collect"};
+    const bool known = cause < sizeof said / sizeof said[0];
+    printf("%5.1f s  port %u %s", turns / (10.0 * TURNS_A_TICK), (unsigned)port, said[known ? cause : MYRKOSTI_NO_CAUSE]);
+    if (holder != 0)
+        printf(" for port %u", (unsigned)holder);
+    if (ticks != 0)
+        printf(", %u tick%s more", (unsigned)ticks, ticks == 1 ? "" : "s");
+    printf("\n");
+}
+
 void chip_page(uint32_t port, const struct myrkosti_counters *counters)
 {
     pages[port] = *counters;

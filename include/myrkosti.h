@@ -2,10 +2,11 @@
  * Myrkosti: the control side of link aggregation (LACP and Marker, IEEE Std 802.3ad-2000, Clause 43) for an access switch.
  *
  * You lend the memory of a table of 1 to 32 ports, tell the library what happens (frames, ticks, link and duplex, settings), send what
- * it writes for you, and read from the reports which ports form one trunk. It keeps no memory of its own, allocates nothing, calls
- * nothing, and every call ends. One table is one Aggregation System; different tables may be used at the same time. What a port received
- * and sent is counted in a small record that you keep beside the table. Before you move a conversation to another link, ask for a Marker
- * on the one that it leaves: its Response says that the link has drained.
+ * it writes for you, and read from the reports which ports form one trunk, why a port does not carry, and why two ports are not in one
+ * trunk. It keeps no memory of its own, allocates nothing, calls nothing, and every call ends. One table is one Aggregation System;
+ * different tables may be used at the same time. What a port received and sent is counted in a small record that you keep beside the
+ * table. Before you move a conversation to another link, ask for a Marker on the one that it leaves: its Response says that the link
+ * has drained.
  *
  * You may pass anything: frames of any length and content, any port number, any setting, any table memory, any numbers in counters. A call
  * answers one of the numbers below, and unless that is MYRKOSTI_DONE, table and outgoing buffer hold what they held before: of what you
@@ -34,7 +35,7 @@ extern "C" {
  * The version of this interface. Its high octet changes where a program that was compiled with the header of before no longer fits; its low octet
  * where something is added: a call, an answer, fields behind the others of a record. Ask myrkosti_fits at start.
  */
-#define MYRKOSTI_VERSION 0x0201
+#define MYRKOSTI_VERSION 0x0202
 
 #define MYRKOSTI_PORTS 32  /* the most ports that a table has */
 #define MYRKOSTI_HEADER 11 /* octets before the first record of a table */
@@ -234,6 +235,50 @@ struct myrkosti_counters {
     uint32_t marker_responses_sent;     /* receive answered 0 to a Marker */
 };
 
+/* ---- why a port does not carry, and why two are apart ---- */
+
+/*
+ * Causes, as myrkosti_why gives them: the first that applies, in the order of this list from 1 on. A port carries at 1 and 2, and at no other number.
+ * A later version may add a cause, with a number of its own, and none changes its meaning. So take a number that you do not know for 'does not carry', and
+ * ask myrkosti_is_carrying. What the desk and the crew do about each: docs/GUIDE-SUPPORT.md.
+ */
+enum {
+    MYRKOSTI_NO_CAUSE = 0,           /* none: beside a refusal, and in memory that no start and calls made; a table that they made never gives it */
+    MYRKOSTI_CARRIES = 1,            /* the port distributes, by what its partner says of itself */
+    MYRKOSTI_CARRIES_BY_DEFAULT = 2, /* it distributes on its settings alone: LACP is off (half duplex), or the partner is the default block (DEFAULTED) */
+    MYRKOSTI_LINK_DOWN = 3,          /* the link is down */
+    MYRKOSTI_HALF_DUPLEX = 4,        /* the link is up at half duplex, so LACP is off */
+    MYRKOSTI_IS_DEFAULTED = 5,       /* receive state DEFAULTED: no partner was heard since the start or since the link came up, or it was given up */
+    MYRKOSTI_IS_EXPIRED = 6,         /* receive state EXPIRED: the partner is silent; also while nothing was heard yet, three seconds after the link came up */
+    MYRKOSTI_WAITS = 7,              /* mux state WAITING, and the port's own wait timer runs: `ticks` is what it has left */
+    MYRKOSTI_HELD_BACK = 8,          /* WAITING with its own timer at 0, and a port that waits for the same aggregator has one that runs: `holder`, `ticks` */
+    MYRKOSTI_OUT_OF_SYNC = 9,        /* the partner's Synchronization, as recorded, is clear */
+    MYRKOSTI_PARTNER_NOT_COLLECTING = 10 /* the partner is in sync, and its Collecting is clear (MYRKOSTI_NOT_COLLECTING is an answer) */
+};
+
+/* Whether a port with this cause carries; false of a number that this header does not know. */
+static inline bool myrkosti_is_carrying(uint32_t cause)
+{
+    return cause == MYRKOSTI_CARRIES || cause == MYRKOSTI_CARRIES_BY_DEFAULT;
+}
+
+/*
+ * Reasons, as myrkosti_apart gives them: a set, a bit for each that holds. They are what the selection rule compares (R10), each for itself, also where
+ * another holds already. A later version may add a bit: a set that is not 0 says 'apart', whatever its bits.
+ */
+enum {
+    MYRKOSTI_FIRST_INDIVIDUAL = 0x001,           /* the first port's own Aggregation is clear */
+    MYRKOSTI_FIRST_PARTNER_INDIVIDUAL = 0x002,   /* the Aggregation of the first port's partner is clear */
+    MYRKOSTI_FIRST_LOOPED = 0x004,               /* the first port's partner is our own system, priority and address */
+    MYRKOSTI_SECOND_INDIVIDUAL = 0x008,          /* the second port's own Aggregation is clear */
+    MYRKOSTI_SECOND_PARTNER_INDIVIDUAL = 0x010,  /* the Aggregation of the second port's partner is clear */
+    MYRKOSTI_SECOND_LOOPED = 0x020,              /* the second port's partner is our own system, priority and address */
+    MYRKOSTI_KEYS_DIFFER = 0x040,                /* their own keys differ */
+    MYRKOSTI_PARTNER_PRIORITIES_DIFFER = 0x080,  /* the system priorities of their partners differ */
+    MYRKOSTI_PARTNER_SYSTEMS_DIFFER = 0x100,     /* the system addresses of their partners differ */
+    MYRKOSTI_PARTNER_KEYS_DIFFER = 0x200         /* the keys of their partners differ */
+};
+
 /* ---- calls ---- */
 
 /* The version of the library that is linked. */
@@ -339,6 +384,23 @@ uint32_t myrkosti_port(const uint8_t *table, size_t table_len, uint32_t port, ui
 uint32_t myrkosti_aggregator(const uint8_t *table, size_t table_len, uint32_t aggregator,
                              uint32_t *holding, uint32_t *attached, uint32_t *distributing,
                              uint32_t *count, uint32_t *lowest);
+
+/*
+ * Why a port does not carry, or that it does: `cause` is one of the numbers above, and the port is in its aggregator's distributing set exactly if that is 1
+ * or 2. With MYRKOSTI_WAITS `ticks` is what its own wait timer has left. With MYRKOSTI_HELD_BACK `holder` is the port that waits longest for the same
+ * aggregator, the lowest-numbered of several, and `ticks` what that one has left: so many ticks more, if nothing else happens. Otherwise both are 0. A
+ * holder may be a port whose own link is down. All three are written at every call, with zeros beside a refusal, and nothing else is: the table is only
+ * read. Every call checks the whole table's ranges first, so ask where something changed, not of every port at every tick. Answers 0, 1 or 2.
+ */
+uint32_t myrkosti_why(const uint8_t *table, size_t table_len, uint32_t port, uint32_t *cause, uint32_t *holder, uint32_t *ticks);
+
+/*
+ * Why two ports are not in one trunk: `reasons` is a set of the bits above, 0 exactly if they share a group, and so always of a port and itself. In a table
+ * that calls made they hold one aggregator then, and otherwise two. Link, duplex, port priority and the states play no part: the selection rule does not
+ * read them. The partner of a port that is not heard is its default block as recorded, and of one whose link is down the last that was recorded. `reasons`
+ * is written at every call and nothing else is. It is 0 beside a refusal too: look at the answer first. Answers 0, 1 or 2, where either number is of no port.
+ */
+uint32_t myrkosti_apart(const uint8_t *table, size_t table_len, uint32_t first, uint32_t second, uint32_t *reasons);
 
 /* ---- new firmware under live trunks ---- */
 

@@ -5,7 +5,7 @@ cd "$(dirname "$0")/.."
 [ -f target/staticlib/libmyrkosti.a ] || rt staticlib myrkosti
 . tools/x86.sh
 
-for test in calls counters churn asks; do
+for test in calls counters churn asks why; do
     compile tests/c/$test.c target/c/$test
     "${run[@]}" target/c/$test
 done

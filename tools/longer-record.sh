@@ -11,9 +11,9 @@ tools/install.sh valgrind valgrind
 build() { cc -std=c11 -Wall -Wextra -Wpedantic -Werror -g "-I$1" -Itests/c "${@:4}" "$2" "$work/native/libmyrkosti.a" -o "$3"; }
 checked() { valgrind --quiet --error-exitcode=9 "$@"; }
 
-# run_longer HEADERS PROGRAM LONGER APPENDED: as it is, and with memory that is too short
+# run_longer HEADERS PROGRAM LINKED LONGER APPENDED: as it is, and with memory that is too short
 run_longer() {
-    build "$1" tests/c/longer.c "$2" "-DLONGER=$3" "-DAPPENDED={$4}"
+    build "$1" tests/c/longer.c "$2" "-DLINKED=$3" "-DLONGER=$4" "-DAPPENDED={$5}"
     checked "$2"
     if checked "$2" short > "$2.log" 2>&1; then
         echo 'failed: an octet behind the memory lent was not seen' && exit 1
@@ -27,9 +27,11 @@ work=$PWD/target/c/shorter
 tools/bench/native.sh "$work/crates" "$work/native"
 mkdir "$work/0x0200"
 sed -e 's/\(#define MYRKOSTI_VERSION\) .*/\1 0x0200/' -e 's/\(#define MYRKOSTI_RECORD\) 78/\1 71/' -e 's/\(#define MYRKOSTI_OLD_RECORD\) 64/\1 57/' \
-    -e '/MYRKOSTI_ASKED\|MYRKOSTI_LONGEST_WAIT\|MYRKOSTI_MARKER_\|MYRKOSTI_AT_MARKER\|MYRKOSTI_NOT_DISTRIBUTING\|MYRKOSTI_ALREADY_AWAITING\|myrkosti_ask(/d' \
+    -e '/^\/\* ---- why a port does not carry/,/^\/\* ---- calls/{/---- calls/!d}' \
+    -e '/MYRKOSTI_ASKED\|MYRKOSTI_LONGEST_WAIT\|MYRKOSTI_MARKER_\|MYRKOSTI_AT_MARKER\|MYRKOSTI_NOT_DISTRIBUTING\|MYRKOSTI_ALREADY_AWAITING/d' \
+    -e '/myrkosti_ask(\|myrkosti_why(\|myrkosti_apart(/d' \
     include/myrkosti.h | sed -e '/^enum {$/{N;/\n};$/d}' > "$work/0x0200/myrkosti.h"
-run_longer "$work/0x0200" "$work/longer" 7 0,0,0,0,0,0,0
+run_longer "$work/0x0200" "$work/longer" "$version" 7 0,0,0,0,0,0,0
 
 # a library of tomorrow, and a program of today
 work=$PWD/target/c/longer
@@ -42,7 +44,7 @@ of_version() { printf '0x%04x' $((version + $1)); } # so much above that of crat
 next=$(of_version 1)
 call_it "$next"
 tools/bench/native.sh "$work/crates" "$work/native"
-run_longer include "$work/longer" 4 0xe1,0xe2,0xe3,0xe4
+run_longer include "$work/longer" "$next" 4 0xe1,0xe2,0xe3,0xe4
 
 # fits VERSION: what myrkosti_fits says to a program whose header has this version
 fits() {
@@ -53,7 +55,7 @@ fits() {
     "$work/fits"
 }
 # today's and tomorrow's do, and yesterday's; one that knows of more does not, nor those of the generations before and after
-if ! fits 0x0200 || ! fits "$version" || ! fits "$next" || fits "$(of_version 2)" || fits "$(of_version -0x100)" || fits "$(of_version 0x100)"; then
+if ! fits 0x0200 || ! fits 0x0201 || ! fits "$version" || ! fits "$next" || fits "$(of_version 2)" || fits "$(of_version -0x100)" || fits "$(of_version 0x100)"; then
     echo 'failed: what fits' && exit 1
 fi
 echo 'a longer record: memory that is too short is seen, and so are headers that do not fit'

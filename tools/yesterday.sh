@@ -2,18 +2,18 @@
 # yesterday.sh: two libraries of before, to test what becomes of a table when new firmware is loaded under it:
 #   target/yesterday/yesterday.o   of version 0x0100: its tables are of the old form, and its receive and fetch take no counters
 #   target/yesterday/lately.o      of version 0x0200: its tables are of the form of today
-# Neither can ask for a Marker, and their tables end without the octets that tell of one. They are the library of crates/ with `control` or `whole` in the
-# place of `asked`, without the calls that their versions have not, and without proofs. They are for x86-64 as the proved archive is, and their functions
-# have `yesterday_` or `lately_` before their names, so that one program can have all three; tests/c/yesterday.h declares them.
+# Neither can ask for a Marker, and their tables end without the octets that tell of one; nor do they say why. They are the library of crates/ with `control` or
+# `whole` in the place of `asked`, without the calls that their versions have not, and without proofs. They are for x86-64 as the proved archive is, and their
+# functions have `yesterday_` or `lately_` before their names, so that one program can have all three; tests/c/yesterday.h declares them.
 set -eu
 cd "$(dirname "$0")/.."
 folder=$PWD/target/yesterday
 . tools/x86.sh
 rm -rf "$folder"
 
-# of the library's source or of its C functions: what stands before the moves, which are the last in their files, and what is no ask
+# of the library's source or of its C functions: what stands before the moves, which are the last of the calls, and what neither asks for a Marker nor says why
 before_moves() { sed '/---- moves between the two forms of a table/,$d'; }
-without_asks() { sed -e '/^\/\/ Asks for a Marker on a port/,/^}/d' -e '/^define i32 @myrkosti_ask(/,/^}/d'; }
+without_later() { sed -e '/^\/\/ Asks for a Marker on a port/,/^}/d' -e '/^\/\/ Why /,/^}/d' -e '/^define i32 @myrkosti_\(ask\|why\|apart\)(/,/^}/d'; }
 
 # begin NAME VERSION: a copy of the library, to be changed
 begin() {
@@ -36,14 +36,14 @@ finish() {
 
 begin yesterday 0x0100
 change myrkosti/src/lib.rt 'asked::table_size(' 'table::layout::table_size('
-before_moves < "$library" | without_asks > "$work/lib.rt"
+before_moves < "$library" | without_later > "$work/lib.rt"
 mv "$work/lib.rt" "$library"
 # where today's functions are lent counters, these count in a record of their own that nobody reads
 own_record='  %counters = alloca [7 x i32]\n  store [7 x i32] zeroinitializer, ptr %counters'
-before_moves < tests/bench/exports.ll | without_asks | sed "s/^\(define .*\), ptr %counters) nounwind {/\1) nounwind {\n$own_record/" | finish yesterday control
+before_moves < tests/bench/exports.ll | without_later | sed "s/^\(define .*\), ptr %counters) nounwind {/\1) nounwind {\n$own_record/" | finish yesterday control
 
 begin lately 0x0200
 change counters/src/lib.rt 'counted_if(as_response(a), self.responses)' 'counted_if(n == 12, self.responses)'
-without_asks < "$library" > "$work/lib.rt"
+without_later < "$library" > "$work/lib.rt"
 mv "$work/lib.rt" "$library"
-without_asks < tests/bench/exports.ll | finish lately whole
+without_later < tests/bench/exports.ll | finish lately whole

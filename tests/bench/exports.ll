@@ -130,3 +130,17 @@ define i32 @myrkosti_back(ptr %new, i64 %new_length, ptr %old, i64 %old_length) 
   %answer = call i32 @"myrkosti::myrkosti_back"(ptr %lent_new, ptr %lent_old)
   ret i32 %answer
 }
+
+define i32 @myrkosti_why(ptr %table, i64 %length, i32 %port, ptr %cause, ptr %holder, ptr %ticks) nounwind {
+  %lent = alloca [16 x i8], align 8
+  call void @lend(ptr %lent, ptr %table, i64 %length)
+  %answer = call i32 @"myrkosti::myrkosti_why"(ptr %lent, i32 %port, ptr %cause, ptr %holder, ptr %ticks)
+  ret i32 %answer
+}
+
+define i32 @myrkosti_apart(ptr %table, i64 %length, i32 %first, i32 %second, ptr %reasons) nounwind {
+  %lent = alloca [16 x i8], align 8
+  call void @lend(ptr %lent, ptr %table, i64 %length)
+  %answer = call i32 @"myrkosti::myrkosti_apart"(ptr %lent, i32 %first, i32 %second, ptr %reasons)
+  ret i32 %answer
+}

@@ -243,6 +243,17 @@ static uint32_t report_due(const struct side *side, const struct scene *scene, s
     return side->due(area->table, scene->size, &area->ports);
 }
 
+static uint32_t report_why(const struct side *side, const struct scene *scene, struct area *area)
+{
+    uint32_t *sets = area->sets;
+    return side->why(area->table, scene->size, scene->ports, &sets[0], &sets[1], &sets[2]);
+}
+
+static uint32_t report_apart(const struct side *side, const struct scene *scene, struct area *area)
+{
+    return side->apart(area->table, scene->size, 1, scene->ports, &area->sets[0]);
+}
+
 static uint32_t fall(const struct side *side, const struct scene *scene, struct area *area)
 {
     return side->line(area->table, scene->size, 1, false, true);
@@ -276,6 +287,8 @@ const struct call CALLS[] = {
     {"due", trunk, report_due, MYRKOSTI_DONE},
     {"port report", trunk, report_port, MYRKOSTI_DONE},
     {"aggregator report", trunk, report_aggregator, MYRKOSTI_DONE},
+    {"why", waiting, report_why, MYRKOSTI_DONE},
+    {"apart", apart, report_apart, MYRKOSTI_DONE},
     {"line, link falls", trunk, fall, MYRKOSTI_DONE},
     {"line, duplex halves", trunk, halve, MYRKOSTI_DONE},
     {"settings, new key", trunk, set_key, MYRKOSTI_DONE},

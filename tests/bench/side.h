@@ -25,6 +25,8 @@ struct side {
                            uint32_t *holding, uint32_t *attached, uint32_t *distributing,
                            uint32_t *count, uint32_t *lowest);
     uint32_t (*due)(const uint8_t *table, size_t table_len, uint32_t *ports);
+    uint32_t (*why)(const uint8_t *table, size_t table_len, uint32_t port, uint32_t *cause, uint32_t *holder, uint32_t *ticks);
+    uint32_t (*apart)(const uint8_t *table, size_t table_len, uint32_t first, uint32_t second, uint32_t *reasons);
 };
 
 /* The library first; the model after it, where the program is linked with the model. */

@@ -662,6 +662,18 @@ static uint32_t report_aggregator(void)
     return myrkosti_aggregator(table, SIZE, 2, &holding, &attached, &distributing, &count, &lowest);
 }
 
+static uint32_t report_why(void)
+{
+    uint32_t cause, holder, ticks;
+    return myrkosti_why(table, SIZE, 2, &cause, &holder, &ticks);
+}
+
+static uint32_t report_apart(void)
+{
+    uint32_t reasons;
+    return myrkosti_apart(table, SIZE, 1, 2, &reasons);
+}
+
 enum effect { NOTHING, TICKED, ENDED_BY_LINE, ENDED_BY_RESPONSE, ASKED };
 
 static const struct {
@@ -675,6 +687,7 @@ static const struct {
     {"the Response to its last Marker", hear_awaited, ENDED_BY_RESPONSE}, {"the Response to none of its own", hear_another, NOTHING},
     {"an ask", ask_again, ASKED}, {"a refused ask", refuse_ask, NOTHING}, {"a fetch", fetch, NOTHING}, {"due", report_due, NOTHING},
     {"a port report", report_port, NOTHING}, {"an aggregator report", report_aggregator, NOTHING},
+    {"why", report_why, NOTHING}, {"apart", report_apart, NOTHING},
 };
 
 static struct asked ended(struct asked a, uint8_t outcome)
@@ -781,6 +794,9 @@ static void refused_by_every_call(void)
     IS(myrkosti_long_number(record + MYRKOSTI_AT_MARKER_NUMBER), 0);
     IS(myrkosti_aggregator(table, SIZE, 1, &a, &b, &c, &d, &e), MYRKOSTI_TABLE_WRONG);
     IS(myrkosti_due(table, SIZE, &a), MYRKOSTI_TABLE_WRONG);
+    IS(myrkosti_why(table, SIZE, 1, &a, &b, &c), MYRKOSTI_TABLE_WRONG);
+    IS(myrkosti_apart(table, SIZE, 1, 2, &d), MYRKOSTI_TABLE_WRONG);
+    IS(a | b | c | d, 0);
     IS(myrkosti_back(table, SIZE, old, sizeof old), MYRKOSTI_TABLE_WRONG);
     memcpy(old, table, front_size(PORTS, false));
     memcpy(old + front_size(PORTS, false), table + front_size(PORTS, true), MYRKOSTI_ASKED * PORTS);

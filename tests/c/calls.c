@@ -98,6 +98,10 @@ static void refuse_tables(void)
     a = 9;
     IS(myrkosti_due(table, SIZE, &a), MYRKOSTI_TABLE_WRONG);
     IS(a, 0);
+    a = b = c = d = 9;
+    IS(myrkosti_why(table, SIZE, 1, &a, &b, &c), MYRKOSTI_TABLE_WRONG);
+    IS(myrkosti_apart(table, SIZE, 1, 2, &d), MYRKOSTI_TABLE_WRONG);
+    IS(a | b | c | d, 0);
     IS(memcmp(table, before, sizeof table), 0);
 }
 
@@ -115,6 +119,8 @@ static void refuse_arguments(uint8_t *table)
     IS(settings(table, 1, 1, wrong), MYRKOSTI_DEFAULT_WRONG);
     IS(myrkosti_port(table, SIZE, 0, record, sizeof record), MYRKOSTI_NO_SUCH_PORT);
     IS(myrkosti_aggregator(table, SIZE, 3, &a, &b, &c, &d, &e), MYRKOSTI_NO_SUCH_PORT);
+    IS(myrkosti_why(table, SIZE, 3, &a, &b, &c), MYRKOSTI_NO_SUCH_PORT);
+    IS(myrkosti_apart(table, SIZE, 1, 3, &a), MYRKOSTI_NO_SUCH_PORT);
     IS(myrkosti_fetch(table, SIZE, 1, out, 123, &unread), MYRKOSTI_BUFFER_SHORT);
     IS(myrkosti_ask(table, SIZE, 0, 1, out, sizeof out), MYRKOSTI_NO_SUCH_PORT);
     IS(myrkosti_ask(table, SIZE, 1, 1, out, 123), MYRKOSTI_BUFFER_SHORT);

@@ -355,6 +355,18 @@ static uint32_t report_aggregator(void)
     return myrkosti_aggregator(table, SIZE, 1, &holding, &attached, &distributing, &count, &lowest);
 }
 
+static uint32_t report_why(void)
+{
+    uint32_t cause, holder, ticks;
+    return myrkosti_why(table, SIZE, 1, &cause, &holder, &ticks);
+}
+
+static uint32_t report_apart(void)
+{
+    uint32_t reasons;
+    return myrkosti_apart(table, SIZE, 1, 2, &reasons);
+}
+
 static uint32_t refuse_tick(void)
 {
     return myrkosti_tick(table, SIZE - 1);
@@ -398,6 +410,8 @@ static const struct {
     {"due", ask_due, MYRKOSTI_DONE, AS_BEFORE},
     {"a port report", report_port, MYRKOSTI_DONE, AS_BEFORE},
     {"an aggregator report", report_aggregator, MYRKOSTI_DONE, AS_BEFORE},
+    {"why", report_why, MYRKOSTI_DONE, AS_BEFORE},
+    {"apart", report_apart, MYRKOSTI_DONE, AS_BEFORE},
     {"a refused tick", refuse_tick, MYRKOSTI_TABLE_WRONG, AS_BEFORE},
     {"a refused line", refuse_line, MYRKOSTI_NO_SUCH_PORT, AS_BEFORE},
     {"refused settings", refuse_settings, MYRKOSTI_NO_SUCH_PORT, AS_BEFORE},

@@ -1,8 +1,8 @@
 /*
  * A program of a header with a library whose record is longer than the header knows (tools/longer-record.sh): of this header with a library of tomorrow, and
- * of one of version 0x0200 with that of today. By how many octets is LONGER, and what they hold after a start is APPENDED. All memory that it lends is from
- * the heap and just as long as it says, so that a checker of memory sees an octet that is touched beyond it; counters too. With the word `short` it lends
- * less than it says for a record, which the checker must see.
+ * of one of version 0x0200 with that of today. LINKED is the library's version. By how many octets its record is longer is LONGER, and what they hold after a
+ * start is APPENDED. All memory that it lends is from the heap and just as long as it says, so that a checker of memory sees an octet that is touched beyond
+ * it; counters too. With the word `short` it lends less than it says for a record, which the checker must see.
  */
 #include "myrkosti.h"
 
@@ -148,6 +148,23 @@ static void move(void)
     IS(field(HEARD, MYRKOSTI_AT_MUX), MYRKOSTI_MUX_DISTRIBUTING);
 }
 
+/* port 2 carries, and the others have no link and nobody at their other ends; a header of version 0x0200 knows of no such reports */
+static void say_why(void)
+{
+#if MYRKOSTI_VERSION >= 0x0202
+    uint32_t *out = lend(4 * sizeof *out);
+    for (uint32_t port = 1; port <= PORTS; port++) {
+        IS(myrkosti_why(table, size, port, &out[0], &out[1], &out[2]), MYRKOSTI_DONE);
+        IS(out[0], port == HEARD ? MYRKOSTI_CARRIES : MYRKOSTI_LINK_DOWN);
+        IS(out[1] | out[2], 0);
+        IS(myrkosti_apart(table, size, HEARD, port, &out[3]), MYRKOSTI_DONE);
+        IS((out[3] & MYRKOSTI_SECOND_PARTNER_INDIVIDUAL) != 0, port != HEARD);
+    }
+    IS(myrkosti_why(table, MYRKOSTI_TABLE(PORTS), HEARD, &out[0], &out[1], &out[2]), MYRKOSTI_TABLE_WRONG);
+    free(out);
+#endif
+}
+
 int main(int words, char **word)
 {
     const struct myrkosti_system us = myrkosti_usual_system(ADDRESS);
@@ -155,7 +172,7 @@ int main(int words, char **word)
     size = myrkosti_table_size(PORTS);
     longer = (size - MYRKOSTI_HEADER) / PORTS;
     IS(longer, MYRKOSTI_RECORD + LONGER);
-    IS(myrkosti_version(), MYRKOSTI_VERSION + 1);
+    IS(myrkosti_version(), LINKED);
     IS(myrkosti_fits(), true);
     table = lend(size);
     counters = lend(sizeof *counters);
@@ -165,6 +182,7 @@ int main(int words, char **word)
     look_at_the_whole();
     carry();
     move();
+    say_why();
     if (words > 1 && strcmp(word[1], "short") == 0) {
         uint8_t *record = lend(MYRKOSTI_RECORD - 1);
         myrkosti_port(table, size, 1, record, MYRKOSTI_RECORD);

@@ -382,6 +382,116 @@ static void marker_octets(void)
     IS(myrkosti_port(table, SIZE, 1, record, sizeof record), MYRKOSTI_TABLE_WRONG);
 }
 
+/* ---- why ---- */
+
+/* the cause of a port, with what stands beside it in the two numbers */
+static uint32_t cause_of(uint32_t port, uint32_t *holder, uint32_t *ticks)
+{
+    uint32_t cause = 99;
+    IS(myrkosti_why(table, SIZE, port, &cause, holder, ticks), MYRKOSTI_DONE);
+    return cause;
+}
+
+static uint32_t cause_of_first(void)
+{
+    uint32_t holder = 99, ticks = 99;
+    const uint32_t cause = cause_of(1, &holder, &ticks);
+    IS(holder, 0);
+    IS(ticks, cause == MYRKOSTI_WAITS ? 20 : 0);
+    return cause;
+}
+
+/* each by what leads to it; the numbers are those of the header's list */
+static void causes(void)
+{
+    const uint8_t willing = MYRKOSTI_ACTIVITY | MYRKOSTI_TIMEOUT | MYRKOSTI_AGGREGATION;
+    struct myrkosti_port_settings settings = myrkosti_usual_settings(OTHER, 1);
+    uint32_t cause = 99, holder = 99, ticks = 99;
+    start();
+    IS(cause_of_first(), MYRKOSTI_LINK_DOWN);
+    IS(myrkosti_line(table, SIZE, 1, true, false), MYRKOSTI_DONE);
+    IS(cause_of_first(), MYRKOSTI_HALF_DUPLEX);
+    settings.partner[MYRKOSTI_BLOCK_STATE] = MYRKOSTI_SYNCHRONIZATION | MYRKOSTI_COLLECTING;
+    IS(myrkosti_settings_with(table, SIZE, 1, &settings), MYRKOSTI_DONE);
+    IS(myrkosti_line(table, SIZE, 1, true, true), MYRKOSTI_DONE);
+    IS(cause_of_first(), MYRKOSTI_IS_EXPIRED);
+    pass(30);
+    IS(cause_of_first(), MYRKOSTI_CARRIES_BY_DEFAULT);
+    hear(willing);
+    IS(cause_of_first(), MYRKOSTI_WAITS);
+    pass(20);
+    IS(cause_of_first(), MYRKOSTI_OUT_OF_SYNC);
+    hear(willing | MYRKOSTI_SYNCHRONIZATION);
+    IS(cause_of_first(), MYRKOSTI_PARTNER_NOT_COLLECTING);
+    hear(willing | MYRKOSTI_SYNCHRONIZATION | MYRKOSTI_COLLECTING);
+    IS(cause_of_first(), MYRKOSTI_CARRIES);
+    start();
+    IS(myrkosti_line(table, SIZE, 1, true, true), MYRKOSTI_DONE);
+    pass(30);
+    IS(cause_of_first(), MYRKOSTI_IS_DEFAULTED);
+    /* both ports wait for one aggregator, in memory that is put so: the second holds the first back */
+    hear(willing);
+    put_octet(MYRKOSTI_AT_WAIT_TIMER, 0);
+    table[place(PORTS, 2, MYRKOSTI_AT_MUX)] = MYRKOSTI_MUX_WAITING;
+    table[place(PORTS, 2, MYRKOSTI_AT_AGGREGATOR)] = 1;
+    table[place(PORTS, 2, MYRKOSTI_AT_WAIT_TIMER)] = 12;
+    IS(cause_of(1, &holder, &ticks), MYRKOSTI_HELD_BACK);
+    IS(holder, 2);
+    IS(ticks, 12);
+    IS(myrkosti_why(table, SIZE, 0, &cause, &holder, &ticks), MYRKOSTI_NO_SUCH_PORT);
+    IS(cause, MYRKOSTI_NO_CAUSE);
+    IS(holder, 0);
+    IS(ticks, 0);
+    for (uint32_t number = 0; number < 20; number++) {
+        IS(myrkosti_is_carrying(number), number == 1 || number == 2);
+    }
+    IS(MYRKOSTI_CARRIES, 1);
+    IS(MYRKOSTI_PARTNER_NOT_COLLECTING, 10);
+}
+
+static uint32_t reasons_of(uint32_t first, uint32_t second)
+{
+    uint32_t reasons = 0xffff;
+    IS(myrkosti_apart(table, SIZE, first, second, &reasons), MYRKOSTI_DONE);
+    return reasons;
+}
+
+/* octet `at` of the record of port 1 is changed by these bits: the reason that it makes, seen from port 1 and from port 2; then it is put back */
+static void reason(unsigned at, uint8_t bits, uint32_t from_first, uint32_t from_second)
+{
+    uint8_t *const octet = table + place(PORTS, 1, at);
+    *octet = (*octet ^ bits) & 0xff;
+    IS(reasons_of(1, 2), from_first);
+    IS(reasons_of(2, 1), from_second);
+    *octet = (*octet ^ bits) & 0xff;
+    IS(reasons_of(1, 2), 0);
+}
+
+/* each by the octet that makes it; two ports with one partner, which is aggregatable */
+static void reasons_by_octet(void)
+{
+    const struct myrkosti_system system = us();
+    struct myrkosti_port_settings settings = myrkosti_usual_settings(OTHER, 1);
+    uint32_t reasons = 99;
+    settings.partner[MYRKOSTI_BLOCK_STATE] = MYRKOSTI_AGGREGATION;
+    IS(myrkosti_start_with(table, SIZE, PORTS, &system, &settings), MYRKOSTI_DONE);
+    reason(MYRKOSTI_AT_ACTOR_STATE, MYRKOSTI_AGGREGATION, MYRKOSTI_FIRST_INDIVIDUAL, MYRKOSTI_SECOND_INDIVIDUAL);
+    reason(MYRKOSTI_AT_PARTNER + MYRKOSTI_BLOCK_STATE, MYRKOSTI_AGGREGATION, MYRKOSTI_FIRST_PARTNER_INDIVIDUAL, MYRKOSTI_SECOND_PARTNER_INDIVIDUAL);
+    reason(MYRKOSTI_AT_KEY, 0x80, MYRKOSTI_KEYS_DIFFER, MYRKOSTI_KEYS_DIFFER);
+    reason(MYRKOSTI_AT_PARTNER + MYRKOSTI_BLOCK_SYSTEM_PRIORITY, 0x80, MYRKOSTI_PARTNER_PRIORITIES_DIFFER, MYRKOSTI_PARTNER_PRIORITIES_DIFFER);
+    reason(MYRKOSTI_AT_PARTNER + MYRKOSTI_BLOCK_SYSTEM + 5, 0x01, MYRKOSTI_PARTNER_SYSTEMS_DIFFER, MYRKOSTI_PARTNER_SYSTEMS_DIFFER);
+    reason(MYRKOSTI_AT_PARTNER + MYRKOSTI_BLOCK_KEY + 1, 0x01, MYRKOSTI_PARTNER_KEYS_DIFFER, MYRKOSTI_PARTNER_KEYS_DIFFER);
+    reason(MYRKOSTI_AT_PARTNER + MYRKOSTI_BLOCK_PORT, 0xff, 0, 0);
+    memcpy(table + place(PORTS, 1, MYRKOSTI_AT_PARTNER), table + 1, 8);
+    IS(reasons_of(1, 2), MYRKOSTI_FIRST_LOOPED | MYRKOSTI_PARTNER_PRIORITIES_DIFFER | MYRKOSTI_PARTNER_SYSTEMS_DIFFER);
+    IS(reasons_of(2, 1), MYRKOSTI_SECOND_LOOPED | MYRKOSTI_PARTNER_PRIORITIES_DIFFER | MYRKOSTI_PARTNER_SYSTEMS_DIFFER);
+    IS(reasons_of(1, 1), 0);
+    IS(myrkosti_apart(table, SIZE, 1, PORTS + 1, &reasons), MYRKOSTI_NO_SUCH_PORT);
+    IS(reasons, 0);
+    IS(MYRKOSTI_FIRST_INDIVIDUAL, 1);
+    IS(MYRKOSTI_PARTNER_KEYS_DIFFER, 0x200);
+}
+
 /* ---- the old form ---- */
 
 /* there and back: a table that was just started has monitors that begin, so it is the same in every octet */
@@ -509,6 +619,8 @@ int main(void)
     churn_octets();
     marker_outcomes();
     marker_octets();
+    causes();
+    reasons_by_octet();
     moves();
     answers();
     counters_by_name();

@@ -3,14 +3,18 @@
 A tick of ours is a tenth of a second of the neighbour's clock, which stands still otherwise; so each run is the same, and the ticks at which
 something must happen are exact. Each part below starts from a trunk of both links and leaves one.
 
-Open vSwitch answers no Markers: those of ours are counted there and time out. So a second switch of ours is the neighbour that answers them.
+Open vSwitch answers no Markers: those of ours are counted there and time out. So a second switch of ours is the neighbour that answers them, and that leaves
+the trunk in ways which Open vSwitch does not have.
 
 Then new firmware is loaded under the trunk: a switch that began with a library of before has its table moved to that of today, and back.
+
+Each disturbance must be named: by the cause that the report of why gives for each port, at every tick, and by the reasons for which the two ports are apart.
+The sentences that the desk would be told are printed below each part, as they change.
 
 All that passed our ports meanwhile goes into a capture, and the counters of each port must be what tshark counts there.
 
 Last come switches with which these parts must fail: one that never sends, so that the neighbour must not come to use a link, and some that load new
-firmware in a way that the neighbour must notice; Responses that get lost; and a capture that misses frames.
+firmware in a way that the neighbour must notice; one that names a wrong cause; Responses that get lost; and a capture that misses frames.
 """
 
 import tempfile
@@ -18,8 +22,11 @@ from contextlib import contextmanager
 
 from capture import CAPTURES, Captured, by_name, hold_counters, left_out
 from neighbour import KEY, MEMBERS, SYSTEM, SYSTEM_PRIORITY, Neighbour
-from switch import (ALREADY_AWAITING, ANSWERED, AWAITING, CANCELLED, CHURN, CHURN_MONITOR, CURRENT, DEFAULTED, DONE, EXPIRED, LACP_OFF, NEVER_ASKED,
-                    NO_CHURN, NOBODY, NOT_DISTRIBUTING, RESPONSE, SLOW_ADDRESS, TIMED_OUT, Aggregator, Block, Checks, Settings, System, bit, run)
+from switch import (ALREADY_AWAITING, ANSWERED, AWAITING, CANCELLED, CARRIES, CARRIES_BY_DEFAULT, CHURN, CHURN_MONITOR, CURRENT, DEFAULTED, DONE,
+                    EXPIRED, FIRST_LOOPED, FIRST_PARTNER_INDIVIDUAL, HALF_DUPLEX, HELD_BACK, IS_DEFAULTED, IS_EXPIRED, LACP_OFF, LINK_DOWN, NEVER_ASKED,
+                    NO_CHURN, NOBODY, NOT_DISTRIBUTING, OUT_OF_SYNC, PARTNER_KEYS_DIFFER, PARTNER_PRIORITIES_DIFFER, PARTNER_SYSTEMS_DIFFER, RESPONSE,
+                    SECOND_INDIVIDUAL, SECOND_LOOPED, SECOND_PARTNER_INDIVIDUAL, SLOW_ADDRESS, TIMED_OUT, WAITS, Aggregator, Apart, Block, Checks, Settings,
+                    System, Why, bit, run)
 
 # Two ports of four; the other two have no cable.
 FIRST, SECOND, PORTS = 2, 4, 4
@@ -40,6 +47,17 @@ def other(port):
     return FIRST + SECOND - port
 
 
+def given_up(port):
+    """By what the ports are apart where the partner of this one was given up: its default block is nobody's, and not aggregatable."""
+    alone = FIRST_PARTNER_INDIVIDUAL if port == FIRST else SECOND_PARTNER_INDIVIDUAL
+    return alone | PARTNER_PRIORITIES_DIFFER | PARTNER_SYSTEMS_DIFFER | PARTNER_KEYS_DIFFER
+
+
+def is_another(partner, block):
+    """Whether a port that has one partner and hears of the other is selected anew (43.4.9)."""
+    return partner[:5] != block[:5] or partner.has("aggregation") != block.has("aggregation")
+
+
 class World:
     """Our switch, the neighbour, and the two cables between them."""
 
@@ -50,6 +68,8 @@ class World:
         self.heard, self.said = {}, {}  # the tick of the last frame that came to a port, and that it sent
         self.sent, self.came = dict.fromkeys(BOTH, 0), dict.fromkeys(BOTH, 0)
         self.deaf, self.lost = set(), set()  # ports whose frames from the neighbour, or to it, get lost
+        self.anew = {}  # the tick at which a port heard another partner than it had, and so was selected anew
+        self.told, self.news = {}, []  # the sentences that are true now, and those that became so, with their ticks
         switch.start(PORTS, OURS, SETTINGS)
         neighbour.start()
 
@@ -77,20 +97,36 @@ class World:
             self.neighbour.send(name, frame)
 
     def hear(self, port, frame):
-        """A frame of the neighbour's on its way: an LACPDU, which is taken unless the link is down."""
+        """A frame of the neighbour's on its way: an LACPDU, which is taken unless the link is down or the duplex half."""
         self.checks.equal("destination and subtype of a frame", (frame[:6], frame[14]), (SLOW_ADDRESS, 1))
         self.came[port] += 1
         if port in self.deaf:
             return
+        before = self.switch.port(port)
         answer, _ = self.switch.receive(port, frame)
-        self.checks.equal("answer to the neighbour's frame", answer, DONE if self.switch.port(port).link else LACP_OFF)
+        self.checks.equal("answer to the neighbour's frame", answer, DONE if before.link and before.duplex else LACP_OFF)
         if answer == DONE:
             self.heard[port] = self.now
+            if is_another(before.partner, Block.read(frame[18:33])):
+                self.anew[port] = self.now
+            self.listen()
 
     def settle(self):
-        """Frames go both ways until none is left."""
+        """Frames go both ways until none is left, and then what is new is noted."""
         while self.carry():
             pass
+        self.listen()
+
+    def listen(self):
+        """Notes what the reports say of the two links, where that is another sentence than before; ticks that run down make no other one."""
+        if not self.switch.is_todays:
+            self.told = {}
+            return
+        for place, said in enumerate((self.switch.why(FIRST), self.switch.why(SECOND), self.switch.apart(FIRST, SECOND))):
+            kind = said._replace(ticks=0) if isinstance(said, Why) else said
+            if self.told.get(place) != kind:
+                self.told[place] = kind
+                self.news.append((self.now, str(said)))
 
     def tick(self):
         """A tenth of a second passes at both ends."""
@@ -146,6 +182,41 @@ class World:
         """A check: the neighbour uses the links on which we say Synchronization, also where we do not say Collecting or do not name it."""
         said = {port for port in BOTH if self.switch.actor(port).has("synchronization")}
         self.equal("links that the neighbour uses", self.theirs(), said)
+
+    def names(self, *expected):
+        """A check: what the reports say of ports, where today's library is asked."""
+        for said in expected if self.switch.is_todays else ():
+            self.equal("said", self.switch.why(said.port) if isinstance(said, Why) else self.switch.apart(said.first, said.second), said)
+
+    def why_is(self, port, cause):
+        """A check: the cause of a port, one that stands for itself."""
+        return lambda: self.names(Why(port, cause))
+
+    def waits(self, port, until):
+        """A check: a port waits until that tick."""
+        return lambda: self.names(Why(port, WAITS, 0, until - self.now))
+
+    def apart_by(self, reasons):
+        """A check: why the ports of the two links are apart, or that they are not."""
+        return lambda: self.names(Apart(FIRST, SECOND, reasons))
+
+    def lags(self, port, up=0):
+        """A check: the neighbour does not hear us on this link, up since that tick or before. Where we hear it, it is not in sync with us; but it speaks
+        seldom then, is silent in between, and each time that it was given up the port waits anew."""
+        def check():
+            silent = self.heard[port] + SHORT if self.heard[port] >= up else up
+            waits = self.anew.get(port, -WAIT) + WAIT
+            if self.now >= silent + SHORT:
+                self.names(Why(port, IS_DEFAULTED), Apart(FIRST, SECOND, given_up(port)))
+            elif self.now >= silent:
+                self.names(Why(port, IS_EXPIRED), Apart(FIRST, SECOND, 0))
+            else:
+                self.names(Why(port, WAITS, 0, waits - self.now) if self.now < waits else Why(port, OUT_OF_SYNC), Apart(FIRST, SECOND, 0))
+        return check
+
+    def both_carry(self):
+        """A check: nothing is to be named. Both ports carry, in one group."""
+        self.names(Why(FIRST, CARRIES), Why(SECOND, CARRIES), Apart(FIRST, SECOND, 0))
 
     def carries(self, port):
         """A check: this link is in use at both ends, whatever the other does."""
@@ -219,8 +290,9 @@ def forms(world):
     for port in BOTH:
         world.switch.line(port, up=True, full=True)
     world.settle()
-    world.until(WAIT - 1, world.ours_is({}), world.theirs_is(set()))
-    world.until(WAIT, world.ours_is({FIRST: BOTH}), world.theirs_is(BOTH))
+    world.names(Why(1, LINK_DOWN), Why(3, LINK_DOWN))
+    world.until(WAIT - 1, world.ours_is({}), world.theirs_is(set()), world.waits(FIRST, WAIT), world.waits(SECOND, WAIT), world.apart_by(0))
+    world.until(WAIT, world.ours_is({FIRST: BOTH}), world.theirs_is(BOTH), world.both_carry)
     return comes_back(world)
 
 
@@ -233,7 +305,7 @@ def lasts(world, ticks=100, *what):
     """For ten seconds, or as long as is said, nothing changes, each end sends once a second, as the other's short Timeout asks, and the neighbour takes
     every frame."""
     before, each = tally(world), ticks // FAST
-    world.until(world.now + ticks, world.ours_is({FIRST: BOTH}), world.theirs_is(BOTH), *what)
+    world.until(world.now + ticks, world.ours_is({FIRST: BOTH}), world.theirs_is(BOTH), world.both_carry, *what)
     for (sent, came, taken, _), counted in zip(before, tally(world), strict=True):
         world.equal("frames sent, come, taken by the neighbour, found bad by it", counted, (sent + each, came + each, taken + each, 0))
     return comes_back(world)
@@ -271,8 +343,10 @@ def cut(world, port):
     world.switch.line(port, up=False, full=True)
     world.neighbour.up(name, False)
     world.settle()
-    world.ours_is({FIRST: {stays}})()
-    world.until(world.now + 2 * SHORT + SOON, world.ours_is({FIRST: {stays}}), world.theirs_is({stays}))
+    named = world.ours_is({FIRST: {stays}}), world.why_is(port, LINK_DOWN), world.why_is(stays, CARRIES), world.apart_by(0)
+    for check in named:
+        check()
+    world.until(world.now + 2 * SHORT + SOON, world.theirs_is({stays}), *named)
     world.switch.line(port, up=True, full=True)
     world.neighbour.up(name, True)
     return comes_back(world, world.carries(stays))
@@ -282,9 +356,10 @@ def silence_on_second(world):
     """The second link keeps its line, and nothing comes: EXPIRED, then DEFAULTED, and the first carries without a break."""
     world.deaf = {SECOND}
     last = world.heard[SECOND]
-    world.until(last + SHORT - 1, world.receives(SECOND, CURRENT), world.ours_is({FIRST: BOTH}))
-    world.until(last + 2 * SHORT - 1, world.receives(SECOND, EXPIRED), world.ours_is({FIRST: {FIRST}}), world.theirs_follows)
-    world.until(last + 2 * SHORT + SOON, world.receives(SECOND, DEFAULTED), world.ours_is({FIRST: {FIRST}}), world.theirs_follows)
+    alone = world.ours_is({FIRST: {FIRST}}), world.why_is(FIRST, CARRIES), world.theirs_follows
+    world.until(last + SHORT - 1, world.receives(SECOND, CURRENT), world.ours_is({FIRST: BOTH}), world.both_carry)
+    world.until(last + 2 * SHORT - 1, world.receives(SECOND, EXPIRED), world.why_is(SECOND, IS_EXPIRED), world.apart_by(0), *alone)
+    world.until(last + 2 * SHORT + SOON, world.receives(SECOND, DEFAULTED), world.why_is(SECOND, IS_DEFAULTED), world.apart_by(given_up(SECOND)), *alone)
     world.deaf = set()
     return comes_back(world)
 
@@ -293,10 +368,12 @@ def silence_on_first(world):
     """The same on the first link: when it is given up, the second moves to its own aggregator and waits (docs/GUIDE-STEWARD.md)."""
     world.deaf = {FIRST}
     last = world.heard[FIRST]
-    world.until(last + SHORT - 1, world.receives(FIRST, CURRENT), world.ours_is({FIRST: BOTH}))
-    world.until(last + 2 * SHORT - 1, world.receives(FIRST, EXPIRED), world.ours_is({FIRST: {SECOND}}))
-    world.until(last + 2 * SHORT + WAIT - 1, world.receives(FIRST, DEFAULTED), world.ours_is({}))
-    world.until(last + 2 * SHORT + WAIT + SOON, world.receives(FIRST, DEFAULTED), world.ours_is({SECOND: {SECOND}}), world.theirs_follows)
+    moves = last + 2 * SHORT
+    silent, gone = (world.receives(FIRST, EXPIRED), world.why_is(FIRST, IS_EXPIRED)), (world.receives(FIRST, DEFAULTED), world.why_is(FIRST, IS_DEFAULTED))
+    world.until(last + SHORT - 1, world.receives(FIRST, CURRENT), world.ours_is({FIRST: BOTH}), world.both_carry)
+    world.until(moves - 1, *silent, world.ours_is({FIRST: {SECOND}}), world.why_is(SECOND, CARRIES), world.apart_by(0))
+    world.until(moves + WAIT - 1, *gone, world.ours_is({}), world.waits(SECOND, moves + WAIT), world.apart_by(given_up(FIRST)))
+    world.until(moves + WAIT + SOON, *gone, world.ours_is({SECOND: {SECOND}}), world.why_is(SECOND, CARRIES), world.theirs_follows)
     world.deaf = set()
     return comes_back(world)
 
@@ -305,9 +382,11 @@ def unheard(world):
     """Nothing of ours reaches the neighbour on the second link: it expires and gives us up in the same times."""
     world.lost = {SECOND}
     last = world.said[SECOND]
-    world.until(last + SHORT - 1, world.status(SECOND, "current"), world.ours_is({FIRST: BOTH}))
-    world.until(last + 2 * SHORT - 1, world.status(SECOND, "expired"), world.ours_is({FIRST: BOTH}), world.theirs_is({FIRST}))
-    world.until(last + 2 * SHORT + SOON, world.status(SECOND, "defaulted"), world.ours_is({FIRST: {FIRST}}), world.theirs_is({FIRST}))
+    world.until(last + SHORT - 1, world.status(SECOND, "current"), world.ours_is({FIRST: BOTH}), world.both_carry)
+    world.until(last + 2 * SHORT - 1, world.status(SECOND, "expired"), world.ours_is({FIRST: BOTH}), world.theirs_is({FIRST}), world.both_carry)
+    alone = world.status(SECOND, "defaulted"), world.ours_is({FIRST: {FIRST}}), world.theirs_is({FIRST}), world.why_is(FIRST, CARRIES), world.lags(SECOND)
+    world.until(last + 2 * SHORT, world.why_is(SECOND, OUT_OF_SYNC), *alone)
+    world.until(last + 2 * SHORT + SOON, *alone)
     world.lost = set()
     return comes_back(world)
 
@@ -316,17 +395,17 @@ def never_hears(world):
     """The neighbour gives us up on the second link and never hears us again: a minute later the partner's monitor churns, and once. The link falls,
     which ends that and holds the minute; it comes up, still unheard, and a minute later the monitor churns once more."""
     name, counted = world.cables[SECOND], world.switch.port(SECOND).partner_churn_count
-    alone = world.ours_is({FIRST: {FIRST}})
+    alone = world.ours_is({FIRST: {FIRST}}), world.why_is(FIRST, CARRIES)
     world.lost = {SECOND}
     since = world.said[SECOND] + 2 * SHORT
-    world.until(since - 1, world.ours_is({FIRST: BOTH}))
-    world.until(since + MINUTE + SOON, world.monitors(SECOND, since, counted), alone)
+    world.until(since - 1, world.ours_is({FIRST: BOTH}), world.both_carry)
+    world.until(since + MINUTE + SOON, world.monitors(SECOND, since, counted), world.lags(SECOND), *alone)
     world.switch.line(SECOND, up=False, full=True)
     world.neighbour.up(name, False)
-    world.until(world.now + SOON, world.monitors(SECOND, world.now, counted + 1), alone)
+    world.until(world.now + SOON, world.monitors(SECOND, world.now, counted + 1), world.why_is(SECOND, LINK_DOWN), *alone)
     world.switch.line(SECOND, up=True, full=True)
     world.neighbour.up(name, True)
-    world.until(world.now + MINUTE + SOON, world.monitors(SECOND, world.now, counted + 1), alone)
+    world.until(world.now + MINUTE + SOON, world.monitors(SECOND, world.now, counted + 1), world.lags(SECOND, world.now), *alone)
     world.lost = set()
     ticks = comes_back(world)
     world.equal("what was counted", world.switch.port(SECOND).partner_churn_count, counted + 2)
@@ -345,9 +424,9 @@ def long_timeout(world):
     world.equal("pace of the neighbour", came[2] - came[1], SLOW)
     world.deaf = {SECOND}
     last = world.heard[SECOND]
-    world.until(last + LONG - 1, world.receives(SECOND, CURRENT), world.ours_is({FIRST: BOTH}))
-    world.until(last + LONG + SHORT - 1, world.receives(SECOND, EXPIRED), world.ours_is({FIRST: {FIRST}}))
-    world.until(last + LONG + SHORT + 1, world.receives(SECOND, DEFAULTED), world.ours_is({FIRST: {FIRST}}))
+    world.until(last + LONG - 1, world.receives(SECOND, CURRENT), world.ours_is({FIRST: BOTH}), world.both_carry)
+    world.until(last + LONG + SHORT - 1, world.receives(SECOND, EXPIRED), world.ours_is({FIRST: {FIRST}}), world.why_is(SECOND, IS_EXPIRED))
+    world.until(last + LONG + SHORT + 1, world.receives(SECOND, DEFAULTED), world.ours_is({FIRST: {FIRST}}), world.why_is(SECOND, IS_DEFAULTED))
     world.deaf = set()
     world.switch.set(SECOND, SETTINGS)
     return comes_back(world)
@@ -365,8 +444,54 @@ def passive(world):
 
 
 def swapped(world):
-    """The two cables change places, without a line going down."""
+    """The two cables change places, without a line going down: each port hears another partner and waits, once it has heard it."""
+    begin = world.now
     world.cables = {port: world.cables[other(port)] for port in world.cables}
+
+    def named():
+        for port in BOTH:
+            ready = world.anew[port] + WAIT if world.anew[port] > begin else world.now
+            world.names(Why(port, WAITS, 0, ready - world.now) if world.now < ready else Why(port, CARRIES), Apart(FIRST, SECOND, 0))
+    return comes_back(world, named)
+
+
+def one_after_the_other(world):
+    """Both links are silent until they are given up. Then the first is heard, and after it the second: the first waits for it."""
+    world.deaf = BOTH
+    world.until(max(world.heard.values()) + 2 * SHORT, lambda: ages(world))
+    world.deaf, begin = {SECOND}, world.now
+    while world.heard[FIRST] <= begin and world.now < begin + FAST:
+        world.tick()
+    world.until(world.now + 1)
+    world.deaf = set()
+    while world.heard[SECOND] <= begin and world.now < begin + 2 * FAST:
+        world.until(world.now + 1, world.waits(FIRST, world.anew[FIRST] + WAIT))
+    first, second = world.anew[FIRST] + WAIT, world.anew[SECOND] + WAIT
+    world.equal("ticks from one to the other", second - first, FAST)
+    world.until(first - 1, world.waits(FIRST, first), world.waits(SECOND, second), world.apart_by(0))
+    world.until(second - 1, lambda: world.names(Why(FIRST, HELD_BACK, SECOND, second - world.now)), world.waits(SECOND, second), world.ours_is({}))
+    world.until(second, world.both_carry)
+    return comes_back(world)
+
+
+def stays_alone(world):
+    """Our second port is set to stay alone: it waits, and then both links carry and are no trunk."""
+    world.switch.set(SECOND, SETTINGS._replace(aggregation=False))
+    world.settle()
+    ready, apart = world.now + WAIT, (world.why_is(FIRST, CARRIES), world.apart_by(SECOND_INDIVIDUAL))
+    world.until(ready - 1, world.ours_is({FIRST: {FIRST}}), world.waits(SECOND, ready), *apart)
+    world.until(ready + SOON, world.ours_is({FIRST: {FIRST}, SECOND: {SECOND}}), world.theirs_is(BOTH), world.why_is(SECOND, CARRIES), *apart)
+    world.switch.set(SECOND, SETTINGS)
+    return comes_back(world)
+
+
+def half_duplex(world):
+    """Our second port falls back to half duplex: LACP is off there, and what the neighbour says is not heard."""
+    world.switch.line(SECOND, up=True, full=False)
+    world.settle()
+    named = world.why_is(SECOND, HALF_DUPLEX), world.why_is(FIRST, CARRIES), world.apart_by(given_up(SECOND))
+    world.until(world.now + 2 * SHORT + SOON, world.ours_is({FIRST: {FIRST}}), *named)
+    world.switch.line(SECOND, up=True, full=True)
     return comes_back(world)
 
 
@@ -379,10 +504,12 @@ def crash(world):
 
 
 def ages(world):
-    """A check: each port's receive state is that of its silence, and it distributes while that is CURRENT."""
+    """A check: each port's receive state is that of its silence, and so is its cause; it distributes while that is CURRENT."""
     for port in BOTH:
         silent = world.now - world.heard[port]
-        world.receives(port, CURRENT if silent < SHORT else EXPIRED if silent < 2 * SHORT else DEFAULTED)()
+        state, cause = (CURRENT, CARRIES) if silent < SHORT else (EXPIRED, IS_EXPIRED) if silent < 2 * SHORT else (DEFAULTED, IS_DEFAULTED)
+        world.receives(port, state)()
+        world.names(Why(port, cause))
     world.ours_is({FIRST: world.young()} if world.young() else {})()
 
 
@@ -401,6 +528,7 @@ def unanswered(world):
     world.switch.line(SECOND, up=False, full=True)
     world.neighbour.up(second, False)
     world.settle()
+    world.names(Why(FIRST, CARRIES), Why(SECOND, LINK_DOWN))
     world.equal("outcome of a link that fell", world.switch.port(SECOND)[-3:], (CANCELLED, 0, world.switch.port(FIRST).marker_number))
     world.equal("answer to an ask without a link", world.switch.ask(SECOND, 1), (NOT_DISTRIBUTING, b""))
     world.until(world.now + FAST, checks[0])
@@ -414,10 +542,14 @@ def unanswered(world):
 
 
 def quick_crash(world):
-    """The neighbour crashes and starts again before we can miss it."""
+    """The neighbour crashes and starts again before we can miss it: what it says first does not name us, so it is not in sync with us."""
     world.neighbour.crash()
     world.neighbour.begin()
-    return comes_back(world)
+    ticks = comes_back(world)
+    for port in BOTH:
+        said = [said for _, said in world.news if said.startswith(f"Port {port} ")]
+        world.equal("what was said", said, [str(Why(port, OUT_OF_SYNC)), str(Why(port, CARRIES))])
+    return ticks
 
 
 PARTS = (
@@ -432,6 +564,9 @@ PARTS = (
     ("the second port has the long Timeout", long_timeout),
     ("our ports are passive", passive),
     ("the cables are swapped", swapped),
+    ("both links are silent, and heard again one after the other", one_after_the_other),
+    ("our second port stays alone", stays_alone),
+    ("our second port is at half duplex", half_duplex),
     ("the neighbour crashes for a while", crash),
     ("the neighbour crashes and is back at once", quick_crash),
     ("the neighbour answers no Markers", unanswered),
@@ -452,9 +587,11 @@ def all_parts(world, parts):
     """These parts, one after the other."""
     print(f"before any frame: negotiated {world.neighbour.negotiated()}, in use {world.theirs() or 'nothing'}")
     for name, part in parts:
-        failed = world.checks.failed
+        failed, begin, world.news = world.checks.failed, world.now, []
         ticks = part(world)
         print(f"{name}: {'right' if world.checks.failed == failed else 'WRONG'}; ticks from its end to a trunk of both links: {ticks}", flush=True)
+        for tick, said in world.news:
+            print(f"  {tick - begin}: {said}")
 
 
 @contextmanager
@@ -469,11 +606,12 @@ def never_answers(command):
     checks = Checks(quiet=True)
     with between([*command, "--mute"], checks) as world:
         forms(world)
-        for line in missing(world):
+        causes = [world.switch.why(port) for port in (FIRST, SECOND)]
+        for line in (*causes, *missing(world)):
             print(f"  a switch that never sends: {line}")
         in_use = []
         world.until(world.now + 100, lambda: in_use.append(world.theirs() or world.trunks()))
-        return checks.failed > 0 and not any(in_use)
+        return checks.failed > 0 and not any(in_use) and causes == [Why(FIRST, OUT_OF_SYNC), Why(SECOND, OUT_OF_SYNC)]
 
 
 def starts_anew(world):
@@ -492,6 +630,20 @@ def is_noticed(command, change, pause):
         stays = changed(world, lambda: change(world), pause)
         world.until(world.now + SHORT, stays)
         return stood and checks.failed > 0
+
+
+def names_wrongly(command):
+    """Whether each of some parts finds it out if, after a trunk stood, a switch says of every port that does not carry that it waits, and of no two ports that
+    they are apart."""
+    checks, found = Checks(quiet=True), []
+    with between([*command, "--blind"], checks) as world:
+        forms(world)
+        stood = not any(missing(world))
+        for part in (lambda world: cut(world, SECOND), silence_on_second, unheard, stays_alone, half_duplex):
+            failed = checks.failed
+            part(world)
+            found.append(checks.failed > failed)
+    return stood and all(found)
 
 
 def counters_hold(checks, switch):
@@ -518,6 +670,7 @@ class Pair:
     def __init__(self, ours, theirs, checks):
         self.ours, self.theirs, self.checks, self.now = ours, theirs, checks, 0
         self.held = None  # Responses to us that wait, where they are held back
+        self.deaf, self.back = set(), {}  # ports of ours to which nothing comes; ports of ours that are joined to each other
         ours.start(PORTS, OURS, SETTINGS)
         theirs.start(PORTS, OURS._replace(address=SYSTEM), SETTINGS._replace(key=KEY))
         for switch in (ours, theirs):
@@ -540,7 +693,10 @@ class Pair:
             for one, other, port in due:
                 answer, frame = one.fetch(port)
                 self.checks.equal("answer to a fetch of what is due", answer, DONE)
-                self.checks.equal("answer to an LACPDU", self.deliver(other, port, frame), DONE)
+                if port in self.back:
+                    self.checks.equal("answer to an LACPDU of our own", self.deliver(self.ours, self.back[port], frame), DONE)
+                elif other is self.theirs or port not in self.deaf:
+                    self.checks.equal("answer to an LACPDU", self.deliver(other, port, frame), DONE)
 
     def ticks(self, count):
         """Time passes at both ends."""
@@ -565,6 +721,13 @@ class Pair:
     def equal(self, what, found, expected):
         """A check that names the tick."""
         self.checks.equal(f"tick {self.now} of two of ours: {what}", found, expected)
+
+    def says(self, *expected):
+        """A check: what the reports say of ports of ours, which is printed."""
+        for said in expected:
+            found = self.ours.why(said.port) if isinstance(said, Why) else self.ours.apart(said.first, said.second)
+            self.equal("said", found, said)
+            print(f"  {self.now}: {found}")
 
     def outcome_is(self, port, *expected):
         """A check: outcome, timer and next number of a port of ours."""
@@ -595,6 +758,47 @@ def answered_in_time(pair):
     pair.equal("ports that distribute", pair.ours.aggregator(FIRST).distributing, BOTH)
 
 
+def looks_the_same(pair):
+    """Three ways in which the second link leaves the trunk and goes on carrying, as far as one can see from outside: the other end's key is another one; the
+    other end's port stays alone; and nothing comes from it, and ours carries on its settings. Each has its sentence."""
+    theirs, ours = SETTINGS._replace(key=KEY), SETTINGS._replace(partner=NOBODY._replace(state=bit("timeout") | bit("synchronization") | bit("collecting")))
+    for settings, reasons in ((theirs._replace(key=KEY + 1), PARTNER_KEYS_DIFFER), (theirs._replace(aggregation=False), SECOND_PARTNER_INDIVIDUAL)):
+        pair.theirs.set(SECOND, settings)
+        pair.settle()
+        pair.says(Why(SECOND, WAITS, 0, WAIT), Apart(FIRST, SECOND, reasons))
+        pair.ticks(SOON)
+        pair.says(Why(FIRST, CARRIES), Why(SECOND, CARRIES), Apart(FIRST, SECOND, reasons))
+        pair.theirs.set(SECOND, theirs)
+        pair.settle()
+        pair.ticks(SOON)
+        pair.says(Why(FIRST, CARRIES), Why(SECOND, CARRIES), Apart(FIRST, SECOND, 0))
+    pair.ours.set(SECOND, ours)
+    pair.settle()
+    pair.says(Why(SECOND, CARRIES), Apart(FIRST, SECOND, 0))  # a default block moves nobody whose partner is heard
+    pair.deaf = {SECOND}
+    pair.ticks(2 * SHORT - FAST)
+    pair.says(Why(SECOND, IS_EXPIRED), Apart(FIRST, SECOND, 0))
+    pair.ticks(FAST + WAIT)
+    pair.says(Why(FIRST, CARRIES), Why(SECOND, CARRIES_BY_DEFAULT), Apart(FIRST, SECOND, given_up(SECOND)))
+    pair.deaf = set()
+    pair.ours.set(SECOND, SETTINGS)
+    pair.ticks(SOON)
+    pair.says(Why(FIRST, CARRIES), Why(SECOND, CARRIES), Apart(FIRST, SECOND, 0))
+
+
+def leads_back(pair):
+    """A cable between ports 1 and 3 of ours: both are told so, and neither carries with the other."""
+    pair.back = {1: 3, 3: 1}
+    for port in pair.back:
+        pair.ours.line(port, up=True, full=True)
+    pair.settle()
+    looped = Apart(1, 3, FIRST_LOOPED | SECOND_LOOPED)
+    pair.says(Why(1, WAITS, 0, WAIT), Why(3, WAITS, 0, WAIT), looped)
+    pair.ticks(SOON)
+    pair.says(Why(1, CARRIES), Why(3, CARRIES), looped)
+    pair.says(Apart(1, FIRST, FIRST_LOOPED | PARTNER_SYSTEMS_DIFFER | PARTNER_KEYS_DIFFER), Apart(FIRST, SECOND, 0))
+
+
 @contextmanager
 def both_ours(command, checks):
     """Two switches of ours that are new."""
@@ -619,6 +823,7 @@ WRONG = (
     ("a switch that never sends", never_answers),
     ("new firmware that starts its table anew", lambda command: is_noticed(command, starts_anew, 0)),
     ("new firmware that takes three seconds", lambda command: is_noticed(command, lambda world: world.switch.forward(), SHORT)),
+    ("a switch that names wrong causes", names_wrongly),
     ("a capture that misses frames", misses_frames),
     ("Responses that get lost", loses_responses),
 )
@@ -642,9 +847,11 @@ def peers(command):
     failed = checks.failed
     with both_ours(command, checks) as pair:
         answered_in_time(pair)
+        looks_the_same(pair)
+        leads_back(pair)
         for switch in (pair.ours, pair.theirs):
             show_counted(counters_hold(checks, switch))
-    print(f"two switches of ours, one of which answers the other's Markers: {'right' if checks.failed == failed else 'WRONG'}")
+    print(f"two switches of ours, of which one answers the other's Markers and leaves its trunk: {'right' if checks.failed == failed else 'WRONG'}")
     missed = [name for name, found in WRONG if not found(command)]
     print(f"peers: {checks.passed} checks passed, {checks.failed} failed;",
           f"NOT found out: {', '.join(missed)}" if missed else f"found out: {', '.join(name for name, _ in WRONG)}")

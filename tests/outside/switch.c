@@ -12,12 +12,15 @@
  *   ask PORT TICKS                    answer, Marker; by today's library alone
  *   port PORT                         answer, record
  *   aggregator NUMBER                 answer, holding, attached, distributing, count, lowest
+ *   why PORT                          answer, cause, holder, ticks; by today's library alone
+ *   apart FIRST SECOND                answer, reasons; by today's library alone
  *   counters PORT                     0, the seven counters of struct myrkosti_counters, from zeros at the start on
  *   forward, back                     the table goes to today's library, or to the one of before, which makes the calls from then on
  *
  * With the argument --mute it never sends: nothing is due, a fetch and an ask find nothing, and a Marker gets no Response. With --yesterday it begins with
  * the library of yesterday, which counts nothing and whose records have zeros where today's have churn fields; with --lately with that of lately. Both have
- * zeros where today's tell of Markers of their own. A line that it cannot read ends it.
+ * zeros where today's tell of Markers of their own. With --blind it says of every port that does not carry that it waits, and of no two that they are apart.
+ * A line that it cannot read ends it.
  */
 #include "myrkosti.h"
 
@@ -33,7 +36,7 @@ static const struct library *library = &TODAY, *before = &YESTERDAY; /* the one 
 static uint8_t table[MYRKOSTI_TABLE(MYRKOSTI_PORTS)];
 static size_t size;
 static struct myrkosti_counters counters[MYRKOSTI_PORTS + 1]; /* of each port; the first is lent where the number is of none */
-static bool mute;
+static bool mute, blind;
 
 struct settings {
     uint8_t address[6], partner[MYRKOSTI_BLOCK];
@@ -200,6 +203,22 @@ static void do_aggregator(void)
            (unsigned)lowest);
 }
 
+static void do_why(void)
+{
+    uint32_t cause, holder, ticks;
+    const uint32_t answer = myrkosti_why(table, size, number(UINT32_MAX), &cause, &holder, &ticks);
+    if (blind && !myrkosti_is_carrying(cause))
+        cause = MYRKOSTI_WAITS;
+    printf("%u %u %u %u\n", (unsigned)answer, (unsigned)cause, (unsigned)holder, (unsigned)ticks);
+}
+
+static void do_apart(void)
+{
+    uint32_t reasons;
+    const uint32_t first = number(UINT32_MAX), answer = myrkosti_apart(table, size, first, number(UINT32_MAX), &reasons);
+    printf("%u %u\n", (unsigned)answer, blind ? 0 : (unsigned)reasons);
+}
+
 static void do_counters(void)
 {
     const struct myrkosti_counters *c = counters_of(number(UINT32_MAX));
@@ -237,7 +256,7 @@ static const struct {
 } COMMANDS[] = {
     {"start", do_start}, {"settings", do_settings}, {"line", do_line}, {"tick", do_tick},
     {"receive", do_receive}, {"due", do_due}, {"fetch", do_fetch}, {"ask", do_ask}, {"port", do_port}, {"aggregator", do_aggregator},
-    {"counters", do_counters}, {"forward", do_forward}, {"back", do_back},
+    {"why", do_why}, {"apart", do_apart}, {"counters", do_counters}, {"forward", do_forward}, {"back", do_back},
 };
 
 static void obey(char *line)
@@ -255,6 +274,7 @@ int main(int count, char **arguments)
 {
     static char line[LINE];
     mute = count == 2 && strcmp(arguments[1], "--mute") == 0;
+    blind = count == 2 && strcmp(arguments[1], "--blind") == 0;
     if (count == 2 && strcmp(arguments[1], "--lately") == 0)
         before = &LATELY;
     if (count == 2 && (before == &LATELY || strcmp(arguments[1], "--yesterday") == 0))

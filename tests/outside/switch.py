@@ -19,6 +19,12 @@ DETACHED, WAITING, ATTACHED, COLLECTING, DISTRIBUTING = range(5)
 NO_CHURN, CHURN_MONITOR, CHURN = range(3)
 # What comes of a Marker of ours.
 NEVER_ASKED, AWAITING, ANSWERED, TIMED_OUT, CANCELLED = range(5)
+# Causes.
+(NO_CAUSE, CARRIES, CARRIES_BY_DEFAULT, LINK_DOWN, HALF_DUPLEX, IS_DEFAULTED, IS_EXPIRED, WAITS, HELD_BACK, OUT_OF_SYNC,
+ PARTNER_NOT_COLLECTING) = range(11)
+# Reasons, each a bit.
+(FIRST_INDIVIDUAL, FIRST_PARTNER_INDIVIDUAL, FIRST_LOOPED, SECOND_INDIVIDUAL, SECOND_PARTNER_INDIVIDUAL, SECOND_LOOPED, KEYS_DIFFER,
+ PARTNER_PRIORITIES_DIFFER, PARTNER_SYSTEMS_DIFFER, PARTNER_KEYS_DIFFER) = (1 << n for n in range(10))
 # The bits of a state octet, from bit 0.
 BITS = ("activity", "timeout", "aggregation", "synchronization", "collecting", "distributing", "defaulted", "expired")
 
@@ -141,6 +147,41 @@ class Counters(NamedTuple):
     marker_responses_sent: int
 
 
+# Each cause as a sentence goes on, and each reason, as the desk is told.
+SAID = ("does not carry, and nothing says why", "carries", "carries on its settings alone: no partner is heard to agree",
+        "does not carry: its link is down", "does not carry: its link is at half duplex, so LACP is off", "does not carry: no partner is heard on it",
+        "does not carry: its partner is silent", "waits, {ticks} more", "waits for port {holder}, {ticks} more",
+        "does not carry: its partner is not in sync with it", "does not carry: its partner is in sync, but does not collect")
+REASONS = ("port {first} is set to stay alone", "the partner of port {first} stays alone", "the partner of port {first} is this switch itself",
+           "port {second} is set to stay alone", "the partner of port {second} stays alone", "the partner of port {second} is this switch itself",
+           "their own keys differ", "the system priorities of their partners differ", "the system addresses of their partners differ",
+           "the keys of their partners differ")
+
+
+class Why(NamedTuple):
+    """Why a port carries or does not."""
+    port: int
+    cause: int
+    holder: int = 0
+    ticks: int = 0
+
+    def __str__(self):
+        ticks = f"{self.ticks} tick{'s' * (self.ticks != 1)}"
+        return f"Port {self.port} {SAID[self.cause].format(holder=self.holder, ticks=ticks)}."
+
+
+class Apart(NamedTuple):
+    """Why two ports are apart, or that they are not."""
+    first: int
+    second: int
+    reasons: int
+
+    def __str__(self):
+        said = [words.format(first=self.first, second=self.second) for n, words in enumerate(REASONS) if self.reasons >> n & 1]
+        told = f"are apart: {', '.join(said[:-1])}{', and ' * (len(said) > 1)}{said[-1]}" if said else "share a group"
+        return f"Ports {self.first} and {self.second} {told}."
+
+
 def members(number):
     """The ports of a 32-bit set, bit 0 is port 1."""
     return {port for port in range(1, 33) if number >> (port - 1) & 1}
@@ -152,6 +193,7 @@ class Switch:
     def __init__(self, command):
         self.process = subprocess.Popen(command, stdin=subprocess.PIPE, stdout=subprocess.PIPE, encoding="ascii", bufsize=1)
         self.system, self.ports = None, range(0)
+        self.is_todays = not {"--yesterday", "--lately"} & set(command)  # whether today's library makes the calls
 
     def __enter__(self):
         return self
@@ -229,6 +271,14 @@ class Switch:
         holding, attached, distributing, count, lowest = map(int, self.done("aggregator", number))
         return Aggregator(members(holding), members(attached), members(distributing), count, lowest)
 
+    def why(self, port):
+        """Why a port carries or does not, by today's library."""
+        return Why(port, *map(int, self.done("why", port)))
+
+    def apart(self, first, second):
+        """Why two ports are apart, or that they are not, by today's library."""
+        return Apart(first, second, int(self.done("apart", first, second)[0]))
+
     def counters(self, port):
         """The counters of a port, since the start."""
         return Counters(*map(int, self.done("counters", port)))
@@ -236,10 +286,12 @@ class Switch:
     def forward(self):
         """Gives the table from the library of before to that of today, which goes on with it."""
         self.done("forward")
+        self.is_todays = True
 
     def back(self):
         """Gives it back, and the library of before goes on."""
         self.done("back")
+        self.is_todays = False
 
 
 class Checks:

@@ -136,7 +136,8 @@ def text_of(file):
 def texts():
     """Octets of the archive's code and constants, and of what a program takes of them that reads no report."""
     exported = [line.split()[-1] for line in run(f"{CROSS}nm", "-g", "--defined-only", ARCHIVE).splitlines() if " T " in line]
-    silent = [function for function in exported if function not in ("myrkosti_port", "myrkosti_aggregator")]
+    reports = ("myrkosti_port", "myrkosti_aggregator", "myrkosti_why", "myrkosti_apart")
+    silent = [function for function in exported if function not in reports]
     return {"all": text_of(ARCHIVE), "linked": taken(exported), "without reports": taken(silent)}
 
 

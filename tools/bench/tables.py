@@ -4,7 +4,7 @@ from textwrap import fill
 
 PORTS = [1, 2, 4, 8, 16, 32]
 CALLS = ["receive, repeated", "receive, moves all", "receive, Response", "tick", "tick, all waiting", "tick, all apart", "fetch", "fetch, nothing due",
-         "ask", "due", "port report", "aggregator report", "line, link falls", "line, duplex halves", "settings, new key", "start"]
+         "ask", "due", "port report", "aggregator report", "why", "apart", "line, link falls", "line, duplex halves", "settings, new key", "start"]
 GROWTH = ["receive, repeated", "receive, moves all", "tick", "tick, all apart", "fetch", "due", "port report", "aggregator report"]
 WHERE = ["tick", "tick, all apart", "receive, repeated", "receive, moves all", "aggregator report", "start"]
 # What a call may take at most, in instructions on this machine: what is said of it, the call, ports, and how many.

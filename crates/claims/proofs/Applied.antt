@@ -14,6 +14,7 @@ use Rattle.port.specs.Range.{ownFits}
 use Rattle.port.specs.Compared.{compared}
 use Rattle.table.specs.Range.{headerFits}
 use Rattle.table.specs.Table.{countIn, ports, portAt, ours}
+use Rattle.table.proofs.TableLaws.{in-range}
 use Rattle.trunk.specs.Selection.{sharesGroup}
 use Rattle.control.specs.Call.{Call, receive, tick, line, configure}
 use Rattle.control.specs.After.{answer, after}
@@ -31,7 +32,10 @@ use Rattle.claims.proofs.LivePartner.{live-partner}
 use Rattle.claims.proofs.Carries.{waiting-for-someone, register-adds-up}
 use Rattle.claims.proofs.Moves.{one-aggregator, moved-forgets}
 use Rattle.claims.proofs.Unseen.{no-move-unseen}
-use Rattle.claims.proofs.Thinner.{thinner-for-a-reason}
+use Rattle.claims.proofs.Told.{beside-true}
+use Rattle.claims.proofs.Thinner.{thinner-for-a-reason, thinner-told}
+use Rattle.claims.proofs.Causes.{causes}
+use Rattle.claims.specs.Causes.{heldUp}
 use Rattle.claims.proofs.Spoke.{lacpdu-is, partner-spoke}
 use Rattle.claims.proofs.Witness.{isOctet, octets, received-takes, ticks-take, witness}
 
@@ -103,6 +107,12 @@ unfolding twoLags every
 lags-made =
     made-run trunk (witness .made) _
     (received-takes 1 1 0x3F refl, (received-takes 1 2 0x3F refl, (received-takes 2 3 0x3F refl, ticks-take 10 [] tt)))
+
+held-made : Made heldUp
+unfolding heldUp every
+held-made =
+    made-run begun begun-made _
+    (tt, (tt, (received-takes 1 1 0x3F refl, ticks-take 10 (hears 1 2 0x3F ∷ ticks 10 []) (received-takes 1 2 0x3F refl, ticks-take 10 [] tt))))
 
 since-takes : AllTake since
 unfolding every headerFits ownFits blockFits
@@ -178,5 +188,9 @@ applied =
       thinner-by-one =
           thinner-for-a-reason trunk made (hears 1 2 0x0F) (received-takes 1 2 0x0F refl) 1 (trunk-count 1 (omega arith))
           (ap (λ (l : List Bool). getD l 1 false) (witness .carrying-trunk)) (ap (λ (l : List Bool). getD l 1 true) (witness .thinner-by-one));
+      thinned =
+          thinner-told trunk made (hears 1 2 0x0F) (received-takes 1 2 0x0F refl) 1 (trunk-count 1 (omega arith))
+          (ap (λ (l : List Bool). getD l 1 false) (witness .carrying-trunk)) (ap (λ (l : List Bool). getD l 1 true) (witness .thinner-by-one));
+      behind = beside-true heldUp held-made 0 (in-range heldUp (never-stuck heldUp held-made .ranged) .least) .held (causes .held-cause);
       spoke = partner-spoke trunk made 0 (trunk-count 0 (omega arith)) (ap (λ (l : List Bool). getD l 0 true) (witness .spoken));
     }

@@ -15,7 +15,6 @@ use Rattle.octets.proofs.RangeLaws.{within-true, within-is}
 use Rattle.frame.specs.State.{weighed}
 use Rattle.machine.specs.declared.states.Mux.{Mux}
 use Rattle.machine.specs.declared.states.Mux.the-variants.{Detached, Waiting, Attached, Collecting, Distributing}
-use Rattle.machine.specs.declared.states.Selection.{Selection}
 use Rattle.machine.specs.declared.states.Selection.the-variants.{Selected}
 use Rattle.machine.specs.declared.mux.MuxStep.{MuxStep}
 use Rattle.machine.specs.declared.mux.MuxStep.the-variants.{Stay, Enter}
@@ -32,13 +31,12 @@ use Rattle.trunk.specs.Ready.{waitsFor, hasWaiting, holdsBack, heldBack, ready}
 use Rattle.trunk.specs.Settled.{Chosen}
 use Rattle.trunk.proofs.EachLaws.{Fits}
 use Rattle.trunk.proofs.ReadyLaws.{some-waits, waits-own}
-use Rattle.control.specs.declared.answer.Answer.the-variants.{Done}
 use Rattle.control.specs.Call.{aggregator}
 use Rattle.control.specs.After.{answer}
 use Rattle.control.specs.Report.{aggregatorReport}
 use Rattle.claims.specs.AtRest.{Sound}
 use Rattle.claims.specs.Reports.{sendsOn, SetsTrue}
-use Rattle.claims.specs.Carries.{DistributingGiven, HeldBy, WaitingForSomeone, countsTo, carries, Register, RegisterAddsUp}
+use Rattle.claims.specs.Carries.{DistributingGiven, WaitingForSomeone, countsTo, carries, Register, RegisterAddsUp}
 use Rattle.claims.proofs.Sound.{in-ports, port-fits, table-fits}
 use Rattle.claims.proofs.Calls.{never-stuck}
 use Rattle.claims.proofs.Rule.{port-firm}
@@ -46,7 +44,7 @@ use Rattle.claims.proofs.Reports.{aggregator-true}
 
 -- ---- distributing is given
 
-entered : {A : Type 0} {m : Mux} → Enter m ≡ Stay → A
+pub entered : {A : Type 0} {m : Mux} → Enter m ≡ Stay → A
 entered e = absurd (true≢false (ap moves e))
   where
     moves : MuxStep → Bool
@@ -95,13 +93,18 @@ held-if k ps w r = by (heldBack k ps) (ap (λ (x : Bool). x && not (heldBack k p
     by true e = refl
     by false e = absurd (true≢false e)
 
-pub waiting-for-someone : WaitingForSomeone
-waiting-for-someone t m i h w =
-    let s = never-stuck t m in
+-- so its aggregator is held back
+pub sound-waits : (t : List ℕ) → Sound t → (i : ℕ) → i < countIn t → waits (portAt t i .phase .mux) ≡ true → heldBack (portAt t i .aggregator) (ports t) ≡ true
+sound-waits t s i h w =
     let p = portAt t i in
     let k = p .aggregator in
     let itself : waitsFor k (getD (ports t) i (decoded [])) ≡ true = ap (waitsFor k) (ports-at t i (decoded []) h) ∙ waits-own p w in
-    let x = holder k (ports t) (held-if k (ports t) (some-waits k (ports t) i (decoded []) (in-ports t s i h) itself) (port-firm t s i h .unready w)) in
+    held-if k (ports t) (some-waits k (ports t) i (decoded []) (in-ports t s i h) itself) (port-firm t s i h .unready w)
+
+pub waiting-for-someone : WaitingForSomeone
+waiting-for-someone t m i h w =
+    let k = portAt t i .aggregator in
+    let x = holder k (ports t) (sound-waits t (never-stuck t m) i h w) in
     let there : x .index < countIn t = rw ports-length at (x .inside) in
     record { port = x .index; there = there; holds = ap (holdsBack k) (sym (ports-at t (x .index) (decoded []) there)) ∙ x .holds (decoded []) }
 

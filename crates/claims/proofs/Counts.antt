@@ -3,38 +3,25 @@
 use Prim.Native.Nat.{ℕ, _-_}
 use mathlib.Core.Path.{_≡_, refl, sym, ap, _∙_}
 use mathlib.Core.Bool.{Bool, true, false, cond, false≢true}
-use mathlib.Core.List.{List, [], _∷_, map}
+use mathlib.Core.List.{List, [], _∷_}
 use native.Mathlib.Omega.{arith}
-use lib.ListN.{length, set, replicate}
+use lib.ListN.{length}
 use lib.Dec.{eqb}
 use borrow.Author.Tests.{eqb-true}
 use Rattle.octets.specs.Octets.{within}
 use Rattle.octets.proofs.RangeLaws.{both}
 use Rattle.frame.specs.declared.block.SystemId.{SystemId}
 use Rattle.frame.specs.declared.wire.TensOfMicroseconds.{TensOfMicroseconds}
-use Rattle.frame.specs.Block.{blockOf}
-use Rattle.frame.specs.Wire.{actorPart}
-use Rattle.machine.specs.declared.states.Line.{Line}
-use Rattle.machine.specs.States.{sameLine}
-use Rattle.port.specs.declared.record.Port.{Port}
-use Rattle.port.specs.Receive.{lined}
-use Rattle.port.specs.Transmit.{sent, advanced}
 use Rattle.settings.specs.declared.Settings.{Settings}
-use Rattle.settings.specs.Settings.{configured, sameSettings, started}
-use Rattle.table.specs.declared.layout.Header.{Header}
-use Rattle.table.specs.Layout.{headerOf, mostPorts, tableSize}
-use Rattle.table.specs.Table.{countIn, portAt, ports, isRoom, ours, again, onOctets, stateOf}
+use Rattle.table.specs.Layout.{mostPorts, tableSize}
+use Rattle.table.specs.Table.{countIn, isRoom}
 use Rattle.table.proofs.TableLaws.{in-range}
-use Rattle.table.proofs.MadeLaws.{made-count}
-use Rattle.trunk.specs.Displaced.{displaced}
-use Rattle.trunk.specs.Settled.{settled}
-use Rattle.work.specs.Work.{worked, afterOne, afterStart, receivedAt, afterReceived, afterTick, afterLine, afterSettings, afterSend}
 use Rattle.control.specs.declared.answer.Answer.{Answer}
 use Rattle.control.specs.declared.answer.Answer.the-variants.{Done, Lacpdu, Marker, Refused}
 use Rattle.control.specs.declared.answer.Reason.the-variants as reason
 use Rattle.control.specs.Answer.{withDefault}
 use Rattle.control.specs.Call.{Call, start, receive, tick, line, configure, fetch, report, aggregator, due, isStart}
-use Rattle.control.specs.After.{answer, afterFrame, changedBy, unless, after, effect}
+use Rattle.control.specs.After.{answer, after}
 use Rattle.control.specs.Accepted.{accepted}
 use Rattle.control.proofs.CallLaws.{after-accepted, refused-table}
 use Rattle.control.proofs.CountLaws.{started-count, after-count}

@@ -9,7 +9,8 @@ use Rattle.claims.proofs.Reports.{port-true, aggregator-true, due-true}
 use Rattle.claims.proofs.Carries.{distributing-given, waiting-for-someone, register-adds-up}
 use Rattle.claims.proofs.Moves.{one-aggregator, moved-forgets}
 use Rattle.claims.proofs.Unseen.{no-move-unseen}
-use Rattle.claims.proofs.Thinner.{thinner-for-a-reason}
+use Rattle.claims.proofs.Told.{always-told, beside-true}
+use Rattle.claims.proofs.Thinner.{thinner-for-a-reason, thinner-told}
 use Rattle.claims.proofs.Spoke.{partner-spoke}
 
 pub further : Further
@@ -33,5 +34,8 @@ further = record {
   one-aggregator = one-aggregator;
   no-move-unseen = no-move-unseen;
   thinner-for-a-reason = thinner-for-a-reason;
+  always-told = always-told;
+  beside-true = beside-true;
+  thinner-told = thinner-told;
   lag-has-group = lag-has-group;
 }

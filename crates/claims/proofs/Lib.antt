@@ -15,8 +15,11 @@ pub mod ReadBack
 pub mod Course
 pub mod Moves
 pub mod Unseen
+pub mod Told
+pub mod Named
 pub mod Thinner
 pub mod Spoke
 pub mod Further
 pub mod Witness
+pub mod Causes
 pub mod Applied

@@ -103,7 +103,7 @@ half-silent t m n e f = sound-silent t (never-stuck t m) n e f
 
 -- ---- what each call does to one record's line before settling
 
-lined-line : (l : Line) (p : Port) → lined l p .line ≡ l
+pub lined-line : (l : Line) (p : Port) → lined l p .line ≡ l
 unfolding lined
 lined-line l p = run-line (withLine (receiveRun (withLine p (down (p .line)))) l)
 

@@ -79,7 +79,7 @@ pub paced-seat : (p : Port) → seat (periodicRun p) ≡ seat p
 paced-seat p = ap (λ (x : Port). seat x) (periodic-keeps p)
 
 -- an UNSELECTED port must move
-unselected-moves : (k : ℕ) (p : Port) → isUnselected (p .phase .selected) ≡ true → mustMove k p ≡ true
+pub unselected-moves : (k : ℕ) (p : Port) → isUnselected (p .phase .selected) ≡ true → mustMove k p ≡ true
 unfolding mustMove
 unselected-moves k p e = rw e
 

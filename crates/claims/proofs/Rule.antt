@@ -21,7 +21,8 @@ use Rattle.port.specs.Periodic.{periodicRun}
 use Rattle.port.proofs.ReceiveLaws.{receive-idle}
 use Rattle.port.proofs.PeriodicLaws.{periodic-idle}
 use Rattle.port.proofs.RestParts.{standing}
-use Rattle.port.proofs.RestKept.{stays-idle}
+use Rattle.port.specs.Rest.{isUnheard, Resting}
+use Rattle.port.proofs.RestKept.{stays-idle, down-disabled}
 use Rattle.table.specs.Record.{decoded}
 use Rattle.table.specs.Table.{countIn, portAt, ports, ours}
 use Rattle.table.proofs.StoreLaws.{ports-at}
@@ -70,7 +71,7 @@ stays-earned Distributing false coll d e = absurd (entering e)
     entering : Enter Collecting ≡ Stay → ⊥
     entering x = false≢true (ap is-stay x)
 
-port-earned : (p : Port) → Chosen p → muxChoice false p ≡ Stay → distributes (p .phase .mux) ≡ true
+pub port-earned : (p : Port) → Chosen p → muxChoice false p ≡ Stay → distributes (p .phase .mux) ≡ true
     → (p .partner .state .synchronization ≡ true) × (p .partner .state .collecting ≡ true)
 unfolding muxChoice Chosen
 port-earned p s e d =
@@ -79,9 +80,13 @@ port-earned p s e d =
     stays-earned (p .phase .mux) sync coll d
     (ap (λ (x : Selection). muxNext (p .phase .mux) x false sync coll) (sym s) ∙ e)
 
-is-up : (up synced : Bool) → (up ≡ false → synced ≡ false) → synced ≡ true → up ≡ true
-is-up true synced f e = refl
-is-up false synced f e = absurd (true≢false (sym e ∙ f refl))
+-- a port whose partner is in sync has its link up: with the link down it is in PORT_DISABLED
+synced-up : (p : Port) → Resting p → p .partner .state .synchronization ≡ true → p .line .up ≡ true
+synced-up p r e = by (p .line .up) refl
+  where
+    by : (b : Bool) → p .line .up ≡ b → p .line .up ≡ true
+    by true u = u
+    by false u = absurd (true≢false (sym e ∙ r .unheard (ap isUnheard (down-disabled (p .line) (p .phase .receive) (r .state) u))))
 
 pub distributing-earned : DistributingEarned
 distributing-earned t m i h d =
@@ -89,7 +94,7 @@ distributing-earned t m i h d =
     let f = port-firm t s i h in
     let e = port-earned (portAt t i) (f .chosen) (f .stays) d in
     record {
-      up = is-up (portAt t i .line .up) (portAt t i .partner .state .synchronization) (port-resting t s i h .unheard) (e .0);
+      up = synced-up (portAt t i) (port-resting t s i h) (e .0);
       synchronization = e .0;
       collecting = e .1;
       group = λ j k a x. shares j k x;

@@ -2,7 +2,7 @@
 -- machines rest; the periodic machines and steps 3 to 6 bring the others to rest and keep the range. Assumes nothing.
 use Prim.Native.Nat.{ℕ, _+_, _<_, _≤_}
 use mathlib.Core.Path.{_≡_, sym, ap, _∙_, subst}
-use mathlib.Core.Bool.{Bool, true, false, cond}
+use mathlib.Core.Bool.{Bool, true, false}
 use mathlib.Core.List.{List, [], map}
 use lib.ListN.{length, getD, set, replicate, length-map, length-set, length-replicate}
 use Rattle.octets.specs.Lists.{Each}
@@ -29,7 +29,6 @@ use Rattle.table.specs.declared.layout.Header.{Header}
 use Rattle.table.specs.Layout.{headerOf, mostPorts}
 use Rattle.table.specs.Record.{decoded}
 use Rattle.table.specs.Range.{headerFits}
-use Rattle.table.specs.State.{withPorts}
 use Rattle.table.specs.Table.{countIn, portAt, ports, tableOctets, ours, again, onOctets, octetsOf, stateOf}
 use Rattle.table.proofs.TableLaws.{in-range, in-range-is, octets-back}
 use Rattle.table.proofs.StoreLaws.{ports-length, ports-at}

@@ -6,7 +6,7 @@ use mathlib.Core.Path.{_≡_, refl, sym, ap, _∙_, subst}
 use mathlib.Core.Bool.{Bool, true, false, cond, _&&_, true≢false}
 use mathlib.Core.List.{List, [], _∷_, map}
 use native.Mathlib.Omega.{arith}
-use lib.ListN.{length, getD}
+use lib.ListN.{getD}
 use lib.Dec.{eqb}
 use borrow.Author.Tests.{eqb-true, eqb-false, ne-eqb}
 use Rattle.frame.specs.Block.{blockOf}
@@ -20,14 +20,14 @@ use Rattle.port.specs.Periodic.{periodicRun}
 use Rattle.port.specs.Receive.{moved, lined}
 use Rattle.port.specs.Transmit.{sent, nttCleared}
 use Rattle.port.proofs.PeriodicLaws.{periodic-keeps}
-use Rattle.port.proofs.RestKept.{Seat, seat, aside-wait, advanced-wait, received-aside, moved-aside, lined-aside}
+use Rattle.port.proofs.RestKept.{Seat, aside-wait, advanced-wait, received-aside, moved-aside, lined-aside}
 use Rattle.port.proofs.TransmitLaws.{cleared-keeps}
 use Rattle.settings.specs.Settings.{configured}
 use Rattle.settings.proofs.StandingLaws.{settings-aside}
 use Rattle.table.specs.Record.{decoded}
 use Rattle.table.specs.Table.{countIn, portAt, ours, again, stateOf}
 use Rattle.trunk.specs.Selection.{ruleOf}
-use Rattle.trunk.specs.Settled.{mustMove, settled}
+use Rattle.trunk.specs.Settled.{mustMove}
 use Rattle.trunk.proofs.MoveLaws.{settled-waits}
 use Rattle.work.specs.Work.{worked, receivedAt}
 use Rattle.control.specs.declared.answer.Answer.{Answer}

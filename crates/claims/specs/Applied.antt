@@ -12,7 +12,9 @@ use Rattle.claims.specs.LivePartner.{Live}
 use Rattle.claims.specs.Moves.{MovedOver, Forgotten, Resettled}
 use Rattle.claims.specs.Spoke.{Spoke}
 use Rattle.claims.specs.Thinner.{Why}
+use Rattle.claims.specs.Told.{Behind, Thinned}
 use Rattle.claims.specs.Witness.{said, hears, ticks, trunk, parts, parted, fallen, rekeyed, threeGroups, pluggedOver, twoLags, linked, since}
+use Rattle.claims.specs.Causes.{heldUp}
 
 pub record Applied : Type 0 where
   -- `locality`: port 3 in calls that name port 1 or 2, and port 2 where port 3 hears the partner of port 1
@@ -35,5 +37,8 @@ pub record Applied : Type 0 where
   -- `thinner-for-a-reason`: port 2 again; and where its partner collects no longer
   pub thinner : Why parts trunk 1
   pub thinner-by-one : Why (hears 1 2 0x0F) trunk 1
+  -- `thinner-told`, `beside-true`: port 2 once more, and port 1 where port 2 holds it back
+  pub thinned : Thinned (hears 1 2 0x0F) trunk 1
+  pub behind : Behind heldUp 0
   -- `partner-spoke`
   pub spoke : Spoke trunk 0

@@ -7,6 +7,7 @@ use Rattle.claims.specs.LineCall.{LineTaken, LineRepeated, HalfSilent, S
 use Rattle.claims.specs.Reports.{PortTrue, AggregatorTrue, DueTrue}
 use Rattle.claims.specs.Moves.{OneAggregator, NoMoveUnseen, MovedForgets}
 use Rattle.claims.specs.Thinner.{ThinnerForAReason}
+use Rattle.claims.specs.Told.{AlwaysTold, BesideTrue, ThinnerTold}
 use Rattle.claims.specs.Spoke.{PartnerSpoke}
 use Rattle.claims.specs.Carries.{DistributingGiven, WaitingForSomeone, RegisterAddsUp}
 
@@ -38,5 +39,9 @@ pub record Further : Type 0 where
   pub one-aggregator : OneAggregator
   pub no-move-unseen : NoMoveUnseen
   pub thinner-for-a-reason : ThinnerForAReason
+  -- a port is never without a cause, in the states that go with it; what stands beside a cause; and who stopped carrying has one that goes with the reason
+  pub always-told : AlwaysTold
+  pub beside-true : BesideTrue
+  pub thinner-told : ThinnerTold
   -- one LAG ID is one group, but for links from this system to itself
   pub lag-has-group : LagHasGroup

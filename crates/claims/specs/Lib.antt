@@ -11,8 +11,10 @@ pub mod Carries
 pub mod ReadBack
 pub mod Moves
 pub mod Thinner
+pub mod Told
 pub mod Spoke
 pub mod Further
 pub mod Speakers
 pub mod Witness
+pub mod Causes
 pub mod Applied

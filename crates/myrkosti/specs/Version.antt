@@ -7,7 +7,7 @@ generation = 2
 
 -- what was added since and leaves such programs as they are: calls, answers, fields behind the record
 abbrev pub addition : ℕ
-addition = 1
+addition = 2
 
 abbrev pub interfaceVersion : ℕ
 interfaceVersion = generation * 256 + addition

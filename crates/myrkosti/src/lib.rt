@@ -1,10 +1,11 @@
-// The C interface (include/myrkosti.h): each call of `asked` with numbers and lent octets. A call answers its number (R2).
+// The C interface (include/myrkosti.h): each call of `asked` and each report of `reasons` with numbers and lent octets. A call answers its number (R2).
 ghost use mathlib.Core.Path.{_≡_};
 ghost use Rattle.control.specs.Call.{start as Call·start, tick as Call·tick, line as Call·line, configure as Call·configure};
 ghost use Rattle.asked.specs.Layer.{oldLayer, newLayer};
 ghost use Rattle.asked.specs.Meets.{MeetsNumber, MeetsAskNumber, MeetsRecord, MeetsAggregator, MeetsDue};
 ghost use Rattle.asked.specs.Moves.{MeetsForwardNumber, MeetsBackNumber};
 ghost use Rattle.asked.specs.Report.{askedPublished};
+ghost use Rattle.reasons.specs.Reasons.{MeetsWhy, MeetsApart};
 ghost use Rattle.myrkosti.specs.Arguments.{settingsOf, systemOf, delayOf};
 ghost use Rattle.myrkosti.specs.Counted.{MeetsFetch, MeetsReceive};
 ghost use Rattle.myrkosti.specs.Version.{interfaceVersion};
@@ -20,7 +21,7 @@ use settings::Settings;
 pub extern "C" fn myrkosti_version() -> u32
     ensures { λ r. ⌜ r ≡ interfaceVersion ⌝ }
 {
-    0x0201
+    0x0202
 }
 
 // The octets that a table of `ports` ports has; 0 for a count outside 1 to 32.
@@ -225,6 +226,39 @@ pub extern "C" fn myrkosti_due(table: &[u8], ports: &mut u32) -> u32
 {
     let r = asked::report_due(table);
     *ports = r.ports;
+    let a = r.answer;
+    a.number() as u32
+}
+
+// Why a port does not carry, or that it does: a cause's number; the port that holds it back, and the ticks left; zeros beside a refusal.
+#[no_mangle]
+pub extern "C" fn myrkosti_why(
+    table: &[u8],
+    port: u32,
+    cause: &mut u32,
+    holder: &mut u32,
+    ticks: &mut u32,
+) -> u32
+    ensures { λ r. ⌜ MeetsWhy port (now (table .entry)) r (now (cause .exit)) (now (holder .exit)) (now (ticks .exit)) ⌝ }
+{
+    let r = reasons::why(table, port);
+    let why = r.why;
+    let c = why.cause;
+    *cause = c.number();
+    *holder = why.hold.port;
+    *ticks = why.hold.ticks;
+    let a = r.answer;
+    a.number() as u32
+}
+
+// Why two ports are not in one group, a bit for each reason; none where they are, and beside a refusal.
+#[no_mangle]
+pub extern "C" fn myrkosti_apart(table: &[u8], first: u32, second: u32, reasons: &mut u32) -> u32
+    ensures { λ r. ⌜ MeetsApart first second (now (table .entry)) r (now (reasons .exit)) ⌝ }
+{
+    let r = reasons::apart(table, first, second);
+    let s = r.apart;
+    *reasons = s.number();
     let a = r.answer;
     a.number() as u32
 }

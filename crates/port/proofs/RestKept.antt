@@ -4,6 +4,7 @@ use Prim.Native.Nat.{ℕ}
 use mathlib.Core.Path.{_≡_, refl, sym, ap, _∙_, subst}
 use mathlib.Core.Bool.{Bool, true, false, cond, not, _&&_, _||_, true≢false, false≢true}
 use borrow.Author.Tests.{not-true}
+use Rattle.octets.proofs.RangeLaws.{both-true}
 use Rattle.frame.specs.declared.block.Block.{Block}
 use Rattle.frame.specs.declared.block.SystemId.{SystemId}
 use Rattle.machine.specs.declared.states.Ages.{Ages}
@@ -22,7 +23,7 @@ use Rattle.machine.specs.Time.{slowPeriodicTime, ranOut, timeoutTime, fallen}
 use Rattle.port.specs.declared.record.Port.{Port}
 use Rattle.port.specs.Record.{withLine, withNtt, actorBlock}
 use Rattle.port.specs.Receive.{recordDefault, recordPdu, updateSelected, updateDefaultSelected, updateNtt, unselected, initialized, portDisabled, expired, lacpDisabled, defaulted, pduRecorded, current, receiveEntered, receiveTaken, receiveChoice, receiveStep, receiveRun, moved, received, down, lined}
-use Rattle.port.specs.Rest.{goesWith, Resting}
+use Rattle.port.specs.Rest.{goesWith, isUnheard, Resting}
 use Rattle.port.specs.Timing.{Timed, usesPeriodic, CurrentTimed}
 use Rattle.port.specs.Transmit.{sent, ticked, advanced}
 use Rattle.port.proofs.TimerLaws.{disabled-timed, expired-timed, off-timed, defaulted-timed, current-timed, ticked-timed}
@@ -99,7 +100,7 @@ expired-rests p u f = record { state = rw (u, f); unheard = λ e. refl; stays = 
 
 off-rests : (p : Port) → p .line .up ≡ true → p .line .full ≡ false → ReceiveRests (receivePart (lacpDisabled p))
 unfolding lacpDisabled recordDefault
-off-rests p u f = record { state = rw (u, f); unheard = λ e. absurd (true≢false (sym u ∙ e)); stays = rw u; timed = off-timed p }
+off-rests p u f = record { state = rw (u, f); unheard = λ e. absurd (false≢true e); stays = rw u; timed = off-timed p }
 
 default-line : (b : Bool) (p : Port) → recordDefault (cond b p (unselected p)) .line ≡ p .line
 unfolding recordDefault
@@ -120,18 +121,19 @@ defaulted-rests p u f =
     let b : defaulted p .line .full ≡ true = ap (λ (l : Line). l .full) (defaulted-line p) ∙ f in
     record {
       state = rw (defaulted-state p, a, b);
-      unheard = λ e. absurd (true≢false (sym a ∙ e));
+      unheard = λ e. absurd (false≢true (sym (ap isUnheard (defaulted-state p)) ∙ e));
       stays = rw (defaulted-state p, a);
       timed = defaulted-timed p;
     }
 
 -- ---- a run of the receive machine
 
--- from where it leads to rest: not from INITIALIZE; from PORT_DISABLED with the partner's Synchronization clear; else from a state that goes with the line, or with the link down
+-- from where it leads to rest: not from INITIALIZE; from PORT_DISABLED with the partner's Synchronization clear; else from a state that goes with the line, EXPIRED with it clear, or
+-- with the link down
 abbrev leads : Receive → Bool → Bool → Bool → Bool
 leads Initialize up full synced = false
 leads PortDisabled up full synced = not synced
-leads Expired up full synced = not up || full
+leads Expired up full synced = not up || (full && not synced)
 leads LacpDisabled up full synced = not up || not full
 leads Defaulted up full synced = not up || full
 leads Current up full synced = not up || full
@@ -143,10 +145,10 @@ step-is p s up full out a b c d = rw (a, b, c, d)
 
 -- at rest as it is
 here : (p : Port) (s : Receive) (up full out : Bool) → p .phase .receive ≡ s → p .line .up ≡ up → p .line .full ≡ full → ranOut (p .timers .current) ≡ out
-    → goesWith (record { up = up; full = full }) s ≡ true → (up ≡ false → p .partner .state .synchronization ≡ false)
+    → goesWith (record { up = up; full = full }) s ≡ true → (isUnheard s ≡ true → p .partner .state .synchronization ≡ false)
     → receiveNext s up full out ≡ Stay → CurrentTimed p → ReceiveRests (receivePart (receiveRun p))
 here p s up full out a b c d g u n t =
-    let r : ReceiveRests (receivePart p) = record { state = rw (a, b, c) g; unheard = λ e. u (sym b ∙ e); stays = rw (a, b, c, d) n; timed = t } in
+    let r : ReceiveRests (receivePart p) = record { state = rw (a, b, c) g; unheard = λ e. u (ap isUnheard (sym a) ∙ e); stays = rw (a, b, c, d) n; timed = t } in
     entered p p (stays-idle p r) r
 
 run-rests : (p : Port) (s : Receive) (up full out : Bool) → p .phase .receive ≡ s → p .line .up ≡ up → p .line .full ≡ full → ranOut (p .timers .current) ≡ out
@@ -159,17 +161,17 @@ run-rests p PortDisabled true false out a b c d l t = entered p (lacpDisabled p)
 run-rests p Expired false full out a b c d l t = entered p (portDisabled p) (step-is p Expired false full out a b c d) (disabled-rests p b)
 run-rests p Expired true false out a b c d l t = absurd (false≢true l)
 run-rests p Expired true true true a b c d l t = entered p (defaulted p) (step-is p Expired true true true a b c d) (defaulted-rests p b c)
-run-rests p Expired true true false a b c d l t = here p Expired true true false a b c d refl (λ e. absurd (true≢false e)) refl t
+run-rests p Expired true true false a b c d l t = here p Expired true true false a b c d refl (λ e. not-true (p .partner .state .synchronization) l) refl t
 run-rests p LacpDisabled false full out a b c d l t = entered p (portDisabled p) (step-is p LacpDisabled false full out a b c d) (disabled-rests p b)
 run-rests p LacpDisabled true true out a b c d l t = absurd (false≢true l)
-run-rests p LacpDisabled true false out a b c d l t = here p LacpDisabled true false out a b c d refl (λ e. absurd (true≢false e)) refl t
+run-rests p LacpDisabled true false out a b c d l t = here p LacpDisabled true false out a b c d refl (λ e. absurd (false≢true e)) refl t
 run-rests p Defaulted false full out a b c d l t = entered p (portDisabled p) (step-is p Defaulted false full out a b c d) (disabled-rests p b)
 run-rests p Defaulted true false out a b c d l t = absurd (false≢true l)
-run-rests p Defaulted true true out a b c d l t = here p Defaulted true true out a b c d refl (λ e. absurd (true≢false e)) refl t
+run-rests p Defaulted true true out a b c d l t = here p Defaulted true true out a b c d refl (λ e. absurd (false≢true e)) refl t
 run-rests p Current false full out a b c d l t = entered p (portDisabled p) (step-is p Current false full out a b c d) (disabled-rests p b)
 run-rests p Current true false out a b c d l t = absurd (false≢true l)
 run-rests p Current true true true a b c d l t = entered p (expired p) (step-is p Current true true true a b c d) (expired-rests p b c)
-run-rests p Current true true false a b c d l t = here p Current true true false a b c d refl (λ e. absurd (true≢false e)) refl t
+run-rests p Current true true false a b c d l t = here p Current true true false a b c d refl (λ e. absurd (false≢true e)) refl t
 
 abbrev leadsFrom : Port → Bool
 leadsFrom p = leads (p .phase .receive) (p .line .up) (p .line .full) (p .partner .state .synchronization)
@@ -182,12 +184,12 @@ run-standing p s l t =
     (subst Steady (sym (run-aside p)) s)
 
 -- a port at rest leads to rest
-rest-leads : (s : Receive) (up full synced : Bool) → goesWith (record { up = up; full = full }) s ≡ true → (up ≡ false → synced ≡ false) → leads s up full synced ≡ true
+rest-leads : (s : Receive) (up full synced : Bool) → goesWith (record { up = up; full = full }) s ≡ true → (isUnheard s ≡ true → synced ≡ false) → leads s up full synced ≡ true
 rest-leads Initialize up full synced g u = absurd (false≢true g)
 rest-leads PortDisabled true full synced g u = absurd (false≢true g)
 rest-leads PortDisabled false full synced g u = ap not (u refl)
 rest-leads Expired false full synced g u = refl
-rest-leads Expired true full synced g u = g
+rest-leads Expired true full synced g u = both-true g (ap not (u refl))
 rest-leads LacpDisabled false full synced g u = refl
 rest-leads LacpDisabled true full synced g u = g
 rest-leads Defaulted false full synced g u = refl
@@ -253,7 +255,7 @@ current-rests us a b p u f =
     let y : pduRecorded us a b p .line .full ≡ true = ap (λ (l : Line). l .full) (pdu-line us a b p) ∙ f in
     record {
       state = rw (x, y);
-      unheard = λ e. absurd (true≢false (sym x ∙ e));
+      unheard = λ e. absurd (false≢true e);
       stays = rw (x, runs (p .actor .timeout));
       timed = current-timed us a b p;
     }
@@ -300,7 +302,7 @@ disabled-down l Defaulted g e = absurd (false≢true e)
 disabled-down l Current g e = absurd (false≢true e)
 
 -- and with its link down it is in PORT_DISABLED
-down-disabled : (l : Line) (s : Receive) → goesWith l s ≡ true → l .up ≡ false → s ≡ PortDisabled
+pub down-disabled : (l : Line) (s : Receive) → goesWith l s ≡ true → l .up ≡ false → s ≡ PortDisabled
 down-disabled l Initialize g u = absurd (false≢true g)
 down-disabled l PortDisabled g u = refl
 down-disabled l Expired g u = absurd (both-up (l .up) (l .full) g u)
@@ -360,7 +362,7 @@ module _ (p : Port) (s : Standing p) where
   rises : (l : Line) → Standing (receiveRun (withLine fell l))
   rises l =
       run-standing (withLine fell l) (steady fell fell-standing)
-      (rw fell-disabled (ap not (fell-standing .receive .unheard fell-down))) (fell-standing .receive .timed)
+      (rw fell-disabled (ap not (fell-standing .receive .unheard (ap isUnheard fell-disabled)))) (fell-standing .receive .timed)
 
   pub lined-standing : (l : Line) → Standing (lined l p)
   unfolding lined fell

@@ -19,7 +19,7 @@ use Rattle.port.specs.declared.record.Port.{Port}
 use Rattle.port.specs.Receive.{receiveChoice}
 use Rattle.port.specs.Periodic.{quiet, periodicTaken, periodicEntered, periodicChoice, periodicStep, periodicRun}
 use Rattle.port.specs.Mux.{muxStep, BitsAgree}
-use Rattle.port.specs.Rest.{goesWith, Resting}
+use Rattle.port.specs.Rest.{goesWith, isUnheard, Resting}
 use Rattle.port.specs.Timing.{Timed, usesCurrent, usesPeriodic}
 use Rattle.port.proofs.PeriodicLaws.{periodic-rests, periodic-keeps}
 use Rattle.port.proofs.MuxLaws.{bits-kept}
@@ -74,7 +74,7 @@ muxPart p = record {
 
 pub record ReceiveRests (v : ReceivePart) : Type 0 where
   pub state : goesWith (v .line) (v .state) ≡ true
-  pub unheard : v .line .up ≡ false → v .synced ≡ false
+  pub unheard : isUnheard (v .state) ≡ true → v .synced ≡ false
   pub stays : receiveNext (v .state) (v .line .up) (v .line .full) (ranOut (v .timer)) ≡ receive.Stay
   pub timed : Timed (usesCurrent (v .state)) longTimeoutTime (v .timer)
 

@@ -20,10 +20,19 @@ goesWith l LacpDisabled = l .up && not (l .full)
 goesWith l Defaulted = l .up && l .full
 goesWith l Current = l .up && l .full
 
+-- the states whose entry clears the partner's Synchronization (43.4.12): PORT_DISABLED and EXPIRED
+abbrev pub isUnheard : Receive → Bool
+isUnheard Initialize = false
+isUnheard PortDisabled = true
+isUnheard Expired = true
+isUnheard LacpDisabled = false
+isUnheard Defaulted = false
+isUnheard Current = false
+
 pub record Resting (p : Port) : Type 0 where
   pub state : goesWith (p .line) (p .phase .receive) ≡ true
-  -- where the link is down, the partner's Synchronization is clear
-  pub unheard : p .line .up ≡ false → p .partner .state .synchronization ≡ false
+  -- in which it is clear as long as they last
+  pub unheard : isUnheard (p .phase .receive) ≡ true → p .partner .state .synchronization ≡ false
   -- no step of the receive machine applies, and none of the periodic machine changes anything
   pub receive : receiveChoice p ≡ Stay
   pub periodic : periodicStep p ≡ p

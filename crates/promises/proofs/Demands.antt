@@ -307,7 +307,7 @@ ask-untouched (report n) t i not L m a = refl
 ask-untouched (aggregator k) t i not L m a = refl
 ask-untouched due t i not L m a = refl
 
-below : (h : Held) (n : ℕ) → IsPort (frontIn h) n → n - 1 < countIn (tableIn h)
+pub below : (h : Held) (n : ℕ) → IsPort (frontIn h) n → n - 1 < countIn (tableIn h)
 below h n p = let some = p .some in let most = p .most in omega (arith, some, most)
 
 others-stay : (h : Held) → AskedMade h → (c : Call) → Takes c → (m : ℕ) → IsPort (frontIn h) m

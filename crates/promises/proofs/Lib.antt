@@ -9,6 +9,7 @@ pub mod Churn
 pub mod Fronts
 pub mod Demands
 pub mod Library
+pub mod Reasons
 pub mod Counts
 pub mod Through
 pub mod Witness

@@ -25,7 +25,7 @@ pub weight-less : (b : Bool) → weighed b 1 < 2
 weight-less true = omega arith
 weight-less false = omega arith
 
-weight-bit : (b : Bool) → eqb (weighed b 1) 1 ≡ b
+pub weight-bit : (b : Bool) → eqb (weighed b 1) 1 ≡ b
 weight-bit true = refl
 weight-bit false = refl
 

@@ -157,3 +157,32 @@ pub unsafe extern "C" fn model_due(table: *const u8, table_len: usize, ports: &m
     *ports = outcome.due;
     outcome.answer
 }
+
+/// Why a port carries or does not.
+#[no_mangle]
+pub unsafe extern "C" fn model_why(
+    table: *const u8,
+    table_len: usize,
+    port: u32,
+    cause: &mut u32,
+    holder: &mut u32,
+    ticks: &mut u32,
+) -> u32 {
+    let outcome = report(Report::Why { port }, from_raw_parts(table, table_len), &mut []);
+    [*cause, *holder, *ticks] = outcome.why;
+    outcome.answer
+}
+
+/// Why two ports are apart.
+#[no_mangle]
+pub unsafe extern "C" fn model_apart(
+    table: *const u8,
+    table_len: usize,
+    first: u32,
+    second: u32,
+    reasons: &mut u32,
+) -> u32 {
+    let outcome = report(Report::Apart { first, second }, from_raw_parts(table, table_len), &mut []);
+    *reasons = outcome.apart;
+    outcome.answer
+}

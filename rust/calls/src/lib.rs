@@ -103,6 +103,18 @@ pub enum Report {
     Forward,
     /// The table, of the new form, is written in the old form, else as [`Report::Forward`].
     Back,
+    /// Why a port carries or does not: a cause, who holds it back, and ticks; zeros beside a refusal. Answers 0, 1 or 2.
+    Why {
+        /// Port, from 1.
+        port: u32,
+    },
+    /// Why two ports are in no common group: a set of reasons, empty beside a refusal. Answers 0, 1 or 2.
+    Apart {
+        /// Port, from 1.
+        first: u32,
+        /// Another, or the same.
+        second: u32,
+    },
 }
 
 /// Settings as the calls take them.
@@ -125,7 +137,7 @@ pub struct SettingsArguments {
 }
 
 /// The names of the calls, each at its number.
-pub const NAMES: [&str; 15] = [
+pub const NAMES: [&str; 17] = [
     "table_size",
     "start",
     "receive",
@@ -141,6 +153,8 @@ pub const NAMES: [&str; 15] = [
     "forward",
     "back",
     "ask",
+    "why",
+    "apart",
 ];
 
 impl Call<'_> {
@@ -162,6 +176,8 @@ impl Call<'_> {
             Call::Report(Report::Forward) => 12,
             Call::Report(Report::Back) => 13,
             Call::Ask { .. } => 14,
+            Call::Report(Report::Why { .. }) => 15,
+            Call::Report(Report::Apart { .. }) => 16,
         }
     }
 }
@@ -183,6 +199,10 @@ pub struct Outcome {
     pub aggregator: [u32; 5],
     /// `ports`, of what is due: bit 0 is port 1.
     pub due: u32,
+    /// cause, holder, ticks, of why a port carries or does not.
+    pub why: [u32; 3],
+    /// `reasons`, of why two ports are apart.
+    pub apart: u32,
 }
 
 impl Outcome {
@@ -190,12 +210,12 @@ impl Outcome {
     pub const UNTOUCHED: Outcome = {
         const UNTOUCHED: u8 = 0xEE;
         let number = u32::from_ne_bytes([UNTOUCHED; 4]);
-        Outcome { answer: number, sent: number, aggregator: [number; 5], due: number }
+        Outcome { answer: number, sent: number, aggregator: [number; 5], due: number, why: [number; 3], apart: number }
     };
 
     /// This answer, and zeros.
     pub const fn refused(answer: u32) -> Outcome {
-        Outcome { answer, sent: 0, aggregator: [0; 5], due: 0 }
+        Outcome { answer, sent: 0, aggregator: [0; 5], due: 0, why: [0; 3], apart: 0 }
     }
 }
 

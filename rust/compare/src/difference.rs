@@ -101,6 +101,8 @@ pub fn describe(request: &Request, model: &Reply, library: &Reply) -> String {
         &library.outcome.aggregator,
     );
     line(&mut text, "due, as a set", &model.outcome.due, &library.outcome.due);
+    line(&mut text, "cause, holder, ticks", &model.outcome.why, &library.outcome.why);
+    line(&mut text, "reasons, as a set", &model.outcome.apart, &library.outcome.apart);
     counters(&mut text, &request.counters, &model.counters, &library.counters);
     line(&mut text, lent, &hex(&model.out), &hex(&library.out));
     tables(&mut text, "table", &request.table, &model.table, &library.table);

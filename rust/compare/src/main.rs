@@ -1,6 +1,7 @@
 //! Drives the library and the model side by side through random calls and compares every octet that is lent (table, outgoing buffer,
-//! record, moved table), the answer, `sent`, the five numbers of an aggregator, the set of what is due, and the counters. A fetch that
-//! comes after the library said what is due must also be answered accordingly.
+//! record, moved table), the answer, `sent`, the five numbers of an aggregator, the set of what is due, the three numbers of why a port
+//! carries or not, the set of reasons why two are apart, and the counters. A fetch that comes after the library said what is due must also
+//! be answered accordingly, and what it says of why and apart must go with the octets of the table.
 //!
 //! The model goes first, and the library then performs the same calls in batches, each on the octets that stood before it. As long
 //! as no difference was found these are the library's own octets, and at the first difference the comparison ends.
@@ -9,6 +10,7 @@ mod difference;
 mod due;
 mod memory;
 mod random;
+mod reasons;
 mod scenario;
 mod tally;
 mod world;
@@ -18,6 +20,7 @@ use due::Said;
 use model::breakage::{self, Breakage};
 use myrkosti::raw::{self, Unreachable};
 use random::Random;
+use reasons::Reasons;
 use scenario::{Kind, Scenario};
 use std::process::ExitCode;
 use std::time::{Duration, Instant, SystemTime, UNIX_EPOCH};
@@ -63,6 +66,7 @@ struct Pending {
 struct Comparison {
     tally: Tally,
     said: Said,
+    reasons: Reasons,
     runs: [u64; Kind::ALL.len()],
     requests: Vec<Request<'static>>,
     pending: Vec<Pending>,
@@ -73,6 +77,7 @@ impl Comparison {
         Comparison {
             tally: Tally::default(),
             said: Said::default(),
+            reasons: Reasons::default(),
             runs: [0; Kind::ALL.len()],
             requests: Vec::new(),
             pending: Vec::new(),
@@ -117,6 +122,7 @@ impl Comparison {
         for ((request, pending), library) in self.requests.drain(..).zip(self.pending.drain(..)).zip(replies) {
             self.tally.count(pending.kind, &request, &library);
             let wrong = self.said.hold(&request, &library);
+            let wrong = wrong.or_else(|| self.reasons.hold(pending.kind, &request, &library));
             if pending.reply != library || wrong.is_some() {
                 return Ok(Some(Difference {
                     run: pending.run,
@@ -139,6 +145,7 @@ fn compare(seed: u64, limit: Limit) -> Result<bool, Unreachable> {
     let seconds = begun.elapsed().as_secs_f64();
     println!("{}", comparison.tally);
     println!("{}", comparison.said);
+    println!("{}", comparison.reasons);
     for ((_, kind), runs) in Kind::ALL.iter().zip(comparison.runs) {
         println!("{runs} runs {kind:?}");
     }
@@ -234,9 +241,17 @@ mod tests {
         assert!(comparison.tally.least_counter() > 0, "{}", comparison.tally);
         assert!(comparison.tally.least_asked() > 0, "{}", comparison.tally);
         assert!(comparison.tally.least_response() > 0, "{}", comparison.tally);
+        assert!(comparison.tally.least_cause() > 0 && comparison.tally.least_reason() > 0, "{}", comparison.tally);
+        assert_eq!(comparison.tally.no_cause_made(), 0, "{}", comparison.tally);
         let asked = Call::Ask { port: 1, ticks: 1 }.number();
         assert!([0, 1, 2, 3, 4, 13, 14].iter().all(|answer| comparison.tally.answered(asked, *answer) > 0));
+        for report in [Report::Why { port: 1 }, Report::Apart { first: 1, second: 1 }] {
+            let call = Call::from(report).number();
+            assert!([0, 1, 2].iter().all(|answer| comparison.tally.answered(call, *answer) > 0));
+        }
         assert!(comparison.said.sent.min(comparison.said.refused) > 100, "{}", comparison.said);
+        let Reasons { whys, together, apart } = comparison.reasons;
+        assert!(whys.min(together).min(apart) > 100, "{}", comparison.reasons);
     }
 
     /// A table that library and model hold alike.
@@ -674,6 +689,62 @@ mod tests {
             assert_eq!(old.forward().unwrap().asked(), (outcome, 600, 0x0102_0304));
             assert_eq!(old.reply(Call::Ask { port: 1, ticks: 1 }).outcome.answer, 1);
         }
+    }
+
+    #[test]
+    fn every_pair_of_states_and_bits_has_a_cause_alike() {
+        let carrying = Both::carrying((true, true));
+        for (receive, mux) in (0..=5).flat_map(|receive| (0..=4).map(move |mux| (receive, mux))) {
+            for (line, timer) in (0..4).flat_map(|line| [0, 1, 20].map(|timer| (line, timer))) {
+                let mut both = Both(carrying.0.clone());
+                let record = &mut both.0[world::HEADER..];
+                (record[0], record[2], record[6], record[7], record[13]) = (receive, mux, line & 1, line >> 1, timer);
+                for state in [0x00, 0x08, 0x10, 0x18, 0x20, 0x3F] {
+                    both.0[world::HEADER + 56] = state;
+                    let reply = both.reply(Report::Why { port: 1 }.into());
+                    assert_eq!((reply.outcome.answer, &reply.table), (0, &both.0));
+                    assert_eq!((1..=2).contains(&reply.outcome.why[0]), mux == 4);
+                }
+            }
+        }
+    }
+
+    #[test]
+    fn every_bit_that_the_rule_compares_is_a_reason_alike() {
+        let mut both = Both(vec![0xA5; model::table_size(2) as usize]);
+        let partner = [0, 1, 0, 0, 0, 0, 0, 5, 0, 1, 0, 1, 0, 1, 0x04];
+        let start = Call::Start {
+            ports: 2,
+            system_priority: 1,
+            system: [0, 0, 0, 0, 0, 9],
+            collector_max_delay: 0,
+            settings: SettingsArguments { aggregation: true, partner, ..settings(0) },
+        };
+        assert_eq!(both.call(start), 0);
+        let apart = |both: &Both, first, second| both.reply(Report::Apart { first, second }.into()).outcome.apart;
+        assert_eq!(apart(&both, 1, 2), 0);
+        // octets of the record: own state and key, the partner's system, key and state, and all others
+        for (at, bit) in (8..world::BASE).flat_map(|at| (0..8).map(move |bit| (at, 1 << bit))) {
+            let mut changed = Both(both.0.clone());
+            changed.0[world::HEADER + world::BASE + at] ^= bit;
+            let expected = match (at, bit) {
+                (8, 4) => [0x08, 0x01],
+                (23..=24, _) => [0x40; 2],
+                (42..=43, _) => [0x80; 2],
+                (44..=49, _) => [0x100; 2],
+                (50..=51, _) => [0x200; 2],
+                (56, 4) => [0x10, 0x02],
+                _ => [0; 2],
+            };
+            if changed.reply(Report::Due.into()).outcome.answer == 0 {
+                assert_eq!([apart(&changed, 1, 2), apart(&changed, 2, 1)], expected, "octet {at}, bit {bit}");
+                assert_eq!([apart(&changed, 1, 1), apart(&changed, 2, 2)], [0; 2]);
+            }
+        }
+        both.0[world::HEADER + world::BASE + 49] = 9;
+        assert_eq!([apart(&both, 1, 2), apart(&both, 2, 1)], [0x120, 0x104]);
+        both.0[world::HEADER + world::BASE + 43] = 2;
+        assert_eq!([apart(&both, 1, 2), apart(&both, 2, 1)], [0x180; 2]);
     }
 
     #[test]

@@ -48,15 +48,30 @@ fn field(table: &mut [u8], count: u32, port: u32, at: usize, length: usize) -> O
     table.get_mut(place)
 }
 
-/// Changes the table, mostly so that it stays in range; true if a tick should come next.
-pub fn change(random: &mut Random, table: &mut Vec<u8>, count: u32) -> bool {
+/// What should come after a change.
+#[derive(Clone, Copy, Debug, PartialEq, Eq)]
+pub enum Next {
+    /// Anything.
+    Any,
+    /// A tick.
+    Tick,
+    /// Why each port carries or does not.
+    Whys,
+}
+
+/// Changes the table, mostly so that it stays in range.
+pub fn change(random: &mut Random, table: &mut Vec<u8>, count: u32) -> Next {
     match random.below(100) {
         0..=11 => change_octets(random, table),
         12..=14 => exceed_field(random, table, count),
-        15..=62 => {
+        15..=56 => {
             for _ in 0..random.between(1, 6) {
                 change_field(random, table, count);
             }
+        }
+        57..=62 => {
+            wait_all(random, table, count);
+            return Next::Whys;
         }
         63..=69 => monitor_all(random, table, count),
         70..=75 => ask_all(random, table, count),
@@ -91,7 +106,11 @@ pub fn change(random: &mut Random, table: &mut Vec<u8>, count: u32) -> bool {
             }
         }
     }
-    random.percent(40)
+    if random.percent(40) {
+        Next::Tick
+    } else {
+        Next::Any
+    }
 }
 
 /// Changes the table so that it seldom stays in range.
@@ -174,6 +193,20 @@ fn ask_all(random: &mut Random, table: &mut [u8], count: u32) {
         put(ASKED_AT, &[random.of(&[0, 1, 1, 1, 2, 3, 4])]);
         put(ASKED_AT + 1, &u16::to_be_bytes(random.of(&[0, 0, 1, 1, 2, 5, 600])));
         put(ASKED_AT + 3, &any_count(random).to_be_bytes());
+    }
+}
+
+/// Every port waits for one of few aggregators or does not, with a timer of few values, so that several have the most ticks left; most hear
+/// their partner.
+fn wait_all(random: &mut Random, table: &mut [u8], count: u32) {
+    let timers = random.of(&[[0, 0, 7, 12], [0, 0, 0, 20], [0, 1, 20, 20]]);
+    for port in 0..count {
+        let mut put = |at: usize, octets: &[u8]| put(table, count, port, at, octets);
+        put(0, &[random.of(&[5, 5, 5, 5, 2, 4])]);
+        put(2, &[random.of(&[1, 1, 1, 1, 2, 3])]);
+        put(4, &[random.between(1, count.min(2)) as u8]);
+        put(6, &[u8::from(random.percent(90)), u8::from(random.percent(90))]);
+        put(13, &[random.of(&timers)]);
     }
 }
 

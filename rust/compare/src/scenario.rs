@@ -1,6 +1,6 @@
 //! Runs: a kind, a world, a table, and which call comes next.
 
-use crate::memory;
+use crate::memory::{self, Next};
 use crate::random::Random;
 use crate::world::{self, World, FRAME, RECORD};
 use calls::{Call, Counters, Reply, Report, Request};
@@ -55,6 +55,10 @@ enum Plan {
     /// The table goes into the old form, and from there forward again.
     Back,
     Forward,
+    /// Why that port carries or does not.
+    Why(u32),
+    /// Why those two ports are apart.
+    Apart(u32, u32),
 }
 
 /// A run.
@@ -98,6 +102,11 @@ enum Action {
     Port,
     Aggregator,
     Due,
+    Why,
+    WhyAll,
+    Apart,
+    ApartAll,
+    Join,
     Back,
     Forward,
     MoveCable,
@@ -133,6 +142,11 @@ const REALISTIC: &[(u32, Action)] = &[
     (16, Action::Port),
     (20, Action::Aggregator),
     (20, Action::Due),
+    (30, Action::Why),
+    (6, Action::WhyAll),
+    (30, Action::Apart),
+    (2, Action::ApartAll),
+    (8, Action::Join),
     (8, Action::Back),
     (16, Action::MoveCable),
     (24, Action::FarEnd),
@@ -160,6 +174,10 @@ const BALANCED: &[(u32, Action)] = &[
     (6, Action::Port),
     (8, Action::Aggregator),
     (8, Action::Due),
+    (20, Action::Why),
+    (2, Action::WhyAll),
+    (20, Action::Apart),
+    (1, Action::ApartAll),
     (12, Action::Back),
     (2, Action::Forward),
     (1, Action::MoveCable),
@@ -210,10 +228,14 @@ impl Scenario {
 
     /// The table becomes another. One that was to go forward still is, whatever became of it.
     fn change_memory(&mut self, random: &mut Random) {
-        let tick = memory::change(random, &mut self.table, self.world.count);
+        let next = memory::change(random, &mut self.table, self.world.count);
         if !matches!(self.plans.front(), Some(Plan::Forward)) {
             self.plans.clear();
-            self.plans.extend(tick.then_some(Plan::Tick));
+            match next {
+                Next::Any => {}
+                Next::Tick => self.plans.push_back(Plan::Tick),
+                Next::Whys => self.plans.extend((1..=self.world.count).map(Plan::Why)),
+            }
         }
     }
 
@@ -245,7 +267,7 @@ impl Scenario {
         self.plans.push_front(Plan::Forward);
         if random.percent(10) {
             let port = self.world.port(random);
-            let asked = [Plan::Ask(port, 1), Plan::Respond(port, port)];
+            let asked = [Plan::Ask(port, 1), Plan::Respond(port, port), Plan::Why(port), Plan::Apart(port, 1)];
             let refused = [Plan::Tick, Plan::Hear(port), Plan::Link(port, true), Plan::Settings(port), Plan::Due];
             let refused = [&refused[..], &asked].concat();
             self.plans.push_front(random.of(&refused));
@@ -339,6 +361,8 @@ impl Scenario {
             }
             Plan::Back => Report::Back.into(),
             Plan::Forward => Report::Forward.into(),
+            Plan::Why(port) => Report::Why { port }.into(),
+            Plan::Apart(first, second) => Report::Apart { first, second }.into(),
         }
     }
 
@@ -417,6 +441,36 @@ impl Scenario {
         self.plans.push_back(respond);
         self.plans.extend(random.percent(30).then_some(respond));
         self.plans.push_back(Plan::Line(port, true, true));
+    }
+
+    /// One port after the other joins its group while others wait: so some are held back. Why each carries or does not is asked on the way.
+    fn join(&mut self, random: &mut Random) {
+        let before = self.plans.len();
+        for port in 1..=self.world.count.min(6) {
+            self.plans.extend([Plan::Line(port, true, true), Plan::HearRenumbered(port)]);
+            self.ticks(random.of(&[0, 1, 4, 8, 12]));
+            self.plans.push_back(Plan::Why(self.world.port(random)));
+        }
+        for _ in 0..random.between(1, 3) {
+            self.ticks(random.of(&[1, 5, 8, 20]));
+            self.plans.extend((1..=self.world.count).map(Plan::Why));
+        }
+        self.left += (self.plans.len() - before) as u32;
+    }
+
+    /// A number of a port: mostly of one that there is.
+    fn any_port(&self, random: &mut Random) -> u32 {
+        if random.percent(6) {
+            self.no_port(random)
+        } else {
+            self.world.port(random)
+        }
+    }
+
+    /// A number that is of no port.
+    fn no_port(&self, random: &mut Random) -> u32 {
+        let (count, port) = (self.world.count, self.world.port(random));
+        random.weighted(&[(3, 0), (3, count + 1), (1, 33), (1, u32::MAX), (1, 256 + port), (1, 65_536 + port)])
     }
 
     fn hear_all(&mut self) {
@@ -500,6 +554,11 @@ impl Scenario {
             Action::Port => return self.request(random, Report::Port { port }.into()),
             Action::Aggregator => return self.request(random, Report::Aggregator { aggregator: port }.into()),
             Action::Due => return self.request(random, Report::Due.into()),
+            Action::Why => self.plans.push_back(Plan::Why(self.any_port(random))),
+            Action::WhyAll => self.plans.extend((1..=self.world.count).map(Plan::Why)),
+            Action::Apart => self.plans.push_back(Plan::Apart(self.any_port(random), self.any_port(random))),
+            Action::ApartAll => self.plans.extend((1..=self.world.count).map(|other| Plan::Apart(port, other))),
+            Action::Join => self.join(random),
             Action::Back => self.plans.push_back(Plan::Back),
             Action::Forward => self.plans.push_back(Plan::Forward),
             Action::MoveCable => self.world.move_cable(random),
@@ -551,14 +610,13 @@ impl Scenario {
         let count = self.world.count;
         let mut port = self.world.port(random);
         if random.percent(40) {
-            port =
-                random.weighted(&[(3, 0), (3, count + 1), (1, 33), (1, u32::MAX), (1, 256 + port), (1, 65_536 + port)]);
+            port = self.no_port(random);
         }
         let mut settings = self.world.next_settings(random, &self.table, port);
         if random.percent(60) {
             settings.partner[14] ^= random.of(&[0x08, 0x10, 0x18]);
         }
-        let call = match random.below(15) {
+        let call = match random.below(19) {
             0 if random.percent(10) => Report::Version.into(),
             0 => sizes(random).into(),
             1 => match self.world.start(random) {
@@ -580,6 +638,12 @@ impl Scenario {
             12..=13 => {
                 let any = random.bits() as u32;
                 Call::Ask { port, ticks: random.of(&[0, 1, 30, 600, 601, 0x1_0001, u32::MAX, any]) }
+            }
+            14..=15 => Report::Why { port }.into(),
+            16..=17 => {
+                let other = self.any_port(random);
+                let (first, second) = random.of(&[(port, other), (other, port), (port, port)]);
+                Report::Apart { first, second }.into()
             }
             _ if random.flag() => Call::Receive { port, frame: self.world.lacpdu(random, &self.table, port).into() },
             _ => match self.damaged(random) {

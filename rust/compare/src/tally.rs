@@ -29,6 +29,10 @@ pub struct Tally {
     wrapped: u64,
     /// Responses, by how they fit what was asked for.
     responses: [u64; 7],
+    /// Causes of why a port carries or not, in tables that runs make or in any memory.
+    causes: [[u64; 2]; 11],
+    /// Reasons why two ports are apart, in the order of their bits, and last that there was none, in either.
+    reasons: [[u64; 2]; 11],
 }
 
 const LINES: [(&str, (bool, bool)); 4] = [
@@ -49,6 +53,33 @@ const ASKED: [&str; 4] = ["awaited", "answered", "timed out", "cancelled"];
 /// awaits it; it fits, and the Marker has ended; or otherwise.
 const RESPONSES: [&str; 7] =
     ["accepted", "port off", "system off", "number off", "other port", "too late", "otherwise"];
+
+const CAUSES: [&str; 11] = [
+    "no cause",
+    "carries",
+    "carries by default",
+    "link down",
+    "half duplex",
+    "defaulted",
+    "expired",
+    "waits",
+    "held back",
+    "out of sync",
+    "not collecting",
+];
+const REASONS: [&str; 11] = [
+    "first individual",
+    "first partner individual",
+    "first looped",
+    "second individual",
+    "second partner individual",
+    "second looped",
+    "keys differ",
+    "partner priorities differ",
+    "partner systems differ",
+    "partner keys differ",
+    "share a group",
+];
 
 impl Tally {
     /// Counts a call that was compared, of a run of that kind.
@@ -72,6 +103,9 @@ impl Tally {
             Call::Report(Report::Back) => raise(&mut self.moves[1], came_of_move(request, answer, new, old)),
             _ => {}
         }
+        if answer == 0 {
+            self.count_reasons(kind, request, reply);
+        }
         self.count_counters(&request.counters, &reply.counters);
         if let (Call::Receive { port, frame }, 0 | 12) = (&request.call, answer) {
             self.count_response(&request.table, *port, frame, answer);
@@ -82,6 +116,25 @@ impl Tally {
                 self.count_churn(kind, &request.table, &reply.table);
                 self.count_asked(kind, &request.table, &reply.table);
             }
+        }
+    }
+
+    fn count_reasons(&mut self, kind: Kind, request: &Request, reply: &Reply) {
+        let memory = usize::from(kind == Kind::AnyMemory);
+        match request.call {
+            Call::Report(Report::Why { .. }) => {
+                if let Some(count) = self.causes.get_mut(reply.outcome.why[0] as usize) {
+                    count[memory] += 1;
+                }
+            }
+            Call::Report(Report::Apart { first, second }) if first != second => {
+                let (reasons, none) = (reply.outcome.apart, 1 << (REASONS.len() - 1));
+                let found = if reasons == 0 { none } else { reasons };
+                for (_, count) in self.reasons.iter_mut().enumerate().filter(|(bit, _)| found >> bit & 1 == 1) {
+                    count[memory] += 1;
+                }
+            }
+            _ => {}
         }
     }
 
@@ -159,6 +212,24 @@ impl Tally {
         self.responses.into_iter().min().unwrap_or(0)
     }
 
+    /// The least of the causes: of each but the first in either kind of memory, and of none in memory that no run made.
+    #[cfg(test)]
+    pub fn least_cause(&self) -> u64 {
+        self.causes[1..].iter().flatten().copied().min().unwrap_or(0).min(self.causes[0][1])
+    }
+
+    /// How often a table that a run made gave no cause.
+    #[cfg(test)]
+    pub fn no_cause_made(&self) -> u64 {
+        self.causes[0][0]
+    }
+
+    /// The least of the reasons, and of there being none, in either kind of memory.
+    #[cfg(test)]
+    pub fn least_reason(&self) -> u64 {
+        self.reasons.iter().flatten().copied().min().unwrap_or(0)
+    }
+
     /// How often that call had that answer.
     #[cfg(test)]
     pub fn answered(&self, call: u8, answer: u32) -> u64 {
@@ -228,6 +299,20 @@ fn row<T: fmt::Display, const N: usize>(f: &mut fmt::Formatter<'_>, name: &str, 
     writeln!(f)
 }
 
+/// A heading over two columns, and a line for each name.
+fn list<const N: usize>(
+    f: &mut fmt::Formatter<'_>,
+    [heading, one, other]: [&str; 3],
+    names: [&str; N],
+    counts: [[u64; 2]; N],
+) -> fmt::Result {
+    writeln!(f, "{heading:<28}{one:>14}{other:>14}")?;
+    for (name, [one, other]) in names.iter().zip(counts) {
+        writeln!(f, "  {name:<26}{one:>14}{other:>14}")?;
+    }
+    Ok(())
+}
+
 impl fmt::Display for Tally {
     fn fmt(&self, f: &mut fmt::Formatter<'_>) -> fmt::Result {
         write!(f, "{:<15}", "answer")?;
@@ -270,10 +355,9 @@ impl fmt::Display for Tally {
         writeln!(f, "  numbers that wrapped: {}", self.wrapped)?;
         row(f, "Responses", RESPONSES)?;
         row(f, "", self.responses)?;
-        writeln!(f, "{:<28}{:>14}{:>14}", "counters", "moved", "wrapped")?;
-        for (name, [moved, wrapped]) in Counters::NAMES.iter().zip(self.counters) {
-            writeln!(f, "  {name:<26}{moved:>14}{wrapped:>14}")?;
-        }
+        list(f, ["why", "made", "any"], CAUSES, self.causes)?;
+        list(f, ["apart, of two", "made", "any"], REASONS, self.reasons)?;
+        list(f, ["counters", "moved", "wrapped"], Counters::NAMES, self.counters)?;
         writeln!(f, "records after an answer 0, by receive state 0 to 5: {:?}", self.receive)?;
         writeln!(f, "  by periodic state 0 to 3: {:?}, by mux state 0 to 4: {:?}", self.periodic, self.mux)?;
         write!(f, "{} calls", self.total())

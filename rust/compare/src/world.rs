@@ -118,6 +118,16 @@ pub fn line_of(table: &[u8], port: u32) -> (bool, bool) {
     base_of(table, port).map_or((true, true), |record| (record[6] == 1, record[7] == 1))
 }
 
+/// Whether a port distributes, as the table has it; not where there is no such port.
+pub fn distributes(table: &[u8], port: u32) -> bool {
+    base_of(table, port).is_some_and(|record| record[2] == DISTRIBUTING)
+}
+
+/// The aggregator that a port holds, if there is such a port.
+pub fn held_by(table: &[u8], port: u32) -> Option<u8> {
+    base_of(table, port).map(|record| record[4])
+}
+
 /// The states of both Churn Detection machines of each port of a table, the actor's first.
 pub fn churn_states(table: &[u8]) -> impl Iterator<Item = [u8; 2]> + '_ {
     ports_from_1(table).filter_map(|port| part_of(table, port, BASE, CHURN)).map(|group| [group[0], group[1]])
@@ -140,8 +150,7 @@ fn ports_from_1(table: &[u8]) -> impl Iterator<Item = u32> {
 
 /// The ports that distribute, as the table has it.
 pub fn distributing(table: &[u8]) -> Vec<u32> {
-    let distributes = |port: &u32| base_of(table, *port).is_some_and(|record| record[2] == DISTRIBUTING);
-    ports_from_1(table).filter(distributes).collect()
+    ports_from_1(table).filter(|port| distributes(table, *port)).collect()
 }
 
 /// What the Marker says that was asked for last on a port, as the table has it; zeros where there is no such port.

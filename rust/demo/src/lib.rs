@@ -1,6 +1,6 @@
 //! Two switches of ours, A and B, joined by cables: a plain-text list of events is played on two tables of the library, and
-//! what becomes of the trunk, which links never settle, and which drain, is shown as a timeline in text and as a picture. The text ends with
-//! what each port has counted.
+//! what becomes of the trunk, why a port does not carry, which links never settle, and which drain, is shown as a timeline in text and as a
+//! picture. The text ends with a page for each trunk, of who carries and who does not and why, and with what each port has counted.
 //!
 //! ```
 //! let script = demo::parse("switches 2\nup 1\nup 2\ntick 30\n").unwrap();
@@ -18,6 +18,7 @@ mod picture;
 mod script;
 mod story;
 mod timeline;
+mod trunk;
 
 pub use picture::svg;
 pub use script::{parse, Script, BUILT_IN};

@@ -2,9 +2,10 @@
 
 use crate::cabling::{all_ports, Cabling, Port, Switch};
 use crate::script::{Command, LinkChange, Setting};
+use crate::trunk::TrunkPage;
 use myrkosti::{
-    AskOutcome, Asked, Block, Counters, MuxState, PortState, ReceiveState, Received, Record, Refusal, Settings,
-    SystemId, Table, FRAME,
+    Apart, AskOutcome, Asked, Block, Counters, MuxState, PortState, ReceiveState, Received, Record, Refusal, Settings,
+    SystemId, Table, Why, FRAME,
 };
 
 /// How a port stands, as the timeline shows it.
@@ -48,10 +49,12 @@ pub struct PortLook {
     pub asked: AskOutcome,
     /// The transaction of that Marker, if there was one.
     pub transaction: Option<u32>,
+    /// Why it carries or does not.
+    pub why: Why,
 }
 
 impl PortLook {
-    fn of(record: &Record) -> PortLook {
+    fn of(record: &Record, why: Why) -> PortLook {
         let partner = (record.partner.system, record.partner.port);
         let learned = !record.actor_state.has(PortState::DEFAULTED);
         PortLook {
@@ -61,6 +64,7 @@ impl PortLook {
             partner: learned.then_some(partner),
             asked: record.asked.outcome,
             transaction: record.asked.transaction(),
+            why,
         }
     }
 
@@ -171,8 +175,8 @@ impl Network {
     pub fn look(&self) -> Result<Look, Refusal> {
         let mut look = Look::default();
         for port in all_ports(self.ports) {
-            let record = self.table(port).port(port.number)?;
-            look.ports[port.switch.index()].push(PortLook::of(&record));
+            let (record, why) = (self.table(port).port(port.number)?, self.table(port).why(port.number)?);
+            look.ports[port.switch.index()].push(PortLook::of(&record, why));
             let report = self.table(port).aggregator(port.number)?;
             if report.count > 0 {
                 let ports = report.distributing.iter().collect();
@@ -181,6 +185,17 @@ impl Network {
         }
         self.mark_lost(&mut look);
         Ok(look)
+    }
+
+    /// Why two ports of a switch are apart.
+    pub fn apart(&self, first: Port, second: u32) -> Result<Apart, Refusal> {
+        self.table(first).apart(first.number, second)
+    }
+
+    /// The pages of the trunks of A and of B.
+    pub fn trunk_pages(&self) -> Result<[Vec<TrunkPage>; 2], Refusal> {
+        let [a, b] = &self.tables;
+        Ok([TrunkPage::all(a, self.ports)?, TrunkPage::all(b, self.ports)?])
     }
 
     /// What the ports of A and of B have counted.
@@ -309,6 +324,8 @@ impl Network {
             Setting::Key(key) => settings.key = key,
             Setting::ShortTimeout(short) => settings.short_timeout = short,
             Setting::Active(active) => settings.activity = active,
+            Setting::Aggregatable(aggregatable) => settings.aggregation = aggregatable,
+            Setting::DefaultPartner(key) => settings.default_partner = taken_for_granted(key),
         }
         table.settings(port.number, &settings)
     }
@@ -343,6 +360,12 @@ fn start_switch(ports: u32, last_octet: u8) -> Result<Table, Refusal> {
         default_partner: Block { state: PortState::TIMEOUT, ..Block::default() },
     };
     Table::start(ports, system, 0, &settings)
+}
+
+/// A default partner of that key that aggregates, is in sync and collects: a port carries on its word alone while nobody speaks.
+fn taken_for_granted(key: u16) -> Block {
+    let in_sync = PortState::SYNCHRONIZATION.with(PortState::COLLECTING);
+    Block { key, state: PortState::TIMEOUT.with(PortState::AGGREGATION).with(in_sync), ..Block::default() }
 }
 
 fn state_of(record: &Record) -> State {

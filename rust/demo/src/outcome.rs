@@ -2,7 +2,7 @@
 
 use crate::cabling::{all_ports, Port, Switch};
 use crate::network::{Came, End, Look, State, Trunk};
-use crate::story::{Churning, Marker, Story};
+use crate::story::{Churning, Marker, Said, Story};
 use crate::timeline::seconds;
 use myrkosti::{AskOutcome, Refusal};
 use std::rc::Rc;
@@ -102,6 +102,30 @@ fn markers(story: &Story, event: usize) -> Vec<String> {
         Some(format!("{port}: Marker {transaction} awaited."))
     });
     here.clone().map(|marker| marker_words(marker, from)).chain(awaited).collect()
+}
+
+/// What the switches say, from the event to the next, of ports that carry no longer or not yet, and of such that are together no longer:
+/// tick by tick, once where both say the same.
+pub fn said(story: &Story, event: usize) -> Vec<String> {
+    let from = story.events[event].tick;
+    let to = from + story.span(event).len();
+    let here: Vec<&Said> = story.said.iter().filter(|said| (from..to).contains(&said.tick)).collect();
+    here.chunk_by(|one, next| one.tick == next.tick).flat_map(|said| said_at(said, from)).collect()
+}
+
+/// The same of one tick.
+fn said_at(said: &[&Said], from: usize) -> Vec<String> {
+    let when = if said[0].tick == from { "at once".into() } else { format!("at {}", at(said[0].tick)) };
+    let of = |switch| {
+        let sentences = said.iter().filter(|said| said.switch == switch).map(|said| said.sentence.as_str());
+        sentences.collect::<Vec<_>>().join(" ")
+    };
+    match Switch::BOTH.map(of) {
+        [a, b] if a == b => vec![format!("A and B {when}: {a}")],
+        [a, b] if b.is_empty() => vec![format!("A {when}: {a}")],
+        [a, b] if a.is_empty() => vec![format!("B {when}: {b}")],
+        [a, b] => vec![format!("A {when}: {a}"), format!("B {when}: {b}")],
+    }
 }
 
 fn marker_words(Marker { port, tick, came }: &Marker, from: usize) -> String {

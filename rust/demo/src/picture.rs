@@ -2,7 +2,7 @@
 
 use crate::cabling::{all_ports, Port, Switch};
 use crate::network::{End, State};
-use crate::outcome::outcome;
+use crate::outcome::{outcome, said};
 use crate::story::Story;
 use crate::timeline::{character, round_step, seconds, wrap, LEGEND};
 
@@ -253,6 +253,7 @@ impl Canvas<'_> {
         let event = &self.story.events[at];
         let words = format!("{} s: {}", seconds(event.tick), event.words());
         let bold = wrap(&words, TEXT_WIDTH - 8).into_iter().map(|line| ("font-weight='bold'", line));
-        bold.chain(wrap(&outcome(self.story, at), TEXT_WIDTH).into_iter().map(|line| ("", line))).collect()
+        let told = [outcome(self.story, at)].into_iter().chain(said(self.story, at));
+        bold.chain(told.flat_map(|told| wrap(&told, TEXT_WIDTH)).map(|line| ("", line))).collect()
     }
 }

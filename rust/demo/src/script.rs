@@ -15,7 +15,8 @@ const TICKS: RangeInclusive<u32> = 1..=100_000;
 const KEYS: RangeInclusive<u32> = 0..=65_535;
 const WAITS: RangeInclusive<u32> = 1..=LONGEST_WAIT;
 const COMMANDS: &str =
-    "switches, tick, up, down, silence, deaf, speak, half, full, key, move, long, short, passive, active, ask, reload or note";
+    "switches, tick, up, down, silence, deaf, speak, half, full, key, default, alone, together, move, long, short, passive, active, \
+     ask, reload or note";
 
 /// A list of events that has been read.
 #[derive(Clone, Debug, PartialEq, Eq)]
@@ -58,6 +59,9 @@ pub enum Setting {
     Key(u16),
     ShortTimeout(bool),
     Active(bool),
+    Aggregatable(bool),
+    /// A partner of that key is taken for granted while none speaks.
+    DefaultPartner(u16),
 }
 
 /// Reads a script.
@@ -145,9 +149,11 @@ impl Line<'_> {
             "half" | "full" => Command::Set(Setting::FullDuplex(self.name == "full"), self.port()?),
             "long" | "short" => Command::Set(Setting::ShortTimeout(self.name == "short"), self.port()?),
             "passive" | "active" => Command::Set(Setting::Active(self.name == "active"), self.port()?),
-            "key" => {
-                let port = self.port()?;
-                Command::Set(Setting::Key(self.number("a key", KEYS)? as u16), port)
+            "alone" | "together" => Command::Set(Setting::Aggregatable(self.name == "together"), self.port()?),
+            "key" | "default" => {
+                let (port, key) = (self.port()?, self.number("a key", KEYS)? as u16);
+                let setting = if self.name == "key" { Setting::Key(key) } else { Setting::DefaultPartner(key) };
+                Command::Set(setting, port)
             }
             "move" => Command::Move(self.port()?, self.number("a port of the other switch", 1..=self.ports)?),
             "ask" => Command::Ask(self.port()?, self.number("a waiting time", WAITS)?),
@@ -206,20 +212,25 @@ mod tests {
     #[test]
     fn every_command_is_read() {
         let text = "\u{feff}# all\r\nswitches 5\n\nup 1 # one\ndown 2\nsilence 3\nspeak 3\nhalf A 1\nfull B 5\nkey B 2 65535\n\
-                    move A 4 5\ndeaf B 5\nlong A 1\nshort A 1\npassive B 1\nactive B 1\nreload B\nnote  all  is well # so far\nask B 5 600\ntick 100000";
+                    move A 4 5\ndeaf B 5\nlong A 1\nshort A 1\npassive B 1\nactive B 1\nreload B\nnote  all  is well # so far\nask B 5 600\n\
+                    default A 3 7\nalone B 1\ntogether B 1\ntick 100000";
         let script = parse(text).unwrap();
-        assert_eq!((script.ports, script.commands.len()), (5, 17));
+        assert_eq!((script.ports, script.commands.len()), (5, 20));
         assert_eq!(script.commands[6], Command::Set(Setting::Key(65_535), Port::b(2)));
         assert_eq!(script.commands[7], Command::Move(Port::a(4), 5));
         assert_eq!(script.commands[8], Command::Deaf(Port::b(5)));
         assert_eq!(script.commands[13], Command::Reload(Switch::B));
         assert_eq!(script.commands[14], Command::Note("all is well".into()));
         assert_eq!(script.commands[15], Command::Ask(Port::b(5), 600));
+        assert_eq!(script.commands[16], Command::Set(Setting::DefaultPartner(7), Port::a(3)));
+        assert_eq!(script.commands[17], Command::Set(Setting::Aggregatable(false), Port::b(1)));
+        assert_eq!(script.commands[18], Command::Set(Setting::Aggregatable(true), Port::b(1)));
         assert_eq!(parse("").unwrap(), Script { ports: 4, commands: vec![] });
         assert!(parse(BUILT_IN).is_ok() && parse(include_str!("../stories/silent-first-link.txt")).is_ok());
         assert!(parse(include_str!("../stories/never-settles.txt")).is_ok());
         assert!(parse(include_str!("../stories/new-firmware.txt")).is_ok());
         assert!(parse(include_str!("../stories/drained.txt")).is_ok());
+        assert!(parse(include_str!("../stories/half-rate.txt")).is_ok());
     }
 
     #[test]
@@ -233,6 +244,10 @@ mod tests {
         assert_eq!(message("long"), "line 1: 'long' wants a switch, A or B, found nothing");
         assert_eq!(message("passive B 5"), "line 1: 'passive' wants a port from 1 to 4, found '5'");
         assert_eq!(message("key A 1 -1"), "line 1: 'key' wants a key from 0 to 65535, found '-1'");
+        assert_eq!(message("default B 2"), "line 1: 'default' wants a key from 0 to 65535, found nothing");
+        assert_eq!(message("default 2 1"), "line 1: 'default' wants a switch, A or B, found '2'");
+        assert_eq!(message("alone A 5"), "line 1: 'alone' wants a port from 1 to 4, found '5'");
+        assert_eq!(message("together A 1 2"), "line 1: 'together' wants nothing more, found '2'");
         assert_eq!(message("move A 1"), "line 1: 'move' wants a port of the other switch from 1 to 4, found nothing");
         assert_eq!(message("reload"), "line 1: 'reload' wants a switch, A or B, found nothing");
         assert_eq!(message("reload A 1"), "line 1: 'reload' wants nothing more, found '1'");

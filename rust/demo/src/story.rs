@@ -1,10 +1,11 @@
 //! A script as it was played: what the reports showed in every tick, and the events.
 
-use crate::cabling::{all_ports, Port};
+use crate::cabling::{all_ports, Port, Switch};
 use crate::network::{Came, End, Look, Network};
 use crate::outcome::ticks;
 use crate::script::{Command, LinkChange, Script, Setting};
-use myrkosti::{Asked, Counters, Refusal};
+use crate::trunk::TrunkPage;
+use myrkosti::{Asked, Cause, Counters, Refusal};
 use std::ops::Range;
 use std::rc::Rc;
 
@@ -23,6 +24,10 @@ pub struct Story {
     pub(crate) churning: Vec<Churning>,
     /// What is told of Markers, in the order of time.
     pub(crate) markers: Vec<Marker>,
+    /// What the switches said of ports that did not carry or were apart, in the order of time.
+    pub(crate) said: Vec<Said>,
+    /// The pages of the trunks of A and of B in the end.
+    pub(crate) trunks: [Vec<TrunkPage>; 2],
     /// What the ports of A and of B had counted in the end.
     counters: [Vec<Counters>; 2],
     /// The Markers that had been asked for on them.
@@ -34,6 +39,13 @@ pub struct Marker {
     pub port: Port,
     pub tick: usize,
     pub came: Came,
+}
+
+/// A sentence of a switch: why a port carries no longer or not yet, or why two are together no longer.
+pub struct Said {
+    pub switch: Switch,
+    pub tick: usize,
+    pub sentence: String,
 }
 
 /// A time during which a port's link churned at one end.
@@ -77,10 +89,12 @@ pub fn play(script: &Script) -> Result<Story, Refusal> {
     if !matches!(script.commands.last(), Some(Command::Tick(_))) {
         story.keep(&network)?;
     }
-    (story.counters, story.asked) = (network.counters(), network.asked()?);
+    (story.counters, story.asked, story.trunks) = (network.counters(), network.asked()?, network.trunk_pages()?);
     for port in all_ports(script.ports) {
         End::BOTH.into_iter().for_each(|end| story.keep_churning(port, end));
+        story.keep_whys(port);
     }
+    story.said.sort_by_key(|said| said.tick);
     Ok(story)
 }
 
@@ -93,6 +107,8 @@ impl Story {
             events: Vec::new(),
             churning: Vec::new(),
             markers: Vec::new(),
+            said: Vec::new(),
+            trunks: [Vec::new(), Vec::new()],
             counters: [Vec::new(), Vec::new()],
             asked: [Vec::new(), Vec::new()],
         }
@@ -129,6 +145,7 @@ impl Story {
     /// What the reports show now is what they show in this tick.
     fn keep(&mut self, network: &Network) -> Result<(), Refusal> {
         let look = network.look()?;
+        self.keep_parted(network, &look)?;
         let same = self.looks.last().filter(|last| ***last == look).cloned();
         self.looks.push(same.unwrap_or_else(|| Rc::new(look)));
         self.sent.push(network.sent());
@@ -139,6 +156,55 @@ impl Story {
     fn keep_markers(&mut self, network: &mut Network) {
         let tick = self.looks.len();
         self.markers.extend(network.tell().into_iter().map(|(port, came)| Marker { port, tick, came }));
+    }
+
+    /// Two ports that held one aggregator in the tick before, and now do not: the lowest of those that did and the lowest of each part that
+    /// went.
+    fn keep_parted(&mut self, network: &Network, look: &Look) -> Result<(), Refusal> {
+        let (tick, Some(last)) = (self.looks.len(), self.looks.last().cloned()) else { return Ok(()) };
+        for port in all_ports(self.ports) {
+            let held = |number| last.port(Port { number, ..port }).aggregator;
+            let holds = |number| look.port(Port { number, ..port }).aggregator;
+            let mut before = (1..=self.ports).filter(|other| held(*other) == held(port.number));
+            let Some(first) = before.next().filter(|first| holds(*first) != holds(port.number)) else { continue };
+            if before.find(|other| holds(*other) == holds(port.number)) == Some(port.number) {
+                let sentence = network.apart(Port { number: first, ..port }, port.number)?.to_string();
+                self.said.push(Said { switch: port.switch, tick, sentence });
+            }
+        }
+        Ok(())
+    }
+
+    /// What is told of a port: why it carries no longer, in the tick in which it stops; that it carries on its settings alone, when it
+    /// begins to; and of each event for what it does not carry in the end, unless that was told already or its link never came up.
+    fn keep_whys(&mut self, port: Port) {
+        let why = |tick: usize| self.looks[tick].port(port).why;
+        let mut said = Vec::new();
+        let (mut told, mut before) = (None, Cause::LinkDown);
+        for event in 0..self.events.len() {
+            let from = self.events[event].tick;
+            let to = from + self.span(event).len();
+            for tick in from..to {
+                let now = why(tick).cause;
+                let stops = before.carries() && !now.carries();
+                let alone = now == Cause::CarriesByDefault && before != now;
+                if stops || alone {
+                    said.push(tick);
+                    told = Some(now.number());
+                }
+                told = told.filter(|_| !now.carries());
+                before = now;
+            }
+            let was_up = told.is_some() || before != Cause::LinkDown;
+            if !before.carries() && was_up && told != Some(before.number()) {
+                let same = |tick: &usize| why(*tick).cause.number() == before.number();
+                said.extend((from..to).rev().take_while(same).last());
+                told = Some(before.number());
+            }
+        }
+        let sentence = |tick| Said { switch: port.switch, tick, sentence: why(tick).to_string() };
+        let said: Vec<Said> = said.into_iter().map(sentence).collect();
+        self.said.extend(said);
     }
 
     /// Remembers when that end churned, which a report does not tell.
@@ -213,5 +279,8 @@ fn setting_words(setting: Setting) -> String {
         Setting::Key(key) => format!("with key {key}"),
         Setting::ShortTimeout(short) => format!("with {} timeout", if short { "short" } else { "long" }),
         Setting::Active(active) => if active { "active" } else { "passive" }.into(),
+        Setting::Aggregatable(true) => "set to join others".into(),
+        Setting::Aggregatable(false) => "set to stay alone".into(),
+        Setting::DefaultPartner(key) => format!("with a default partner of key {key}, in sync and collecting"),
     }
 }

@@ -2,7 +2,7 @@
 
 use crate::cabling::{all_ports, Port, Switch};
 use crate::network::{End, State};
-use crate::outcome::{outcome, ticks};
+use crate::outcome::{outcome, said, ticks};
 use crate::page::page;
 use crate::story::Story;
 use myrkosti::AskOutcome;
@@ -32,7 +32,7 @@ const CHURN: &str = "t f b  the link churns: for a minute and more t this end, f
 /// What the row under a port that was asked for Markers shows.
 const ASKED: &str = "o + x /  the last Marker that was asked for: o awaited, + answered, x timed out, / cancelled";
 
-/// The legend, the timeline, the events with what became of the trunk, and the port pages.
+/// The legend, the timeline, the events with what became of the trunk, and the pages of the trunks and of the ports.
 pub fn text(story: &Story) -> String {
     let step = round_step(|step| story.looks.len().div_ceil(step) <= COLUMNS);
     let mut lines = introduction(story, step);
@@ -60,6 +60,10 @@ pub fn text(story: &Story) -> String {
         let words = format!("tick {} ({} s): {}", event.tick, seconds(event.tick), event.words());
         lines.extend(paragraph(&format!("{:>2}", at + 1), &words));
         lines.extend(paragraph("", &outcome(story, at)));
+        lines.extend(said(story, at).iter().flat_map(|said| paragraph("", said)));
+    }
+    for (switch, trunks) in Switch::BOTH.into_iter().zip(&story.trunks) {
+        lines.extend(trunks.iter().flat_map(|trunk| trunk.lines(switch)));
     }
     for (switch, (ports, asked)) in Switch::BOTH.into_iter().zip(story.counters().iter().zip(story.asked())) {
         lines.extend(page(switch, ports, asked));

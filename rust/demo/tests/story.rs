@@ -172,6 +172,70 @@ fn a_link_drains_or_not() {
     assert_eq!((b[1].markers_received, b[1].marker_responses_sent), (2, 2));
 }
 
+/// The incident: every lamp is green, and the trunk runs at half rate. Each way into it has its sentence.
+#[test]
+fn a_trunk_at_half_rate_says_why() {
+    let story = story(include_str!("../stories/half-rate.txt"));
+    let (text, said) = (text(&story), words(&text(&story)));
+    let events: Vec<String> = text.split("\n\n").filter(|part| part.contains("  tick ")).map(words).collect();
+    assert_eq!(events.len(), 5, "{text}");
+    // new settings do not reach a partner that is heard: the trunk stays, and nothing is said
+    assert!(events[1].contains("[A2, A4 with a default partner of key 7, in sync and collecting]"));
+    assert!(events[1].ends_with("A and B: aggregator 1 carries on ports 1 2 3 4 all the while."), "{}", events[1]);
+    for (event, told) in [
+        (2, "A at once: Ports 1 and 2 are apart: the keys of their partners differ. Port 2 waits, 20 ticks more."),
+        (2, "B at once: Ports 1 and 2 are apart: their own keys differ. Port 2 waits, 20 ticks more."),
+        (3, "A at once: Ports 1 and 3 are apart: port 3 is set to stay alone. Port 3 waits, 20 ticks more."),
+        (3, "B at once: Ports 1 and 3 are apart: the partner of port 3 stays alone. Port 3 waits, 20 ticks more."),
+        (4, "A and B at tick 190 (19 s): Port 4 does not carry: its partner is silent."),
+        (4, "A at tick 220 (22 s): Ports 1 and 4 are apart: the system priorities of their partners differ, the system \
+             addresses of their partners differ, and the keys of their partners differ."),
+        (4, "differ. Port 4 does not carry: no partner is heard on it."),
+        (4, "A at tick 240 (24 s): Port 4 carries on its settings alone: no partner is heard to agree."),
+    ] {
+        assert!(events[event].contains(told), "{told}: {}", events[event]);
+    }
+    let trunk = |of: &str| words(text.split(of).nth(1).unwrap().split("\nTrunk page").next().unwrap());
+    let first = trunk("Trunk page of A, aggregator 1");
+    assert!(first.starts_with(
+        "carry Port 1 carries. apart Port 2 carries. Ports 1 and 2 are apart: the keys of their partners differ. \
+         Port 3 carries. Ports 1 and 3 are apart: port 3 is set to stay alone. \
+         Port 4 carries on its settings alone: no partner is heard to agree. Ports 1 and 4 are apart: "
+    ));
+    let first = trunk("Trunk page of B, aggregator 1");
+    assert!(first
+        .contains("Port 4 does not carry: no partner is heard on it. Ports 1 and 4 are apart: the partner of port 4 "));
+    assert_eq!((said.matches("Trunk page of A, ").count(), said.matches("Trunk page of B, ").count()), (4, 3));
+    assert!(row(&text, "width A").trim().starts_with("0000444444444444333") && row(&text, "width A").ends_with('1'));
+    assert!(text.lines().all(|line| line.chars().count() <= LINE));
+    assert!(words(&svg(&story)).contains("Ports 1 and 2 are apart: the keys of their partners differ."));
+}
+
+#[test]
+fn a_port_that_does_not_start_to_carry_says_why() {
+    let said = |script: &str| words(&text(&story(script)));
+    let waits = said("switches 2\nup 1\ntick 8\nup 2\ntick 13\nnote x\ntick 4\nnote y\ntick 20");
+    assert!(waits.contains("A and B at once: Port 1 waits, 20 ticks more."), "{waits}");
+    assert!(waits.contains("A and B at tick 20 (2 s): Port 1 waits for port 2, 8 ticks more."), "{waits}");
+    let unheard = said("switches 2\nsilence 1\nup 1\ntick 20\nnote x\ntick 40\nhalf A 1\ntick 5\ndown 1\ntick 5");
+    assert!(unheard.contains("A and B at once: Port 1 does not carry: its partner is silent."), "{unheard}");
+    assert!(unheard.contains("A and B at tick 30 (3 s): Port 1 does not carry: no partner is heard on it."));
+    assert!(unheard.contains("A at once: Port 1 does not carry: its link is at half duplex, so LACP is off."));
+    assert!(unheard.contains("A and B at once: Port 1 does not carry: its link is down."));
+    assert!(unheard.contains("Trunk page of A: no port carries do not Port 1 does not carry: its link is down. Port 2"));
+    // one fibre is broken: one end hears that the other does not know of it
+    let deaf = said("switches 2\nup 1\nup 2\ndeaf B 2\ntick 60");
+    assert!(deaf.contains("Port 2 does not carry: its partner is not in sync with it."), "{deaf}");
+    // a port that is set up to carry by itself is told when it begins to; one without a cable is not told of
+    let alone = said("switches 2\ndefault A 1 7\nhalf A 1\nup 1\ntick 60");
+    assert!(
+        alone.contains("A at tick 20 (2 s): Port 1 carries on its settings alone: no partner is heard to agree."),
+        "{alone}"
+    );
+    let told = alone.split("Trunk page").next().unwrap();
+    assert!(!told.contains("Port 2"), "{told}");
+}
+
 /// Up to where both links carry.
 const CARRYING: &str = "switches 2\nup 1\nup 2\ntick 40\n";
 

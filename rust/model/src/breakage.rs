@@ -266,11 +266,91 @@ pub enum Breakage {
     WaitTimerOf601Accepted,
     /// A Marker that is awaited with its timer at 0 is out of range.
     AwaitingAtZeroRefused,
+    /// The cause that the link is down is tried before those of a port that distributes.
+    LinkDownBeforeCarries,
+    /// Half duplex is tried before whether the port distributes on its settings alone.
+    HalfDuplexBeforeCarriesByDefault,
+    /// Half duplex is tried before the link.
+    HalfDuplexBeforeLinkDown,
+    /// DEFAULTED is tried before half duplex.
+    DefaultedBeforeHalfDuplex,
+    /// A wait timer that runs is tried before DEFAULTED.
+    WaitsBeforeDefaulted,
+    /// It is tried before EXPIRED.
+    WaitsBeforeExpired,
+    /// The partner's Synchronization is tried before whether another port holds back.
+    OutOfSyncBeforeHeldBack,
+    /// The partner's Collecting is tried before its Synchronization.
+    NotCollectingBeforeOutOfSync,
+    /// A port that distributes by the default block in DEFAULTED is said to do so by its partner's word.
+    DefaultTakenForPartner,
+    /// A port that distributes with LACP off is said to.
+    LacpOffTakenForPartner,
+    /// Whether a port distributes on its settings alone is read from its bit Defaulted: another answer only in memory that no run makes.
+    SettingsAloneByBit,
+    /// A port is said to wait by its timer, whatever its Mux state.
+    WaitsByItsTimerAlone,
+    /// A port is said to wait by its Mux state, whatever its timer.
+    WaitsByItsStateAlone,
+    /// A port is said to be held back whatever its Mux state.
+    HeldBackInAnyState,
+    /// Out of sync is said by our own Synchronization.
+    OwnSynchronizationForPartners,
+    /// Not collecting is said by the partner's Distributing.
+    DistributingForCollecting,
+    /// A port that waits for another aggregator holds back.
+    HolderOfAnyAggregator,
+    /// A port whose wait timer runs outside WAITING holds back.
+    HolderInAnyState,
+    /// The lowest port that holds back is named, not the one with the most ticks left.
+    HolderIsTheFirst,
+    /// The highest of several with the most ticks left is named.
+    HolderIsTheHighest,
+    /// The port that holds back is not named.
+    HolderUnnamed,
+    /// A port that is held back is given the ticks of its own timer.
+    HeldBackWithOwnTicks,
+    /// A port that holds back is named beside other causes too.
+    HolderBesideAnyCause,
+    /// The ticks of the port's own timer stand beside other causes too.
+    TicksBesideAnyCause,
+    /// A refused why writes no number.
+    RefusedWhyUnwritten,
+    /// A why of a port that no table has is answered 2 before the table is looked at.
+    PortTestedBeforeTable,
+    /// The bit of own keys is that of the partners' keys, and the other way round.
+    KeysExchanged,
+    /// What the first port is individual for is said of the second, and the other way round.
+    FirstAndSecondExchanged,
+    /// Where the first port is individual, nothing is said of the second.
+    OneIndividualIsEnough,
+    /// Where a port is individual, nothing is compared.
+    IndividualHidesTheRest,
+    /// An individual port is apart from itself.
+    PortApartFromItself,
+    /// The partners' system priorities and addresses are compared as one.
+    PriorityAndAddressAsOne,
+    /// A partner with our address is taken for us, whatever its system priority.
+    LoopedByAddressAlone,
+    /// A partner with our system priority is taken for us, whatever its address.
+    LoopedByPriorityAlone,
+    /// The partner's Aggregation is read from our own state.
+    OwnAggregationForPartners,
+    /// The default blocks are compared, not the partners in force.
+    DefaultsCompared,
+    /// Of a port without link the default block is compared.
+    DownPortByDefault,
+    /// Port priorities are compared with the keys.
+    PortPrioritiesCompared,
+    /// A refused apart writes no set.
+    RefusedApartUnwritten,
+    /// A second port that there is not is answered 0.
+    SecondPortUntested,
 }
 
 impl Breakage {
     /// Every breakage, with the name by which it is asked for.
-    pub const ALL: [(&'static str, Breakage); 130] = [
+    pub const ALL: [(&'static str, Breakage); 170] = [
         ("partners-timeout", Breakage::PartnersTimeout),
         ("compares-after-recording", Breakage::ComparesAfterRecording),
         ("expired-records-default", Breakage::ExpiredRecordsDefault),
@@ -401,6 +481,46 @@ impl Breakage {
         ("outcome-of-5-accepted", Breakage::OutcomeOf5Accepted),
         ("wait-timer-of-601-accepted", Breakage::WaitTimerOf601Accepted),
         ("awaiting-at-zero-refused", Breakage::AwaitingAtZeroRefused),
+        ("link-down-before-carries", Breakage::LinkDownBeforeCarries),
+        ("half-duplex-before-carries-by-default", Breakage::HalfDuplexBeforeCarriesByDefault),
+        ("half-duplex-before-link-down", Breakage::HalfDuplexBeforeLinkDown),
+        ("defaulted-before-half-duplex", Breakage::DefaultedBeforeHalfDuplex),
+        ("waits-before-defaulted", Breakage::WaitsBeforeDefaulted),
+        ("waits-before-expired", Breakage::WaitsBeforeExpired),
+        ("out-of-sync-before-held-back", Breakage::OutOfSyncBeforeHeldBack),
+        ("not-collecting-before-out-of-sync", Breakage::NotCollectingBeforeOutOfSync),
+        ("default-taken-for-partner", Breakage::DefaultTakenForPartner),
+        ("lacp-off-taken-for-partner", Breakage::LacpOffTakenForPartner),
+        ("settings-alone-by-bit", Breakage::SettingsAloneByBit),
+        ("waits-by-its-timer-alone", Breakage::WaitsByItsTimerAlone),
+        ("waits-by-its-state-alone", Breakage::WaitsByItsStateAlone),
+        ("held-back-in-any-state", Breakage::HeldBackInAnyState),
+        ("own-synchronization-for-partners", Breakage::OwnSynchronizationForPartners),
+        ("distributing-for-collecting", Breakage::DistributingForCollecting),
+        ("holder-of-any-aggregator", Breakage::HolderOfAnyAggregator),
+        ("holder-in-any-state", Breakage::HolderInAnyState),
+        ("holder-is-the-first", Breakage::HolderIsTheFirst),
+        ("holder-is-the-highest", Breakage::HolderIsTheHighest),
+        ("holder-unnamed", Breakage::HolderUnnamed),
+        ("held-back-with-own-ticks", Breakage::HeldBackWithOwnTicks),
+        ("holder-beside-any-cause", Breakage::HolderBesideAnyCause),
+        ("ticks-beside-any-cause", Breakage::TicksBesideAnyCause),
+        ("refused-why-unwritten", Breakage::RefusedWhyUnwritten),
+        ("port-tested-before-table", Breakage::PortTestedBeforeTable),
+        ("keys-exchanged", Breakage::KeysExchanged),
+        ("first-and-second-exchanged", Breakage::FirstAndSecondExchanged),
+        ("one-individual-is-enough", Breakage::OneIndividualIsEnough),
+        ("individual-hides-the-rest", Breakage::IndividualHidesTheRest),
+        ("port-apart-from-itself", Breakage::PortApartFromItself),
+        ("priority-and-address-as-one", Breakage::PriorityAndAddressAsOne),
+        ("looped-by-address-alone", Breakage::LoopedByAddressAlone),
+        ("looped-by-priority-alone", Breakage::LoopedByPriorityAlone),
+        ("own-aggregation-for-partners", Breakage::OwnAggregationForPartners),
+        ("defaults-compared", Breakage::DefaultsCompared),
+        ("down-port-by-default", Breakage::DownPortByDefault),
+        ("port-priorities-compared", Breakage::PortPrioritiesCompared),
+        ("refused-apart-unwritten", Breakage::RefusedApartUnwritten),
+        ("second-port-untested", Breakage::SecondPortUntested),
     ];
 
     /// The breakage of that name.

@@ -1,6 +1,7 @@
 //! The calls of `rust/calls`, which are those of `include/myrkosti.h`: refusals in their order (R2.14 of docs/RULES.md), then the
 //! steps of R4. Each answers its number (R2).
 
+use crate::apart;
 use crate::asks::{self, Asked, Fate};
 use crate::breakage::{self, Breakage};
 use crate::churn::Churn;
@@ -8,13 +9,15 @@ use crate::counters;
 use crate::moves;
 use crate::receive::displace;
 use crate::record::{
-    Form, Mux, Periodic, Port, Receive, Settings, Table, ASKED, BASE, CHURN, HEADER, OLDEST_AGE, OWN_BITS, RECORD,
+    Form, Mux, Periodic, Port, Receive, Settings, Table, ASKED, BASE, CHURN, HEADER, OLDEST_AGE, OWN_BITS, PORTS,
+    RECORD,
 };
+use crate::why::{self, Why};
 use crate::wire::{self, Block, Frame, State, FRAME};
 use ::calls::{Call, Counters, Outcome, Report, SettingsArguments};
 
 /// The version of the interface that the model performs.
-const VERSION: u32 = 0x0201;
+const VERSION: u32 = 0x0202;
 
 /// Why a call was refused; the discriminants are the answer numbers.
 #[derive(Clone, Copy, Debug, PartialEq, Eq)]
@@ -109,6 +112,16 @@ pub fn report(report: Report, table: &[u8], lent: &mut [u8]) -> Outcome {
         Report::OldTableSize { ports } => old_table_size(ports),
         Report::Forward => number(moves::perform(Form::New, table, lent)),
         Report::Back => number(moves::perform(Form::Old, table, lent)),
+        Report::Why { port } => {
+            let why = why_of(table, port);
+            outcome.why = why::numbers(why, outcome.why);
+            number(why)
+        }
+        Report::Apart { first, second } => {
+            let reasons = apart_of(table, first, second);
+            outcome.apart = apart::number(reasons, outcome.apart);
+            number(reasons)
+        }
     };
     outcome
 }
@@ -529,6 +542,24 @@ fn due(memory: &[u8]) -> Result<u32, Refusal> {
     let table = Table::read(memory).ok_or(Refusal::TableWrong)?;
     let ports = table.ports.iter().enumerate().filter(|(_, port)| port.may_send());
     Ok(ports.fold(0, |set, (place, _)| set | 1 << place))
+}
+
+/// Why a port carries or does not.
+fn why_of(memory: &[u8], n: u32) -> Result<Why, Refusal> {
+    if !(1..=PORTS).contains(&n) && breakage::is(Breakage::PortTestedBeforeTable) {
+        return Err(Refusal::NoSuchPort);
+    }
+    Ok(open(memory, n)?.why(n))
+}
+
+/// Why two ports are apart.
+fn apart_of(memory: &[u8], first: u32, second: u32) -> Result<u32, Refusal> {
+    let table = open(memory, first)?;
+    if open(memory, second).is_err() && breakage::is(Breakage::SecondPortUntested) {
+        return Ok(0);
+    }
+    open(memory, second)?;
+    Ok(table.apart(first, second))
 }
 
 impl Port {

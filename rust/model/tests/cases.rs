@@ -182,7 +182,7 @@ fn a_response_as_laid_out() {
 
 #[test]
 fn version() {
-    assert_eq!(Bench { memory: Vec::new() }.report(Report::Version), Outcome { answer: 0x0201, ..Outcome::UNTOUCHED });
+    assert_eq!(Bench { memory: Vec::new() }.report(Report::Version), Outcome { answer: 0x0202, ..Outcome::UNTOUCHED });
 }
 
 #[test]

@@ -5,21 +5,21 @@
  * A batch is its length in octets (4), then its requests, one after the other. A request is
  *
  *    0       call: 0 table_size, 1 start, 2 receive, 3 tick, 4 line, 5 settings, 6 fetch, 7 port, 8 aggregator, 9 due,
- *            10 version, 11 old_table_size, 12 forward, 13 back, 14 ask
+ *            10 version, 11 old_table_size, 12 forward, 13 back, 14 ask, 15 why, 16 apart
  *    1       flags: bit 0 activity or up; bit 1 timeout or full; bit 2 aggregation
- *    2-5     ports, port or aggregator
+ *    2-5     ports, port, the first of two ports, or aggregator
  *    6-7     system priority          8-9     CollectorMaxDelay
  *   10-11    key                     12-13    port priority
  *   14-19    system                  20-25    address
  *   26-40    partner
  *   41-44    octets of the table     45-48    octets of the frame
  *   49-52    octets of what is written beside the table: the outgoing buffer, the record, or the table that a move makes of the first
- *   53-56    ticks for which a Marker is awaited
+ *   53-56    ticks for which a Marker is awaited, or the second of two ports
  *   57-84    seven counters of a port
  *
- * and then those octets. A reply is answer (4), sent (4), five numbers of an aggregator (4 each), the set of what is due (4), the seven
- * counters (4 each), then the octets of the table and of what is written beside it. A number that a call does not write comes back as 0xEE in
- * each octet, a counter as it came. Numbers are low octet first.
+ * and then those octets. A reply is answer (4), sent (4), five numbers of an aggregator (4 each), the set of what is due (4), the three
+ * numbers of why (4 each), the set of reasons (4), the seven counters (4 each), then the octets of the table and of what is written beside it.
+ * A number that a call does not write comes back as 0xEE in each octet, a counter as it came. Numbers are low octet first.
  *
  * The three and the counters are lent so that they end where memory ends: a call that reads or writes past them is stopped by the machine.
  * Octets before them are looked at after each call.
@@ -164,7 +164,7 @@ static uint8_t *perform(const uint8_t **request, const uint8_t *end, uint8_t *re
     uint8_t *out = lend(out_end, r + REQUEST + table_len + frame_len, out_len);
     struct myrkosti_counters *counters = lend_counters(r + AT_COUNTERS);
 
-    uint32_t n = number(r + 2, 4), ticks = number(r + 53, 4), answer, sent, five[5], due;
+    uint32_t n = number(r + 2, 4), other = number(r + 53, 4), answer, sent, five[5], due, why[3], reasons;
     uint16_t system_priority = (uint16_t)number(r + 6, 2), delay = (uint16_t)number(r + 8, 2);
     uint16_t key = (uint16_t)number(r + 10, 2), priority = (uint16_t)number(r + 12, 2);
     const uint8_t *system = r + 14, *address = r + 20, *partner = r + 26;
@@ -172,6 +172,8 @@ static uint8_t *perform(const uint8_t **request, const uint8_t *end, uint8_t *re
     memset(&sent, UNTOUCHED, sizeof sent);
     memset(five, UNTOUCHED, sizeof five);
     memset(&due, UNTOUCHED, sizeof due);
+    memset(why, UNTOUCHED, sizeof why);
+    memset(&reasons, UNTOUCHED, sizeof reasons);
 
     switch (r[0]) {
     case 0: answer = myrkosti_table_size(n); break;
@@ -190,7 +192,9 @@ static uint8_t *perform(const uint8_t **request, const uint8_t *end, uint8_t *re
     case 11: answer = myrkosti_old_table_size(n); break;
     case 12: answer = myrkosti_forward(table, table_len, out, out_len); break;
     case 13: answer = myrkosti_back(table, table_len, out, out_len); break;
-    case 14: answer = myrkosti_ask(table, table_len, n, ticks, out, out_len); break;
+    case 14: answer = myrkosti_ask(table, table_len, n, other, out, out_len); break;
+    case 15: answer = myrkosti_why(table, table_len, n, &why[0], &why[1], &why[2]); break;
+    case 16: answer = myrkosti_apart(table, table_len, n, other, &reasons); break;
     default: fail("no such call"); return reply;
     }
 
@@ -207,6 +211,10 @@ static uint8_t *perform(const uint8_t **request, const uint8_t *end, uint8_t *re
         reply = put_number(reply, five[i]);
     }
     reply = put_number(reply, due);
+    for (unsigned i = 0; i < 3; i++) {
+        reply = put_number(reply, why[i]);
+    }
+    reply = put_number(reply, reasons);
     reply = put_counters(reply, counters);
     reply = put_octets(reply, table, table_len);
     *request = r + REQUEST + table_len + frame_len + out_len;

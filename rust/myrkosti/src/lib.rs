@@ -50,6 +50,9 @@
 //! Before a conversation is moved to another link, the one that it leaves must have drained. [`Table::ask`] gives a Marker to be sent
 //! behind it, and the port's [`Record`] then says whether its Response came: [`Asked`].
 //!
+//! Why a port does not carry, and why two ports are in no common trunk, [`Table::why`] and [`Table::apart`] say in one sentence each:
+//! [`Why`], [`Apart`].
+//!
 //! Before churn was watched for, a table had another form. [`Table::from_old`] and [`Table::to_old`] move one from either form into the
 //! other while its trunks carry: for firmware that is changed between two calls.
 //!
@@ -60,22 +63,26 @@
 //! [`raw`] has the calls as in `include/myrkosti.h`, with numbers and lent octets, and a way to perform many at once.
 
 mod answer;
+mod apart;
 mod asked;
 mod churn;
 pub mod raw;
 mod record;
 mod table;
+mod why;
 
 pub use answer::{Answer, Refusal};
+pub use apart::{Apart, Reasons};
 pub use asked::{AskOutcome, Asked};
 #[doc(inline)]
 pub use calls::{Counters, BLOCK};
 pub use churn::{Churn, ChurnMonitor, ChurnSince, ChurnState};
 pub use record::{Block, MuxState, PeriodicState, PortState, ReceiveState, Record, Settings, SystemId};
 pub use table::{AggregatorReport, PortSet, Received, Table, TableRef};
+pub use why::{Cause, Why};
 
 /// The version of the library's interface that this crate was written for.
-pub const VERSION: u32 = 0x0201;
+pub const VERSION: u32 = 0x0202;
 /// The most ports that a table has.
 pub const PORTS: u32 = 32;
 /// Octets of a port's record.

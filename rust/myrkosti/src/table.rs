@@ -1,7 +1,9 @@
 //! Tables and their reports.
 
 use crate::answer::{Answer, Refusal};
+use crate::apart::{Apart, Reasons};
 use crate::record::{Record, Settings, SystemId};
+use crate::why::{Cause, Why};
 use crate::{raw, FRAME, RECORD};
 use calls::{Call, Counters, Outcome, Report, SettingsArguments};
 
@@ -357,6 +359,26 @@ impl<M: AsRef<[u8]> + AsMut<[u8]>> Table<M> {
     /// [`Refusal::TableWrong`].
     pub fn due(&self) -> Result<PortSet, Refusal> {
         Ok(PortSet(self.report(Report::Due)?.due))
+    }
+
+    /// Why a port carries or does not: a sentence for the support desk, and what it is made of.
+    ///
+    /// # Errors
+    /// [`Refusal::TableWrong`], [`Refusal::NoSuchPort`].
+    pub fn why(&self, port: u32) -> Result<Why, Refusal> {
+        let cause = Cause::from_numbers(self.report(Report::Why { port })?.why);
+        Ok(Why { port, cause })
+    }
+
+    /// Why two ports are in no common group, or that they share one: a sentence for the support desk, and what it is made of. It is what
+    /// the selection rule compares, whatever link, duplex and states are: of a port that hears nobody, or whose link is down, the partner is
+    /// the one in its [`Record::partner`].
+    ///
+    /// # Errors
+    /// [`Refusal::TableWrong`], [`Refusal::NoSuchPort`] for either.
+    pub fn apart(&self, first: u32, second: u32) -> Result<Apart, Refusal> {
+        let reasons = Reasons(self.report(Report::Apart { first, second })?.apart);
+        Ok(Apart { first, second, reasons })
     }
 
     fn perform(&mut self, call: &Call, out: &mut [u8], counters: &mut Counters) -> Result<Outcome, Refusal> {

@@ -1,8 +1,9 @@
 //! Every method of a table, with its refusals, and the version.
 
 use myrkosti::{
-    raw, version, AskOutcome, Asked, Block, Churn, ChurnMonitor, ChurnState, Counters, MuxState, PortState,
-    ReceiveState, Received, Refusal, Settings, SystemId, Table, TableRef, FRAME, LONGEST_WAIT, RECORD, VERSION,
+    raw, version, AskOutcome, Asked, Block, Cause, Churn, ChurnMonitor, ChurnState, Counters, MuxState, PortState,
+    Reasons, ReceiveState, Received, Refusal, Settings, SystemId, Table, TableRef, Why, FRAME, LONGEST_WAIT, RECORD,
+    VERSION,
 };
 
 const OURS: SystemId = SystemId { priority: 1, address: [0, 0, 0, 0, 0, 9] };
@@ -25,7 +26,15 @@ fn wrong_default() -> Settings {
 }
 
 fn lacpdu(port: u16, partner: &Block) -> [u8; FRAME] {
-    let actor = Block { system: THEIRS, key: 1, port_priority: 1, port, state: PortState(0x3F) };
+    lacpdu_of(&theirs(port), partner)
+}
+
+/// What their port of that number says of itself.
+fn theirs(port: u16) -> Block {
+    Block { system: THEIRS, key: 1, port_priority: 1, port, state: PortState(0x3F) }
+}
+
+fn lacpdu_of(actor: &Block, partner: &Block) -> [u8; FRAME] {
     let mut frame = [0; FRAME];
     frame[..18].copy_from_slice(&[1, 0x80, 0xC2, 0, 0, 2, 2, 0, 0, 0, 0, 5, 0x88, 9, 1, 1, 1, 20]);
     frame[18..33].copy_from_slice(&actor.to_octets());
@@ -55,7 +64,7 @@ fn actor(table: &Table, port: u32) -> Block {
 
 #[test]
 fn the_version_is_the_one_written_for() {
-    assert_eq!((version(), VERSION), (Ok(0x0201), 0x0201));
+    assert_eq!((version(), VERSION), (Ok(0x0202), 0x0202));
 }
 
 #[test]
@@ -326,6 +335,11 @@ fn refusals() {
         assert_eq!(table.receive(port, &frame, &mut out, &mut unread()), Err(Refusal::NoSuchPort));
         assert_eq!(table.port(port), Err(Refusal::NoSuchPort));
         assert_eq!(table.aggregator(port), Err(Refusal::NoSuchPort));
+        assert_eq!(table.why(port), Err(Refusal::NoSuchPort));
+        assert_eq!(
+            [(port, 1), (1, port), (port, port)].map(|(p, q)| table.apart(p, q).err()),
+            [Some(Refusal::NoSuchPort); 3]
+        );
     }
     assert_eq!(table.settings(1, &wrong_default()), Err(Refusal::DefaultWrong));
     assert_eq!(table.fetch(1, &mut out[1..], &mut unread()), Err(Refusal::BufferShort));
@@ -519,6 +533,242 @@ fn a_table_from_before_markers_becomes_one_of_today() {
     assert!(Table::from_old(&[before, &[0; 7 * 2]].concat()).is_ok());
 }
 
+/// A table of three ports whose links are up, and which have this default.
+fn three_up(default_partner: Block) -> Table {
+    let mut table = Table::start(3, OURS, 0, &Settings { default_partner, ..settings() }).unwrap();
+    (1..=3).for_each(|port| table.line(port, true, true).unwrap());
+    table
+}
+
+/// A port hears this far end, which repeats what the port says of itself.
+fn hear(table: &mut Table, port: u32, far: Block) {
+    let ours = Block { key: table.port(port).unwrap().settings.key, ..actor(table, port) };
+    table.receive(port, &lacpdu_of(&far, &ours), &mut [0; FRAME], &mut unread()).unwrap();
+}
+
+fn ticks(table: &mut Table, count: u32) {
+    (0..count).for_each(|_| table.tick().unwrap());
+}
+
+/// Why a port carries or does not. A port carries exactly if its aggregator's report has it.
+fn cause(table: &Table, port: u32) -> Cause {
+    let why = table.why(port).unwrap();
+    let aggregator = table.port(port).unwrap().aggregator.into();
+    assert_eq!(why.carries(), table.aggregator(aggregator).unwrap().distributing.contains(port));
+    assert_eq!(why, Why { port, cause: why.cause });
+    why.cause
+}
+
+#[test]
+fn every_cause_by_calls() {
+    let mut table = Table::start(3, OURS, 0, &settings()).unwrap();
+    assert_eq!(cause(&table, 1), Cause::LinkDown);
+    table.line(1, false, false).unwrap();
+    assert_eq!(cause(&table, 1), Cause::LinkDown);
+    table.line(1, true, false).unwrap();
+    assert_eq!(cause(&table, 1), Cause::HalfDuplex);
+    table.line(1, true, true).unwrap();
+    assert_eq!(cause(&table, 1), Cause::Expired);
+    ticks(&mut table, 29);
+    assert_eq!(cause(&table, 1), Cause::Expired);
+    ticks(&mut table, 1);
+    assert_eq!(cause(&table, 1), Cause::Defaulted);
+
+    hear(&mut table, 1, theirs(1));
+    assert_eq!(cause(&table, 1), Cause::Waits { ticks: 20 });
+    ticks(&mut table, 8);
+    assert_eq!(table.why(1).unwrap().to_string(), "Port 1 waits, 12 ticks more.");
+    for port in [2, 3] {
+        table.line(port, true, true).unwrap();
+        hear(&mut table, port, theirs(port as u16));
+    }
+    ticks(&mut table, 11);
+    assert_eq!([1, 2, 3].map(|port| cause(&table, port)), [1, 9, 9].map(|ticks| Cause::Waits { ticks }));
+    ticks(&mut table, 1);
+    assert_eq!(cause(&table, 1), Cause::HeldBack { by: 2, ticks: 8 });
+    assert_eq!(table.why(1).unwrap().to_string(), "Port 1 waits for port 2, 8 ticks more.");
+    let mut later = table.clone();
+    hear(&mut later, 3, Block { port_priority: 2, ..theirs(3) });
+    assert_eq!(cause(&later, 1), Cause::HeldBack { by: 3, ticks: 20 });
+    ticks(&mut table, 7);
+    assert_eq!(cause(&table, 1), Cause::HeldBack { by: 2, ticks: 1 });
+    ticks(&mut table, 1);
+    assert_eq!([1, 2, 3].map(|port| cause(&table, port)), [Cause::Carries; 3]);
+
+    hear(&mut table, 1, Block { state: PortState(0x37), ..theirs(1) });
+    assert_eq!(cause(&table, 1), Cause::OutOfSync);
+    hear(&mut table, 1, Block { state: PortState(0x2F), ..theirs(1) });
+    assert_eq!(cause(&table, 1), Cause::NotCollecting);
+    hear(&mut table, 1, Block { state: PortState(0x27), ..theirs(1) });
+    assert_eq!(cause(&table, 1), Cause::OutOfSync);
+    hear(&mut table, 1, theirs(1));
+    assert_eq!(cause(&table, 1), Cause::Carries);
+    ticks(&mut table, 30);
+    assert_eq!(cause(&table, 1), Cause::Expired);
+    table.line(1, false, true).unwrap();
+    assert_eq!(cause(&table, 1), Cause::LinkDown);
+}
+
+#[test]
+fn a_port_that_carries_on_its_settings_alone_says_so() {
+    let mut table = three_up(Block { state: PortState(0x1C), ..Block::default() });
+    table.line(2, true, false).unwrap();
+    assert_eq!(cause(&table, 1), Cause::Expired);
+    assert_eq!(cause(&table, 2), Cause::HalfDuplex);
+    ticks(&mut table, 50);
+    assert_eq!(
+        [1, 2].map(|port| table.port(port).unwrap().receive),
+        [ReceiveState::Defaulted, ReceiveState::LacpDisabled]
+    );
+    assert_eq!([1, 2].map(|port| cause(&table, port)), [Cause::CarriesByDefault; 2]);
+    let said = table.why(2).unwrap().to_string();
+    assert_eq!(said, "Port 2 carries on its settings alone: no partner is heard to agree.");
+    hear(&mut table, 1, theirs(1));
+    ticks(&mut table, 20);
+    assert_eq!(cause(&table, 1), Cause::Carries);
+}
+
+/// The incident: once a new default was written over a partner that had introduced itself, and the port went to an aggregator by itself.
+/// Here the partner stays while it is heard, and so does the trunk. When it falls silent the default counts, and the reports say so.
+#[test]
+fn a_new_default_leaves_a_partner_that_is_heard() {
+    let mut table = three_up(Block::default());
+    (1..=3).for_each(|port| hear(&mut table, port, theirs(port as u16)));
+    ticks(&mut table, 20);
+    let default_partner = Block { key: 7, state: PortState(0x1C), ..Block::default() };
+    let before = table.port(2).unwrap();
+    table.settings(2, &Settings { default_partner, ..settings() }).unwrap();
+    let record = table.port(2).unwrap();
+    assert_eq!((record.partner, record.mux, record.aggregator), (before.partner, before.mux, before.aggregator));
+    assert_eq!((record.settings.default_partner, cause(&table, 2)), (default_partner, Cause::Carries));
+    assert!(table.apart(1, 2).unwrap().is_empty());
+    let mut causes = Vec::new();
+    for tick in 0..60 {
+        if tick % 10 == 0 {
+            [1, 3].into_iter().for_each(|port| hear(&mut table, port, theirs(port as u16)));
+        }
+        causes.push(cause(&table, 2));
+        table.tick().unwrap();
+    }
+    causes.dedup();
+    assert_eq!(causes, [Cause::Carries, Cause::Expired, Cause::Defaulted]);
+    assert_eq!((table.port(2).unwrap().partner, cause(&table, 2)), (default_partner, Cause::CarriesByDefault));
+    assert_eq!([1, 3].map(|port| cause(&table, port)), [Cause::Carries; 2]);
+    let said = "Ports 1 and 2 are apart: the system priorities of their partners differ, \
+                the system addresses of their partners differ, and the keys of their partners differ.";
+    assert_eq!(table.apart(1, 2).unwrap().to_string(), said);
+}
+
+/// In memory that no calls made a port may have nothing in its way and not carry: attached, with a partner that is in sync and collects.
+#[test]
+fn no_cause_in_memory_that_no_calls_made() {
+    let mut table = three_up(Block::default());
+    hear(&mut table, 2, theirs(2));
+    ticks(&mut table, 20);
+    assert_eq!(cause(&table, 2), Cause::Carries);
+    let mut memory = table.into_memory();
+    memory[11 + 57 + 2] = 2;
+    let table = Table::from_memory(memory);
+    assert_eq!(cause(&table, 2), Cause::NoCause);
+    let said = table.why(2).unwrap().to_string();
+    assert_eq!(said, "Port 2 does not carry, and nothing says why.");
+}
+
+#[test]
+fn every_reason_by_calls() {
+    let apart = |change: &dyn Fn(&mut Table), reasons: Reasons, swapped: Reasons| {
+        let mut table = three_up(Block::default());
+        (1..=3).for_each(|port| hear(&mut table, port, theirs(port as u16)));
+        assert!(table.apart(1, 3).unwrap().is_empty());
+        change(&mut table);
+        let (there, back) = (table.apart(1, 3).unwrap(), table.apart(3, 1).unwrap());
+        assert_eq!((there.reasons, back.reasons), (reasons, swapped));
+        assert_eq!((there.first, there.second, back.first, back.second), (1, 3, 3, 1));
+        assert_eq!([1, 2, 3].map(|port| table.apart(port, port).unwrap().reasons), [Reasons::default(); 3]);
+        let held = |port| table.port(port).unwrap().aggregator;
+        assert_eq!((held(1) == held(3), held(2) == held(3)), (there.is_empty(), table.apart(2, 3).unwrap().is_empty()));
+        there.to_string()
+    };
+    let set = |settings: Settings| move |table: &mut Table| table.settings(1, &settings).unwrap();
+    let far = |far: Block| move |table: &mut Table| hear(table, 1, far);
+    let same = |change: &dyn Fn(&mut Table), reasons: Reasons| apart(change, reasons, reasons);
+    assert_eq!(same(&|_| (), Reasons::default()), "Ports 1 and 3 share a group.");
+    assert_eq!(
+        apart(
+            &set(Settings { aggregation: false, ..settings() }),
+            Reasons::FIRST_INDIVIDUAL,
+            Reasons::SECOND_INDIVIDUAL
+        ),
+        "Ports 1 and 3 are apart: port 1 is set to stay alone."
+    );
+    assert_eq!(
+        apart(
+            &far(Block { state: PortState(0x3B), ..theirs(1) }),
+            Reasons::FIRST_PARTNER_INDIVIDUAL,
+            Reasons::SECOND_PARTNER_INDIVIDUAL
+        ),
+        "Ports 1 and 3 are apart: the partner of port 1 stays alone."
+    );
+    let looped = |reason: Reasons| reason.with(Reasons::PARTNER_SYSTEMS_DIFFER);
+    assert_eq!(
+        apart(&far(Block { system: OURS, ..theirs(2) }), looped(Reasons::FIRST_LOOPED), looped(Reasons::SECOND_LOOPED)),
+        "Ports 1 and 3 are apart: the partner of port 1 is this switch itself, \
+         and the system addresses of their partners differ."
+    );
+    same(&set(Settings { key: 2, ..settings() }), Reasons::KEYS_DIFFER);
+    let system = SystemId { priority: 2, ..THEIRS };
+    same(&far(Block { system, ..theirs(1) }), Reasons::PARTNER_PRIORITIES_DIFFER);
+    let system = SystemId { address: [1, 0, 0, 0, 0, 5], ..THEIRS };
+    same(&far(Block { system, ..theirs(1) }), Reasons::PARTNER_SYSTEMS_DIFFER);
+    assert_eq!(
+        same(&far(Block { key: 0x0101, ..theirs(1) }), Reasons::PARTNER_KEYS_DIFFER),
+        "Ports 1 and 3 are apart: the keys of their partners differ."
+    );
+    // what the selection rule does not read is no reason
+    let ones_own = Settings { port_priority: 7, short_timeout: false, activity: false, ..settings() };
+    same(&set(ones_own), Reasons::default());
+    same(&far(Block { port_priority: 9, port: 9, state: PortState(0x04), ..theirs(1) }), Reasons::default());
+    same(&|table| table.line(1, false, false).unwrap(), Reasons::default());
+}
+
+/// What comes of a report, which must leave the table as it was.
+fn reported(report: raw::Report, table: &[u8]) -> raw::Outcome {
+    let request = raw::Request { call: report.into(), table: table.into(), out: vec![0xEE; 9], counters: unread() };
+    let reply = raw::perform_all(&[request]).unwrap().pop().unwrap();
+    assert_eq!((&reply.table[..], reply.out, reply.counters), (table, vec![0xEE; 9], unread()));
+    assert_eq!(raw::report(report, table, &mut []), reply.outcome);
+    reply.outcome
+}
+
+#[test]
+fn why_and_apart_only_read_and_write_every_number() {
+    let mut table = three_up(Block::default());
+    hear(&mut table, 1, theirs(1));
+    let table = table.as_octets();
+    let untouched = raw::Outcome::UNTOUCHED;
+    let why = |port| raw::Report::Why { port };
+    let apart = |first, second| raw::Report::Apart { first, second };
+    assert_eq!(reported(why(1), table), raw::Outcome { answer: 0, why: [7, 0, 20], ..untouched });
+    assert_eq!(reported(why(2), table), raw::Outcome { answer: 0, why: [6, 0, 0], ..untouched });
+    assert_eq!(reported(apart(1, 2), table), raw::Outcome { answer: 0, apart: 0x390, ..untouched });
+    assert_eq!(reported(apart(2, 2), table), raw::Outcome { answer: 0, apart: 0, ..untouched });
+    for port in [0, 4, 33, 257, 65_537, u32::MAX] {
+        assert_eq!(reported(why(port), table), raw::Outcome { answer: 2, why: [0; 3], ..untouched });
+        for report in [apart(port, 1), apart(1, port), apart(port, port), apart(0, port)] {
+            assert_eq!(reported(report, table), raw::Outcome { answer: 2, apart: 0, ..untouched });
+        }
+    }
+    let old = Table::from_memory(table.to_vec()).to_old().unwrap();
+    for wrong in [&[][..], &table[1..], &old] {
+        for port in [0, 1, 33] {
+            assert_eq!(reported(why(port), wrong), raw::Outcome { answer: 1, why: [0; 3], ..untouched });
+            for report in [apart(port, 1), apart(1, port)] {
+                assert_eq!(reported(report, wrong), raw::Outcome { answer: 1, apart: 0, ..untouched });
+            }
+        }
+    }
+}
+
 #[test]
 fn any_memory() {
     for length in [0, 1, 10, 11, 12, 68, 75, 82, 88, 89, 90, 2059, 2507, 2508, 32_768, 300_000] {
@@ -540,6 +790,8 @@ fn any_memory() {
             wrong(table.port(1).map(|_| ()));
             wrong(table.aggregator(1).map(|_| ()));
             wrong(table.due().map(|_| ()));
+            wrong(table.why(1).map(|_| ()));
+            wrong(table.apart(1, 1).map(|_| ()));
             wrong(table.to_old().map(|_| ()));
             let of_old_form = length == 75 && octet == 1;
             assert!(of_old_form || Table::from_old(table.as_octets()) == Err(Refusal::TableWrong));

@@ -50,7 +50,8 @@ impl Bridge {
 
     fn reply(&mut self, request: &Request) -> io::Result<Reply> {
         let (answer, sent, aggregator, due) = (self.number()?, self.number()?, self.numbers()?, self.number()?);
-        let outcome = Outcome { answer, sent, aggregator, due };
+        let (why, apart) = (self.numbers()?, self.number()?);
+        let outcome = Outcome { answer, sent, aggregator, due, why, apart };
         let counters = Counters::from(self.numbers()?);
         Ok(Reply { outcome, table: self.octets(request.table.len())?, out: self.octets(request.out.len())?, counters })
     }
@@ -94,7 +95,8 @@ struct Arguments<'a> {
     collector_max_delay: u16,
     system: [u8; 6],
     settings: SettingsArguments,
-    ticks: u32,
+    /// The ticks for which a Marker is awaited, or the second of two ports.
+    other: u32,
     frame: &'a [u8],
 }
 
@@ -115,13 +117,15 @@ fn arguments<'a>(call: &'a Call) -> Arguments<'a> {
         Call::Line { port, up, full } => Arguments { flags: flags([up, full, false]), number: port, ..none },
         Call::Settings { port, settings } => Arguments { flags: own_bits(&settings), number: port, settings, ..none },
         Call::Fetch { port } => Arguments { number: port, ..none },
-        Call::Ask { port, ticks } => Arguments { number: port, ticks, ..none },
+        Call::Ask { port, ticks } => Arguments { number: port, other: ticks, ..none },
         Call::Report(
             Report::TableSize { ports: number }
             | Report::OldTableSize { ports: number }
             | Report::Port { port: number }
-            | Report::Aggregator { aggregator: number },
+            | Report::Aggregator { aggregator: number }
+            | Report::Why { port: number },
         ) => Arguments { number, ..none },
+        Call::Report(Report::Apart { first, second }) => Arguments { number: first, other: second, ..none },
         Call::Report(Report::Due | Report::Version | Report::Forward | Report::Back) => none,
     }
 }
@@ -150,7 +154,7 @@ fn encode(request: &Request, to: &mut Vec<u8>) {
     for lent in [&request.table, arguments.frame, &request.out] {
         to.extend((lent.len() as u32).to_le_bytes());
     }
-    to.extend(arguments.ticks.to_le_bytes());
+    to.extend(arguments.other.to_le_bytes());
     for counter in request.counters.numbers() {
         to.extend(counter.to_le_bytes());
     }

@@ -79,6 +79,15 @@ mod library {
         pub fn myrkosti_old_table_size(ports: u32) -> u32;
         pub fn myrkosti_forward(old_table: *const u8, old_len: usize, new_table: *mut u8, new_len: usize) -> u32;
         pub fn myrkosti_back(new_table: *const u8, new_len: usize, old_table: *mut u8, old_len: usize) -> u32;
+        pub fn myrkosti_why(
+            table: *const u8,
+            table_len: usize,
+            port: u32,
+            cause: *mut u32,
+            holder: *mut u32,
+            ticks: *mut u32,
+        ) -> u32;
+        pub fn myrkosti_apart(table: *const u8, table_len: usize, first: u32, second: u32, reasons: *mut u32) -> u32;
     }
 }
 
@@ -150,10 +159,11 @@ pub fn perform(call: &Call, table: &mut [u8], out: &mut [u8], counters: &mut Cou
 pub fn report(report: Report, table: &[u8], lent: &mut [u8]) -> Outcome {
     let mut outcome = Outcome::UNTOUCHED;
     let [holding, attached, distributing, count, lowest] = &mut outcome.aggregator;
+    let [cause, holder, ticks] = &mut outcome.why;
     // SAFETY: `table` is readable for its whole length and not written; `lent` is writable for its whole length, and the five numbers
-    // of an aggregator and the set are different writable ones. Exclusive borrows overlap nothing. A slice without octets has a pointer
-    // that is not null, and none of it is read or written. The library keeps no pointer after the call, and is defined for every
-    // content and number.
+    // of an aggregator, the three of why and the two sets are different writable ones. Exclusive borrows overlap nothing. A slice
+    // without octets has a pointer that is not null, and none of it is read or written. The library keeps no pointer after the call,
+    // and is defined for every content and number.
     outcome.answer = unsafe {
         match report {
             Report::TableSize { ports } => library::myrkosti_table_size(ports),
@@ -175,6 +185,10 @@ pub fn report(report: Report, table: &[u8], lent: &mut [u8]) -> Outcome {
             Report::OldTableSize { ports } => library::myrkosti_old_table_size(ports),
             Report::Forward => library::myrkosti_forward(table.as_ptr(), table.len(), lent.as_mut_ptr(), lent.len()),
             Report::Back => library::myrkosti_back(table.as_ptr(), table.len(), lent.as_mut_ptr(), lent.len()),
+            Report::Why { port } => library::myrkosti_why(table.as_ptr(), table.len(), port, cause, holder, ticks),
+            Report::Apart { first, second } => {
+                library::myrkosti_apart(table.as_ptr(), table.len(), first, second, &mut outcome.apart)
+            }
         }
     };
     outcome

@@ -2,7 +2,8 @@
 //!
 //! They answer the number that the library answers. What the header says of each holds here too: an answer other than 0 leaves the
 //! table, the outgoing buffer and the memory for a moved table as they came, and `sent`, as much of a record as fits, the five numbers of
-//! an aggregator and the set of what is due are written by every call that has them. Counters may be moved by a refused frame too.
+//! an aggregator, the set of what is due, the three numbers of why and the set of reasons are written by every call that has them. Counters
+//! may be moved by a refused frame too.
 //!
 //! [`perform`] takes one call, [`report`] one that only reads the table. [`perform_all`] takes many calls at once, each with its own
 //! memory, which is much faster where the library runs under an emulator.

@@ -1,0 +1,3 @@
+pub mod Cause
+pub mod Apart
+pub mod Exact
