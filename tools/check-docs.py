@@ -74,13 +74,14 @@ TESTS = {
     "breakage": lambda name: has("rust/model/src/breakage.rs", rf'"{name}"'),
     "model": lambda name: has("rust/model/tests/*.rs", rf"^fn {name}\("),
     "C": lambda name: has("tests/c/*.c", rf"\b{name}\("),
+    "Rust": lambda name: has("rust/*/**/*.rs", rf"fn {name}\("),
 }
 
 
 def cited_tests(text):
     """'edits `a`, `b`; case `c`; mutant *d*', as the last column of RULES.md has it."""
     text = re.sub(r"<!--.*?-->", "", text)
-    for word, names in re.findall(r"\b(edit|case|witness|breakage|model|C)s? ((?:`[\w/-]+`(?:, | and )?)+)", text):
+    for word, names in re.findall(r"\b(edit|case|witness|breakage|model|C|Rust)s? ((?:`[\w/-]+`(?:, | and )?)+)", text):
         for name in re.findall(r"`([^`]+)`", names):
             yield f"{word} {name}", TESTS[word](name)
     for names in re.findall(r"\bmutants? ((?:\*[^*]+\*(?:, )?)+)", text):

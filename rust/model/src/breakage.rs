@@ -278,6 +278,8 @@ pub enum Breakage {
     WaitsBeforeDefaulted,
     /// It is tried before EXPIRED.
     WaitsBeforeExpired,
+    /// Whether another port holds back is tried before the port's own wait.
+    HeldBackBeforeWaits,
     /// The partner's Synchronization is tried before whether another port holds back.
     OutOfSyncBeforeHeldBack,
     /// The partner's Collecting is tried before its Synchronization.
@@ -288,6 +290,8 @@ pub enum Breakage {
     LacpOffTakenForPartner,
     /// Whether a port distributes on its settings alone is read from its bit Defaulted: another answer only in memory that no run makes.
     SettingsAloneByBit,
+    /// That no partner is heard is read from the port's bit Defaulted, which is set while a link that has just come up waits to hear one.
+    DefaultedByBit,
     /// A port is said to wait by its timer, whatever its Mux state.
     WaitsByItsTimerAlone,
     /// A port is said to wait by its Mux state, whatever its timer.
@@ -344,13 +348,15 @@ pub enum Breakage {
     PortPrioritiesCompared,
     /// A refused apart writes no set.
     RefusedApartUnwritten,
+    /// A first port that there is not is answered 0.
+    FirstPortUntested,
     /// A second port that there is not is answered 0.
     SecondPortUntested,
 }
 
 impl Breakage {
     /// Every breakage, with the name by which it is asked for.
-    pub const ALL: [(&'static str, Breakage); 170] = [
+    pub const ALL: [(&'static str, Breakage); 173] = [
         ("partners-timeout", Breakage::PartnersTimeout),
         ("compares-after-recording", Breakage::ComparesAfterRecording),
         ("expired-records-default", Breakage::ExpiredRecordsDefault),
@@ -487,11 +493,13 @@ impl Breakage {
         ("defaulted-before-half-duplex", Breakage::DefaultedBeforeHalfDuplex),
         ("waits-before-defaulted", Breakage::WaitsBeforeDefaulted),
         ("waits-before-expired", Breakage::WaitsBeforeExpired),
+        ("held-back-before-waits", Breakage::HeldBackBeforeWaits),
         ("out-of-sync-before-held-back", Breakage::OutOfSyncBeforeHeldBack),
         ("not-collecting-before-out-of-sync", Breakage::NotCollectingBeforeOutOfSync),
         ("default-taken-for-partner", Breakage::DefaultTakenForPartner),
         ("lacp-off-taken-for-partner", Breakage::LacpOffTakenForPartner),
         ("settings-alone-by-bit", Breakage::SettingsAloneByBit),
+        ("defaulted-by-bit", Breakage::DefaultedByBit),
         ("waits-by-its-timer-alone", Breakage::WaitsByItsTimerAlone),
         ("waits-by-its-state-alone", Breakage::WaitsByItsStateAlone),
         ("held-back-in-any-state", Breakage::HeldBackInAnyState),
@@ -520,6 +528,7 @@ impl Breakage {
         ("down-port-by-default", Breakage::DownPortByDefault),
         ("port-priorities-compared", Breakage::PortPrioritiesCompared),
         ("refused-apart-unwritten", Breakage::RefusedApartUnwritten),
+        ("first-port-untested", Breakage::FirstPortUntested),
         ("second-port-untested", Breakage::SecondPortUntested),
     ];
 

@@ -554,6 +554,9 @@ fn why_of(memory: &[u8], n: u32) -> Result<Why, Refusal> {
 
 /// Why two ports are apart.
 fn apart_of(memory: &[u8], first: u32, second: u32) -> Result<u32, Refusal> {
+    if matches!(open(memory, first), Err(Refusal::NoSuchPort)) && breakage::is(Breakage::FirstPortUntested) {
+        return Ok(0);
+    }
     let table = open(memory, first)?;
     if open(memory, second).is_err() && breakage::is(Breakage::SecondPortUntested) {
         return Ok(0);

@@ -55,6 +55,7 @@ fn order() -> [Cause; 10] {
         Some(Breakage::DefaultedBeforeHalfDuplex) => (3, 4),
         Some(Breakage::WaitsBeforeDefaulted) => (4, 6),
         Some(Breakage::WaitsBeforeExpired) => (5, 6),
+        Some(Breakage::HeldBackBeforeWaits) => (6, 7),
         Some(Breakage::OutOfSyncBeforeHeldBack) => (7, 8),
         Some(Breakage::NotCollectingBeforeOutOfSync) => (8, 9),
         _ => return order,
@@ -111,12 +112,14 @@ impl Port {
             Cause::CarriesByDefault => self.mux.distributes() && self.on_the_settings_alone(),
             Cause::LinkDown => !self.link,
             Cause::HalfDuplex => !self.full_duplex,
+            Cause::Defaulted if breakage::is(Breakage::DefaultedByBit) => self.actor_state.has(State::DEFAULTED),
             Cause::Defaulted => self.receive == Receive::Defaulted,
             Cause::Expired => self.receive == Receive::Expired,
             Cause::Waits if breakage::is(Breakage::WaitsByItsTimerAlone) => self.wait_while > 0,
             Cause::Waits if breakage::is(Breakage::WaitsByItsStateAlone) => self.mux == Mux::Waiting,
             Cause::Waits => self.mux == Mux::Waiting && self.wait_while > 0,
             Cause::HeldBack if breakage::is(Breakage::HeldBackInAnyState) => held,
+            Cause::HeldBack if breakage::is(Breakage::HeldBackBeforeWaits) => self.mux == Mux::Waiting && held,
             Cause::HeldBack => self.mux == Mux::Waiting && self.wait_while == 0 && held,
             Cause::OutOfSync if breakage::is(Breakage::OwnSynchronizationForPartners) => {
                 !self.actor_state.has(State::SYNCHRONIZATION)
