@@ -1,3 +1,4 @@
+pub mod RestLaws
 pub mod GroupLaws
 pub mod AskLaws
 pub mod MadeLaws

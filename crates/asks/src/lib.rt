@@ -3,6 +3,7 @@ ghost use mathlib.Core.Path.{_≡_};
 ghost use Prim.Native.Nat.{_+_, _*_, _≤_};
 ghost use lib.ListN.{length};
 ghost use Rattle.octets.specs.Octets.{putAt};
+ghost use Rattle.asks.specs.Ask.{askFallen};
 ghost use Rattle.asks.specs.Group.{groupSize, groupOctets};
 ghost use Rattle.octets.specs.Rows.{rowAt};
 ghost use Rattle.asks.specs.Groups.{askAt, groupsInRange, allFallen, allBegun};
@@ -53,6 +54,17 @@ pub fn are_groups(groups: &[u8], n: usize) -> bool
     true
 }
 
+// A tick has passed for port `i`, from 0. Where nothing runs and nothing is awaited, nothing is written.
+fn fall_one(groups: &mut [u8], i: usize)
+    requires { ⌜ groupSize * i + groupSize ≤ length (now groups) ⌝ }
+    ensures { λ _. ⌜ now (groups .exit) ≡ putAt (groupSize * i) (groupOctets (askFallen (askAt (now (groups .entry)) i))) (now (groups .entry)) ⌝ }
+{
+    if !group::is_idle(group_at(groups, i)) {
+        let a = at(groups, i);
+        store(groups, i, a.fall());
+    }
+}
+
 // A tick has passed for all.
 pub fn fall_all(groups: &mut [u8], n: usize)
     requires { ⌜ length (now groups) ≡ groupSize * n ⌝ }
@@ -60,8 +72,7 @@ pub fn fall_all(groups: &mut [u8], n: usize)
 {
     let mut i: usize = 0;
     while i < n {
-        let a = at(groups, i);
-        store(groups, i, a.fall());
+        fall_one(groups, i);
         i += 1;
     }
 }

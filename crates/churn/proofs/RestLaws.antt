@@ -1,17 +1,17 @@
 -- A group in range comes back from its octets, and a run of the machines gives it back where a look says so: with a link they
 -- stay in NO_CHURN or CHURN, by Synchronization, and without one MONITOR is entered anew with the time that was there. Assumes nothing.
-use Prim.Native.Nat.{ℕ, zero, suc, _+_, _*_, _/_, _%_, _≤_, _<_}
+use Prim.Native.Nat.{ℕ, zero, suc, _+_, _*_, _≤_, _<_}
 use mathlib.Core.Path.{_≡_, refl, sym, ap, _∙_}
 use mathlib.Core.Bool.{Bool, true, false, not, _||_, true≢false}
 use mathlib.Core.List.{List, [], _∷_, _++_}
 use native.Mathlib.Omega.{arith}
-use lib.ListN.{length, take, drop, getD, length-drop, take-append-drop}
-use lib.Seq.{length-take-le, drop-drop}
+use lib.ListN.{length, take, drop, getD, length-drop}
+use lib.Seq.{length-take-le}
 use lib.Dec.{eqb, leb}
 use borrow.Author.Tests.{eqb-true, le-leb, leb-true}
 use Rattle.octets.specs.Octets.{Octets, putAt, numberAt, numberOctets, word, wordAt, longAt}
-use Rattle.octets.proofs.Laws.{spread-all}
-use Rattle.octets.proofs.OctetLists.{first-back, second-back, take-octets, drop-octets}
+use Rattle.octets.proofs.Laws.{spread-all, put-back}
+use Rattle.octets.proofs.OctetLists.{first-back, second-back, long-first, long-second, take-octets, drop-octets}
 use Rattle.octets.proofs.RangeLaws.{both}
 use Rattle.machine.specs.States.{ticks}
 use Rattle.port.specs.declared.record.Port.{Port}
@@ -40,13 +40,6 @@ octet-back zero h = refl
 octet-back (suc zero) h = refl
 octet-back (suc (suc zero)) h = refl
 octet-back (suc (suc (suc n))) h = absurd (omega arith)
-
-module _ (l : List ℕ) (o : Octets l) (i : ℕ) where
-  long-first : longAt l i / 65536 ≡ numberAt l i
-  long-first = let c = o (i + 2) in let d = o (i + 2 + 1) in omega (arith, c, d)
-
-  long-second : longAt l i % 65536 ≡ numberAt l (i + 2)
-  long-second = let c = o (i + 2) in let d = o (i + 2 + 1) in omega (arith, c, d)
 
 pub group-octets-back : (l : List ℕ) → length l ≡ groupSize → Octets l → groupInRange l ≡ true → groupOctets (groupOf l) ≡ l
 unfolding groupOctets groupOf groupInRange
@@ -204,17 +197,6 @@ module _ (s : Stage) (go : begins s ≡ false) (p : Port) (l : List ℕ) (o : Oc
   rest-keeps n e = let k = rest-stays e in ap groupOctets (k .0) ∙ group-octets-back l n o (k .1)
 
 -- ---- in a table
-
--- what stands there, written over itself
-put-back : (n k : ℕ) (t : List ℕ) → n + k ≤ length t → putAt n (take k (drop n t)) t ≡ t
-unfolding putAt
-put-back n k t h =
-    let d = length-drop n t in
-    let size : length (take k (drop n t)) ≡ k = length-take-le k (drop n t) (omega (arith, d)) in
-    ap (λ (m : ℕ). take n t ++ (take k (drop n t) ++ drop (n + m) t)) size
-    ∙ ap (λ (x : List ℕ). take n t ++ (take k (drop n t) ++ x)) (sym (drop-drop k n t))
-    ∙ ap (λ (x : List ℕ). take n t ++ x) (take-append-drop k (drop n t))
-    ∙ take-append-drop n t
 
 pub rest-left : (s : Stage) (t : List ℕ) (i : ℕ) → length t ≡ wholeSize (countIn t) → i < countIn t → Octets t → begins s ≡ false
     → rests (portAt (baseOf t) i) (groupAt t i) ≡ true → t ≡ putAt (groupPlace (countIn t) i) (groupOctets (watchedAt s t i)) t

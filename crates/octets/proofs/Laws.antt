@@ -200,3 +200,14 @@ high-back h l b = omega arith
 
 pub low-back : (h l : ℕ) → l < 256 → low (joined h l) ≡ l
 low-back h l b = omega arith
+
+-- what stands there, written over itself
+pub put-back : (n k : ℕ) (t : List ℕ) → n + k ≤ length t → putAt n (take k (drop n t)) t ≡ t
+unfolding putAt
+put-back n k t h =
+    let d = length-drop n t in
+    let size : length (take k (drop n t)) ≡ k = length-take-le k (drop n t) (omega (arith, d)) in
+    ap (λ (m : ℕ). take n t ++ (take k (drop n t) ++ drop (n + m) t)) size
+    ∙ ap (λ (x : List ℕ). take n t ++ (take k (drop n t) ++ x)) (sym (drop-drop k n t))
+    ∙ ap (λ (x : List ℕ). take n t ++ x) (take-append-drop k (drop n t))
+    ∙ take-append-drop n t

@@ -1,12 +1,12 @@
 -- Lists that hold octets only (`Octets`): made of octets, appended, parts, written over; and the two octets at an index are those of the
 -- number there. Assumes nothing.
-use Prim.Native.Nat.{ℕ, zero, suc, _+_, _<_}
+use Prim.Native.Nat.{ℕ, zero, suc, _+_, _/_, _%_, _<_}
 use mathlib.Core.Path.{_≡_}
 use mathlib.Core.List.{List, [], _∷_, _++_}
 use native.Mathlib.Omega.{arith}
 use lib.ListN.{length, take, drop, getD}
 use lib.Seq.{getD-drop}
-use Rattle.octets.specs.Octets.{Octets, putAt, high, low, numberAt}
+use Rattle.octets.specs.Octets.{Octets, putAt, high, low, numberAt, longAt}
 use Rattle.octets.proofs.Laws.{high-back, low-back}
 
 no-octets : Octets []
@@ -49,3 +49,11 @@ first-back l o i = high-back (getD l i 0) (getD l (i + 1) 0) (o (i + 1))
 
 pub second-back : (l : List ℕ) → Octets l → (i : ℕ) → low (numberAt l i) ≡ getD l (i + 1) 0
 second-back l o i = low-back (getD l i 0) (getD l (i + 1) 0) (o (i + 1))
+
+-- the two halves of a number of four octets
+module _ (l : List ℕ) (o : Octets l) (i : ℕ) where
+  pub long-first : longAt l i / 65536 ≡ numberAt l i
+  long-first = let c = o (i + 2) in let d = o (i + 2 + 1) in omega (arith, c, d)
+
+  pub long-second : longAt l i % 65536 ≡ numberAt l (i + 2)
+  long-second = let c = o (i + 2) in let d = o (i + 2 + 1) in omega (arith, c, d)
