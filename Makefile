@@ -1,11 +1,20 @@
-.PHONY: demo cases test c-test compare wire peers bench mutants
+.PHONY: demo archive cases test c-test compare targets wire peers bench mutants
+
+# For which machine: x86_64-linux-gnu, aarch64-linux-gnu, riscv64-linux-gnu, or for an archive also aarch64-none-elf, which is freestanding.
+TARGET ?= $(shell uname -m)-linux-gnu
+export TARGET
 
 # Proves the library and runs two switches of it, joined by four links: a timeline, and the same as a picture in target/demo.svg.
 # make demo SCRIPT=FILE replays a list of events; rust/demo/help.txt says what may stand in it.
 demo:
 	rt staticlib myrkosti
-	tools/x86.sh
+	tools/archive.sh
 	cargo run --quiet --release --manifest-path rust/Cargo.toml -p demo -- $(if $(SCRIPT),--script $(SCRIPT)) --svg target/demo.svg
+
+# Proves the library and builds its archive for TARGET, target/TARGET/libmyrkosti.a: make archive TARGET=riscv64-linux-gnu
+archive:
+	rt staticlib myrkosti
+	tools/archive.sh $(TARGET)
 
 # Proves the libraries and the program, runs it (rt does, under an emulator where the machine is no x86-64) and holds what it writes
 # to crates/cases/stdout; then shows that file: what the frame tests say of 170 frames that scapy wrote, one port's story, and
@@ -14,20 +23,27 @@ cases:
 	rt check cases
 	cat crates/cases/stdout
 
-# The whole gate: every proof from nothing, the must-fail edits, the programs, the C test, a short comparison.
+# The whole gate: every proof from nothing, the must-fail edits, the programs; the C test and a short comparison of the proved archive, and of that for the
+# machine at hand.
 test:
 	.ci/run
 
-# The C interface: a C program that includes include/myrkosti.h, links the proved library and drives every function.
+# The C interface: C programs that include include/myrkosti.h, link the library for TARGET and drive every function.
 c-test:
 	rt staticlib myrkosti
 	tools/c-test.sh
 
-# The proved library and an independent model in plain Rust, side by side through random calls, every octet compared.
+# The library for TARGET and an independent model in plain Rust, side by side through random calls, every octet compared.
 SECONDS_TO_COMPARE ?= 60
 compare:
 	rt staticlib myrkosti
 	tools/compare.sh --seconds $(SECONDS_TO_COMPARE)
+
+# Not in the gate: for each Linux machine the archive, the C test, the fragments of examples/ and a comparison of ten million calls, under an emulator
+# where the machine at hand is another; and the freestanding archive on a bare machine. Installs compilers and emulators, and takes about five minutes.
+targets:
+	rt staticlib myrkosti
+	tools/targets.sh
 
 # Not in the gate: frames of the library as tshark reads them, every field, Markers among them; frames of scapy as the library reads them, Responses to its
 # Markers among them; and the counters against what tshark counts; then each bit of a frame flipped, and frames left out, which must be found.
@@ -51,4 +67,4 @@ mutants:
 # Installs valgrind and what else is missing, and takes about a minute once the library is proved.
 bench:
 	rt staticlib myrkosti
-	python3 tools/bench/bench.py
+	python3 -B tools/bench/bench.py

@@ -3,7 +3,7 @@
  *
  * You lend the memory of a table of 1 to 32 ports, tell the library what happens (frames, ticks, link and duplex, settings), send what
  * it writes for you, and read from the reports which ports form one trunk, why a port does not carry, and why two ports are not in one
- * trunk. It keeps no memory of its own, allocates nothing, calls nothing, and every call ends. One table is one Aggregation System;
+ * trunk. It keeps no memory of its own, allocates nothing, needs no system, and every call ends. One table is one Aggregation System;
  * different tables may be used at the same time. What a port received and sent is counted in a small record that you keep beside the
  * table. Before you move a conversation to another link, ask for a Marker on the one that it leaves: its Response says that the link
  * has drained.
@@ -13,8 +13,10 @@
  * keep, a refusal moves counters alone. Only this is asked of you: memory that you lend is readable (the table and what is written,
  * writable) for its whole length, nobody else uses it until the call returns, and the areas that you lend to one call do not overlap.
  *
- * Link with target/staticlib/libmyrkosti.a, which `rt staticlib myrkosti` proves and builds. Then read, in this order: examples/loop.c, a driver's loop
- * to copy from; docs/GUIDE-FIRMWARE.md, why it is as it is and what to start with; 'What is left to the chip and the firmware' in
+ * Link with target/TARGET/libmyrkosti.a, which `make archive TARGET=..` proves and builds; TARGET is x86_64-linux-gnu, aarch64-linux-gnu,
+ * riscv64-linux-gnu or, freestanding, aarch64-none-elf. No archive asks for a symbol but these four, which any compiler may ask for, and which a
+ * program without a C library has to have: memcpy, memmove, memset, memcmp. Then read, in this order: examples/loop.c, a driver's loop to copy
+ * from; docs/GUIDE-FIRMWARE.md, why it is as it is and what to start with; 'What is left to the chip and the firmware' in
  * docs/CONFORMANCE.md, the table of your duties. docs/RULES.md says what each call does. Each function that is not `static inline` is proved to
  * meet its contract; docs/PROOFS.md says what that is.
  */

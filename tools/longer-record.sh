@@ -6,9 +6,15 @@
 set -eu
 cd "$(dirname "$0")/.."
 tools/install.sh valgrind valgrind
+. tools/archive/module.sh
 
-# build HEADERS SOURCE PROGRAM [WORDS..], with the library of $work/native
-build() { cc -std=c11 -Wall -Wextra -Wpedantic -Werror -g "-I$1" -Itests/c "${@:4}" "$2" "$work/native/libmyrkosti.a" -o "$3"; }
+# the library of $work/crates for the machine at hand
+library() {
+    catch_module "$work/crates" "$work/module"
+    compile_module "$(uname -m)-linux-gnu" "$work/module" "$work/library.o"
+}
+# build HEADERS SOURCE PROGRAM [WORDS..], with that library
+build() { cc -std=c11 -Wall -Wextra -Wpedantic -Werror -g "-I$1" -Itests/c "${@:4}" "$2" "$work/library.o" -o "$3"; }
 checked() { valgrind --quiet --error-exitcode=9 "$@"; }
 
 # run_longer HEADERS PROGRAM LINKED LONGER APPENDED: as it is, and with memory that is too short
@@ -24,7 +30,7 @@ run_longer() {
 # a program of version 0x0200: today's header without what was added since. A port that never asked has zeros in its last seven octets
 work=$PWD/target/c/shorter
 . tools/other-library.sh
-tools/bench/native.sh "$work/crates" "$work/native"
+library
 mkdir "$work/0x0200"
 sed -e 's/\(#define MYRKOSTI_VERSION\) .*/\1 0x0200/' -e 's/\(#define MYRKOSTI_RECORD\) 78/\1 71/' -e 's/\(#define MYRKOSTI_OLD_RECORD\) 64/\1 57/' \
     -e '/^\/\* ---- why a port does not carry/,/^\/\* ---- calls/{/---- calls/!d}' \
@@ -43,7 +49,7 @@ change asked/src/lib.rt 'ASKED_RECORD: usize = 78;' 'ASKED_RECORD: usize = 82;'
 of_version() { printf '0x%04x' $((version + $1)); } # so much above that of crates/
 next=$(of_version 1)
 call_it "$next"
-tools/bench/native.sh "$work/crates" "$work/native"
+library
 run_longer include "$work/longer" "$next" 4 0xe1,0xe2,0xe3,0xe4
 
 # fits VERSION: what myrkosti_fits says to a program whose header has this version

@@ -3,7 +3,7 @@
 # crates/ there, and gives
 #   change FILE OLD NEW   in a file of the copy, where OLD stands once
 #   call_it VERSION       the version that the library of the copy gives; $version is that of crates/
-# tools/bench/native.sh then compiles the copy, without its proofs.
+# tools/archive/module.sh then compiles the copy, without its proofs.
 set -eu
 version=$(sed -n 's/^#define MYRKOSTI_VERSION //p' include/myrkosti.h)
 rm -rf "$work"

@@ -3,13 +3,15 @@
 # tests/outside/switch.c with the library and those of before, and runs tests/outside/wire.py or peers.py over it.
 set -eu
 cd "$(dirname "$0")/.."
-[ -f target/staticlib/libmyrkosti.a ] || rt staticlib myrkosti
 tools/install.sh tshark tshark
 case $1 in
 wire) tools/install.sh /usr/bin/scapy python3-scapy ;;
 peers) tools/install.sh ovs-vswitchd openvswitch-switch ;;
 esac
-. tools/x86.sh
+# the proved archive itself, on any machine
+TARGET=x86_64-linux-gnu
+export TARGET
+. tools/target.sh
 tools/yesterday.sh
-compile tests/outside/switch.c target/outside/switch -Itests/c target/yesterday/yesterday.o target/yesterday/lately.o
+compile tests/outside/switch.c target/outside/switch -Itests/c "target/yesterday/$TARGET/yesterday.o" "target/yesterday/$TARGET/lately.o"
 exec /usr/bin/python3 -B "tests/outside/$1.py" "${run[@]}" target/outside/switch

@@ -1,5 +1,6 @@
 #!/usr/bin/env python3
 """Measures the library beside the model, and writes the tables of docs/BENCHMARKS.md and the picture docs/benchmarks.svg.
+bench.py --sizes: text and stack for each machine alone, which are read off the archives, so that nothing else on the machine matters.
 
 The text of docs/BENCHMARKS.md is written by hand; what stands between '<!-- begin NAME -->' and '<!-- end NAME -->' is replaced."""
 
@@ -7,10 +8,12 @@ import os
 import platform
 import re
 import subprocess
+import sys
 
 import build
 import measure
 import picture
+import sizes
 import tables
 
 DOCUMENT = build.ROOT / "docs/BENCHMARKS.md"
@@ -45,29 +48,26 @@ def parts():
         raise SystemExit(f"callgrind counted otherwise the second time: {set(counts.items()) ^ set(again.items())}")
     print(f"callgrind counted {len(counts)} calls twice, and the same both times")
     stacks = measure.stacks(program)
-    bounds = stack_bounds(measure.stacks(shipped, build.EMULATOR) if shipped else stacks)
+    everywhere = sizes.sizes()
     shipped_counts = measure.trace_counts(shipped, program) if shipped else counts
     profiles = {call: measure.by_function(files[call, 32, "library"]) for call in tables.WHERE}
     PICTURE.write_text(picture.picture(counts, tables.GROWTH))
+    print(f"written: {PICTURE.relative_to(build.ROOT)}")
     kinds = {"instructions here": counts, "ns here": times} | ({"instructions, x86-64": shipped_counts} if shipped else {})
-    return {"aim": tables.aim(counts, bounds),
-            "at-32": "\n\n".join([machine(len(counts)), tables.at_32(kinds, bounds, stacks), tables.text(measure.texts())]),
+    return {"aim": tables.aim(counts, everywhere),
+            "at-32": "\n\n".join([machine(len(counts)), tables.at_32(kinds, everywhere["x86_64-linux-gnu"].stack, stacks), tables.text(measure.texts())]),
             "growth": tables.growth(times, "ns") + "\n\n" + tables.growth(counts, "Instructions"),
-            "where": tables.where(profiles), "second": tables.budget(counts), "peers": tables.peers(counts)}
+            "targets": tables.targets(everywhere), "where": tables.where(profiles), "second": tables.budget(counts), "peers": tables.peers(counts)}
 
 
-def stack_bounds(seen):
-    """The most stack that each function of the archive can take. What was seen of it must lie within."""
-    bounds = measure.stack_bounds(build.member())
-    beyond = {call: depth for (call, _, side), depth in seen.items() if side == "library" and depth > bounds[tables.function_of(call)]}
-    if beyond:
-        raise SystemExit(f"more stack than the frames of the archive allow: {beyond}")
-    print("no call of the archive took more stack than its frames allow")
-    return bounds
+def sizes_alone():
+    build.WORK.mkdir(parents=True, exist_ok=True)
+    build.install()
+    return {"targets": tables.targets(sizes.sizes())}
 
 
 def machine(counted):
-    compiled = "the archive itself" if build.X86_64 else "the archive's module compiled for this machine (below)"
+    compiled = "the archive itself" if build.X86_64 else f"the archive for {build.OWN} (below)"
     return tables.wrapped(f"Measured on {processor()}; the library is {compiled}. {counted} calls were counted twice by callgrind, "
                           "with the same counts. A time is the least of 25 repeats of a millisecond or more.")
 
@@ -82,11 +82,11 @@ def put(text, name, part):
 
 def main():
     text = DOCUMENT.read_text()
-    for name, part in parts().items():
+    for name, part in (sizes_alone() if "--sizes" in sys.argv else parts()).items():
         text = put(text, name, part)
         print(f"\n{part}")
     DOCUMENT.write_text(text)
-    print(f"\nwritten: {DOCUMENT.relative_to(build.ROOT)}, {PICTURE.relative_to(build.ROOT)}")
+    print(f"\nwritten: {DOCUMENT.relative_to(build.ROOT)}")
 
 
 if __name__ == "__main__":

@@ -12,9 +12,8 @@ ARCHIVE = ROOT / "target/staticlib/libmyrkosti.a"
 X86_64 = platform.machine() == "x86_64"
 CROSS = "" if X86_64 else "x86_64-linux-gnu-"
 EMULATOR = [] if X86_64 else [f"/opt/rattle/on/{platform.machine()}/toolchain/bin/qemu-x86_64"]
+OWN = f"{platform.machine()}-linux-gnu"
 C = ["-O2", "-std=c11", "-Wall", "-Wextra", "-Wpedantic", "-Werror", "-I", "include", "-I", "tests/bench"]
-# The calls whose entry takes a bool: exports.ll writes that entry in its own way, so its code may differ from the archive's.
-TAKE_BOOLS = {f".text.myrkosti_{call}" for call in ("start", "settings", "line")}
 
 
 def run(*words, **more):
@@ -31,29 +30,21 @@ def install():
         run("apt-get", "update", "-q")
         packages = [package for program in missing for package in wanted[program]]
         run("apt-get", "install", "-y", "-q", *packages, env={**os.environ, "DEBIAN_FRONTEND": "noninteractive"})
-    run("tools/x86.sh")  # the cross compiler, where it is needed
+    run("tools/target.sh", env={**os.environ, "TARGET": "x86_64-linux-gnu"})  # the cross compiler, where it is needed
 
 
 def library():
-    """The archive for this machine: on x86-64 the archive itself, elsewhere its module compiled anew, and tested."""
-    if X86_64:
-        return ARCHIVE
-    run("tools/bench/native.sh")
-    made = WORK / "native/libmyrkosti.a"
-    same_code(WORK / "native/x86-64.o")
-    run("gcc", *C, "tests/c/calls.c", made, "-o", WORK / "native/calls")
-    print("compiled for this machine:", run(WORK / "native/calls").strip())
+    """The archive for this machine: on x86-64 the proved one itself, elsewhere its module compiled anew, and tested."""
+    made = archive(OWN)
+    run("gcc", *C, "tests/c/calls.c", made, "-o", WORK / "calls")
+    print("compiled for this machine:", run(WORK / "calls").strip())
     return made
 
 
-def same_code(remade):
-    """Compiled for x86-64, the module that was caught must be the archive's code, octet for octet."""
-    theirs, ours = functions(member()), functions(remade)
-    differing = {name for name in theirs | ours if theirs.get(name) != ours.get(name)}
-    if differing - TAKE_BOOLS:
-        raise SystemExit(f"the archive is of other code than crates/ (make it anew: rt staticlib myrkosti): {', '.join(sorted(differing))}")
-    print(f"compiled for x86-64: {len(theirs) - len(differing)} of {len(theirs)} functions are the archive's octet for octet;",
-          "the others are entries that take a bool:", *sorted(name.removeprefix(".text.") for name in differing))
+def archive(target):
+    """The archive for that machine."""
+    print(run("tools/archive.sh", target), end="")
+    return ROOT / "target" / target / "libmyrkosti.a"
 
 
 def member():
@@ -62,19 +53,6 @@ def member():
     folder.mkdir(parents=True, exist_ok=True)
     run(f"{CROSS}ar", "x", ARCHIVE, "--output", folder)
     return folder / "myrkosti.o"
-
-
-def functions(file):
-    """The code of each function of an object file, which has a section of its own."""
-    headers = run(f"{CROSS}objdump", "-h", "-w", file).splitlines()
-    names = [line.split()[1] for line in headers if line.strip()[:1].isdigit()]
-    return {name: section(file, name) for name in names if name.startswith(".text.")}
-
-
-def section(file, name):
-    octets = WORK / "section"
-    run(f"{CROSS}objcopy", "-O", "binary", f"--only-section={name}", file, octets)
-    return octets.read_bytes()
 
 
 def model():

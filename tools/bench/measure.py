@@ -5,10 +5,7 @@ import shutil
 import subprocess
 from collections import Counter
 
-from build import ARCHIVE, CROSS, EMULATOR, WORK, run
-
-# Octets of the arguments that a caller on x86-64 puts on the stack: those after the sixth, rounded up to 16.
-STACK_ARGUMENTS = {"start": 64, "receive": 16, "settings": 32, "aggregator": 16}
+from build import ARCHIVE, CROSS, EMULATOR, ROOT, WORK, run
 
 
 def figures(text):
@@ -25,9 +22,9 @@ def times(program):
     return figures(run(program, "time"))
 
 
-def stacks(program, emulator=()):
+def stacks(program):
     """Octets of stack of a call at 32 ports."""
-    return figures(run(*emulator, program, "stack", 32))
+    return figures(run(program, "stack", 32))
 
 
 def without_calling(counts):
@@ -100,6 +97,13 @@ def lines_between(trace, begin, end):
                 count = None
 
 
+def stack_arguments(registers):
+    """Octets of the arguments of each call that a caller puts on the stack: those for which there is no register, rounded up to 16."""
+    entries = re.findall(r"^define signext i32 @myrkosti_(\w+)\((.*?)\)", (ROOT / "tools/archive/entries.ll").read_text(), re.M)
+    beyond = {call: max(0, len(arguments.split(",")) - registers) for call, arguments in entries}
+    return {call: 16 * ((8 * count + 15) // 16) for call, count in beyond.items()}
+
+
 def stack_bounds(member):
     """Octets of stack that a call of the archive can take at most, whatever it is given: from the frames of its functions along the longest
     way of calls, with arguments on the stack, return addresses, and what a function without calls keeps below its frame. No function calls
@@ -125,7 +129,8 @@ def stack_bounds(member):
         return max([frame[name] + below[name], *(frame[name] + depth(f) for f in callees[name]), *map(depth, followers[name])])
 
     calls = {name.removeprefix("myrkosti_"): name for name in frame if name.startswith("myrkosti_")}
-    return {call: depth(name) + STACK_ARGUMENTS.get(call, 0) for call, name in calls.items()}
+    on_stack = stack_arguments(registers=6)
+    return {call: depth(name) + on_stack[call] for call, name in calls.items()}
 
 
 def text_of(file):

@@ -50,12 +50,12 @@ def ratio(figures, call):
     return figures[call, 32, "library"] / figures[call, 32, "model"]
 
 
-def aim(counts, bounds):
-    """Whether the aim is met: beside the model, by each bound, and by the stack. counts: instructions on this machine."""
+def aim(counts, sizes):
+    """Whether the aim is met: beside the model, by each bound, and by the stack on each machine. counts: instructions on this machine."""
     ratios = {call: ratio(counts, call) for call in CALLS}
     over = [f"{call} ({ratios[call]:.2f})" for call in CALLS if ratios[call] > 1]
     within = [f"{call} ({ratios[call]:.2f})" for call in CALLS if ratios[call] <= 1]
-    deep = max(bounds, key=bounds.get)
+    most_stack, deep, where_deep = max((octets, call, target) for target, size in sizes.items() for call, octets in size.stack.items())
     rows = [[f"{what}, {ports(n)}", number(most), number(counts[call, n, "library"]), met(counts[call, n, "library"] <= most)]
             for what, call, n, most in AIMS]
     return "\n".join([
@@ -63,8 +63,8 @@ def aim(counts, bounds):
                 "machine below.", "  "),
         wrapped(f"  - above: {', '.join(over) or 'none'};", "    "),
         wrapped(f"  - within: {', '.join(within) or 'none'}.", "    "),
-        wrapped(f"- **No call above {AIM_STACK:,} octets of stack: {met(bounds[deep] <= AIM_STACK)}**, whatever it is given. The most "
-                f"is {number(bounds[deep])}, by `{deep}`.", "  "),
+        wrapped(f"- **No call above {AIM_STACK:,} octets of stack: {met(most_stack <= AIM_STACK)}**, whatever it is given, on [each machine](#for-each-machine). "
+                f"The most is {number(most_stack)}, by `{deep}` on `{where_deep}`.", "  "),
         f"- **Bounds in instructions on the machine below: {met(all(row[-1] == 'met' for row in rows))}.**\n",
         table(["Instructions", "at most", "measured", ""], rows)])
 
@@ -146,6 +146,15 @@ def peers(counts):
     heard = [[f"Myrkosti, {ports(n)}: `myrkosti_receive`", number(ours("receive, repeated", n)), number(ours("receive, moves all", n))] for n in (1, 32)]
     return "\n\n".join([table(["Instructions at rest", *map(ports, PEERS_PORTS)], rest),
                         table(["Instructions of an LACPDU", "that says nothing new", "with another key"], heard + PEERS_HEAR)])
+
+
+def targets(sizes):
+    """Text, and the most stack of each call, for each machine."""
+    calls = list(next(iter(sizes.values())).stack)
+    rows = [["octets of code and constants", *(number(size.text) for size in sizes.values())],
+            ["asks for", *(", ".join(f"`{name}`" for name in sorted(size.asks_for)) for size in sizes.values())]]
+    rows += [[f"stack of `{call}` at most", *(number(size.stack[call]) for size in sizes.values())] for call in calls]
+    return table(["", *(f"`{target}`" for target in sizes)], rows)
 
 
 def text(texts):

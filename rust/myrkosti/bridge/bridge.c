@@ -1,6 +1,7 @@
 /*
- * Runs the calls of include/myrkosti.h for a program that cannot link the x86-64 archive itself. It reads batches of requests from its
- * standard input and writes the replies of a batch, in order, to its standard output, until the input ends.
+ * Runs the calls of include/myrkosti.h for a program that does not link the archive itself: one of another machine, or one that is to be lent
+ * memory with nothing behind it. It reads batches of requests from its standard input and writes the replies of a batch, in order, to its
+ * standard output, until the input ends.
  *
  * A batch is its length in octets (4), then its requests, one after the other. A request is
  *

@@ -47,7 +47,7 @@ pub enum Refusal {
     AlreadyAwaiting,
     /// A number that this interface has no name for: that of a later library.
     Unnamed(u32),
-    /// The library could not be reached. Only where it runs under an emulator, beside a program that did not start or ended.
+    /// The library could not be reached. Only where it is in a process of its own, which did not start or ended.
     Unreachable,
 }
 

@@ -56,9 +56,9 @@
 //! Before churn was watched for, a table had another form. [`Table::from_old`] and [`Table::to_old`] move one from either form into the
 //! other while its trunks carry: for firmware that is changed between two calls.
 //!
-//! The library is an archive for x86-64. On that architecture it is linked, and a call is a call. Elsewhere the same
-//! interface hands each call to a small program that links the archive and runs under an emulator: good for tests, too slow
-//! for a switch. Should that program not run, calls are refused with [`Refusal::Unreachable`].
+//! The library is an archive, which is linked, and a call is a call. For tests the same interface can hand each call to a small program
+//! that links an archive, of this machine or of another, which an emulator then runs (`build.rs`): too slow for a switch. Should that
+//! program not run, calls are refused with [`Refusal::Unreachable`].
 //!
 //! [`raw`] has the calls as in `include/myrkosti.h`, with numbers and lent octets, and a way to perform many at once.
 

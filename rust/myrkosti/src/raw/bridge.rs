@@ -1,5 +1,5 @@
-//! The library in another process: `bridge/bridge.c` links the archive and runs under an emulator. That file describes the octets
-//! of requests and replies.
+//! The library in another process: `bridge/bridge.c` links the archive, of this machine or of another, which an emulator then runs. That
+//! file describes the octets of requests and replies.
 
 use super::{Call, Counters, Outcome, Reply, Report, Request, SettingsArguments, Unreachable, UNREACHABLE};
 use std::env;
@@ -27,13 +27,20 @@ fn path(name: &str, built_with: &str) -> OsString {
 }
 
 impl Bridge {
-    fn start() -> io::Result<Bridge> {
+    /// The program, under its emulator if it has one.
+    fn command() -> Command {
         let emulator = path("MYRKOSTI_EMULATOR", env!("MYRKOSTI_EMULATOR"));
-        let mut child = Command::new(emulator)
-            .arg(path("MYRKOSTI_BRIDGE", env!("MYRKOSTI_BRIDGE")))
-            .stdin(Stdio::piped())
-            .stdout(Stdio::piped())
-            .spawn()?;
+        let bridge = path("MYRKOSTI_BRIDGE", env!("MYRKOSTI_BRIDGE"));
+        if emulator.is_empty() {
+            return Command::new(bridge);
+        }
+        let mut command = Command::new(emulator);
+        command.arg(bridge);
+        command
+    }
+
+    fn start() -> io::Result<Bridge> {
+        let mut child = Bridge::command().stdin(Stdio::piped()).stdout(Stdio::piped()).spawn()?;
         match (child.stdin.take(), child.stdout.take()) {
             (Some(requests), Some(replies)) => Ok(Bridge { requests, replies: BufReader::new(replies), child }),
             _ => Err(io::Error::other("the bridge has no pipes")),

@@ -6,7 +6,7 @@
 //! may be moved by a refused frame too.
 //!
 //! [`perform`] takes one call, [`report`] one that only reads the table. [`perform_all`] takes many calls at once, each with its own
-//! memory, which is much faster where the library runs under an emulator.
+//! memory, which is much faster where the library is in a process of its own.
 
 use std::error::Error;
 use std::fmt;
@@ -24,8 +24,8 @@ mod machine;
 pub use calls::{Call, Counters, Outcome, Reply, Report, Request, SettingsArguments};
 pub use machine::{perform, report};
 
-/// Answered where the library could not be reached, which happens only under an emulator. Nothing that was lent is changed then, and
-/// the numbers beside the answer are zero.
+/// Answered where the library could not be reached, which happens only if it is in a process of its own. Nothing that was lent is changed
+/// then, and the numbers beside the answer are zero.
 pub const UNREACHABLE: u32 = u32::MAX;
 
 /// The library could not be reached.
@@ -43,7 +43,7 @@ impl Error for Unreachable {}
 /// Performs each request in turn, each on its own memory, and gives their replies.
 ///
 /// # Errors
-/// Only where the library runs under an emulator that did not start or ended.
+/// Only where the library is in a process of its own, which did not start or ended.
 pub fn perform_all(requests: &[Request]) -> Result<Vec<Reply>, Unreachable> {
     machine::perform_all(requests)
 }

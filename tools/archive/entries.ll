@@ -1,5 +1,8 @@
 ; The functions of include/myrkosti.h over the compiler's own form of them, in which a lent slice is a place that holds a pointer and a
-; length. tools/bench/native.sh puts this behind the module of the library where that is compiled for another machine than x86-64.
+; length. tools/archive/module.sh puts this behind the module of the library, to be compiled for any machine. The entries are written so
+; that for x86-64 they are the proved archive's, octet for octet:
+; - a bool is an i1 of which nobody has promised that the bits above it are clear, so the entry looks at its lowest bit alone;
+; - an answer is extended by its sign, as RISC-V wants of every number of 32 bits; on the others that says nothing.
 
 define internal void @lend(ptr %slice, ptr %octets, i64 %length) alwaysinline {
   store ptr %octets, ptr %slice, align 8
@@ -8,27 +11,24 @@ define internal void @lend(ptr %slice, ptr %octets, i64 %length) alwaysinline {
   ret void
 }
 
-define i32 @myrkosti_version() nounwind {
+define signext i32 @myrkosti_version() nounwind {
   %version = call i32 @"myrkosti::myrkosti_version"()
   ret i32 %version
 }
 
-define i32 @myrkosti_table_size(i32 %ports) nounwind {
+define signext i32 @myrkosti_table_size(i32 %ports) nounwind {
   %answer = call i32 @"myrkosti::myrkosti_table_size"(i32 %ports)
   ret i32 %answer
 }
 
-define i32 @myrkosti_start(ptr %table, i64 %length, i32 %ports, i16 %system_priority, ptr %system, i16 %delay, ptr %address, i16 %key, i16 %priority, i8 %activity, i8 %timeout, i8 %aggregation, ptr %partner) nounwind {
+define signext i32 @myrkosti_start(ptr %table, i64 %length, i32 %ports, i16 %system_priority, ptr %system, i16 %delay, ptr %address, i16 %key, i16 %priority, i1 %activity, i1 %timeout, i1 %aggregation, ptr %partner) nounwind {
   %lent = alloca [16 x i8], align 8
   call void @lend(ptr %lent, ptr %table, i64 %length)
-  %a = trunc i8 %activity to i1
-  %t = trunc i8 %timeout to i1
-  %g = trunc i8 %aggregation to i1
-  %answer = call i32 @"myrkosti::myrkosti_start"(ptr %lent, i32 %ports, i16 %system_priority, ptr %system, i16 %delay, ptr %address, i16 %key, i16 %priority, i1 zeroext %a, i1 zeroext %t, i1 zeroext %g, ptr %partner)
+  %answer = call i32 @"myrkosti::myrkosti_start"(ptr %lent, i32 %ports, i16 %system_priority, ptr %system, i16 %delay, ptr %address, i16 %key, i16 %priority, i1 zeroext %activity, i1 zeroext %timeout, i1 zeroext %aggregation, ptr %partner)
   ret i32 %answer
 }
 
-define i32 @myrkosti_receive(ptr %table, i64 %length, i32 %port, ptr %frame, i64 %frame_length, ptr %out, i64 %out_length, ptr %sent, ptr %counters) nounwind {
+define signext i32 @myrkosti_receive(ptr %table, i64 %length, i32 %port, ptr %frame, i64 %frame_length, ptr %out, i64 %out_length, ptr %sent, ptr %counters) nounwind {
   %lent = alloca [16 x i8], align 8
   %lent_frame = alloca [16 x i8], align 8
   %lent_out = alloca [16 x i8], align 8
@@ -39,33 +39,28 @@ define i32 @myrkosti_receive(ptr %table, i64 %length, i32 %port, ptr %frame, i64
   ret i32 %answer
 }
 
-define i32 @myrkosti_tick(ptr %table, i64 %length) nounwind {
+define signext i32 @myrkosti_tick(ptr %table, i64 %length) nounwind {
   %lent = alloca [16 x i8], align 8
   call void @lend(ptr %lent, ptr %table, i64 %length)
   %answer = call i32 @"myrkosti::myrkosti_tick"(ptr %lent)
   ret i32 %answer
 }
 
-define i32 @myrkosti_line(ptr %table, i64 %length, i32 %port, i8 %up, i8 %full) nounwind {
+define signext i32 @myrkosti_line(ptr %table, i64 %length, i32 %port, i1 %up, i1 %full) nounwind {
   %lent = alloca [16 x i8], align 8
   call void @lend(ptr %lent, ptr %table, i64 %length)
-  %u = trunc i8 %up to i1
-  %f = trunc i8 %full to i1
-  %answer = call i32 @"myrkosti::myrkosti_line"(ptr %lent, i32 %port, i1 zeroext %u, i1 zeroext %f)
+  %answer = call i32 @"myrkosti::myrkosti_line"(ptr %lent, i32 %port, i1 zeroext %up, i1 zeroext %full)
   ret i32 %answer
 }
 
-define i32 @myrkosti_settings(ptr %table, i64 %length, i32 %port, ptr %address, i16 %key, i16 %priority, i8 %activity, i8 %timeout, i8 %aggregation, ptr %partner) nounwind {
+define signext i32 @myrkosti_settings(ptr %table, i64 %length, i32 %port, ptr %address, i16 %key, i16 %priority, i1 %activity, i1 %timeout, i1 %aggregation, ptr %partner) nounwind {
   %lent = alloca [16 x i8], align 8
   call void @lend(ptr %lent, ptr %table, i64 %length)
-  %a = trunc i8 %activity to i1
-  %t = trunc i8 %timeout to i1
-  %g = trunc i8 %aggregation to i1
-  %answer = call i32 @"myrkosti::myrkosti_settings"(ptr %lent, i32 %port, ptr %address, i16 %key, i16 %priority, i1 zeroext %a, i1 zeroext %t, i1 zeroext %g, ptr %partner)
+  %answer = call i32 @"myrkosti::myrkosti_settings"(ptr %lent, i32 %port, ptr %address, i16 %key, i16 %priority, i1 zeroext %activity, i1 zeroext %timeout, i1 zeroext %aggregation, ptr %partner)
   ret i32 %answer
 }
 
-define i32 @myrkosti_fetch(ptr %table, i64 %length, i32 %port, ptr %out, i64 %out_length, ptr %counters) nounwind {
+define signext i32 @myrkosti_fetch(ptr %table, i64 %length, i32 %port, ptr %out, i64 %out_length, ptr %counters) nounwind {
   %lent = alloca [16 x i8], align 8
   %lent_out = alloca [16 x i8], align 8
   call void @lend(ptr %lent, ptr %table, i64 %length)
@@ -74,7 +69,7 @@ define i32 @myrkosti_fetch(ptr %table, i64 %length, i32 %port, ptr %out, i64 %ou
   ret i32 %answer
 }
 
-define i32 @myrkosti_port(ptr %table, i64 %length, i32 %port, ptr %record, i64 %record_length) nounwind {
+define signext i32 @myrkosti_port(ptr %table, i64 %length, i32 %port, ptr %record, i64 %record_length) nounwind {
   %lent = alloca [16 x i8], align 8
   %lent_record = alloca [16 x i8], align 8
   call void @lend(ptr %lent, ptr %table, i64 %length)
@@ -83,21 +78,21 @@ define i32 @myrkosti_port(ptr %table, i64 %length, i32 %port, ptr %record, i64 %
   ret i32 %answer
 }
 
-define i32 @myrkosti_aggregator(ptr %table, i64 %length, i32 %aggregator, ptr %holding, ptr %attached, ptr %distributing, ptr %count, ptr %lowest) nounwind {
+define signext i32 @myrkosti_aggregator(ptr %table, i64 %length, i32 %aggregator, ptr %holding, ptr %attached, ptr %distributing, ptr %count, ptr %lowest) nounwind {
   %lent = alloca [16 x i8], align 8
   call void @lend(ptr %lent, ptr %table, i64 %length)
   %answer = call i32 @"myrkosti::myrkosti_aggregator"(ptr %lent, i32 %aggregator, ptr %holding, ptr %attached, ptr %distributing, ptr %count, ptr %lowest)
   ret i32 %answer
 }
 
-define i32 @myrkosti_due(ptr %table, i64 %length, ptr %ports) nounwind {
+define signext i32 @myrkosti_due(ptr %table, i64 %length, ptr %ports) nounwind {
   %lent = alloca [16 x i8], align 8
   call void @lend(ptr %lent, ptr %table, i64 %length)
   %answer = call i32 @"myrkosti::myrkosti_due"(ptr %lent, ptr %ports)
   ret i32 %answer
 }
 
-define i32 @myrkosti_ask(ptr %table, i64 %length, i32 %port, i32 %ticks, ptr %out, i64 %out_length) nounwind {
+define signext i32 @myrkosti_ask(ptr %table, i64 %length, i32 %port, i32 %ticks, ptr %out, i64 %out_length) nounwind {
   %lent = alloca [16 x i8], align 8
   %lent_out = alloca [16 x i8], align 8
   call void @lend(ptr %lent, ptr %table, i64 %length)
@@ -108,12 +103,12 @@ define i32 @myrkosti_ask(ptr %table, i64 %length, i32 %port, i32 %ticks, ptr %ou
 
 ; ---- moves between the two forms of a table
 
-define i32 @myrkosti_old_table_size(i32 %ports) nounwind {
+define signext i32 @myrkosti_old_table_size(i32 %ports) nounwind {
   %answer = call i32 @"myrkosti::myrkosti_old_table_size"(i32 %ports)
   ret i32 %answer
 }
 
-define i32 @myrkosti_forward(ptr %old, i64 %old_length, ptr %new, i64 %new_length) nounwind {
+define signext i32 @myrkosti_forward(ptr %old, i64 %old_length, ptr %new, i64 %new_length) nounwind {
   %lent_old = alloca [16 x i8], align 8
   %lent_new = alloca [16 x i8], align 8
   call void @lend(ptr %lent_old, ptr %old, i64 %old_length)
@@ -122,7 +117,7 @@ define i32 @myrkosti_forward(ptr %old, i64 %old_length, ptr %new, i64 %new_lengt
   ret i32 %answer
 }
 
-define i32 @myrkosti_back(ptr %new, i64 %new_length, ptr %old, i64 %old_length) nounwind {
+define signext i32 @myrkosti_back(ptr %new, i64 %new_length, ptr %old, i64 %old_length) nounwind {
   %lent_new = alloca [16 x i8], align 8
   %lent_old = alloca [16 x i8], align 8
   call void @lend(ptr %lent_new, ptr %new, i64 %new_length)
@@ -131,14 +126,14 @@ define i32 @myrkosti_back(ptr %new, i64 %new_length, ptr %old, i64 %old_length) 
   ret i32 %answer
 }
 
-define i32 @myrkosti_why(ptr %table, i64 %length, i32 %port, ptr %cause, ptr %holder, ptr %ticks) nounwind {
+define signext i32 @myrkosti_why(ptr %table, i64 %length, i32 %port, ptr %cause, ptr %holder, ptr %ticks) nounwind {
   %lent = alloca [16 x i8], align 8
   call void @lend(ptr %lent, ptr %table, i64 %length)
   %answer = call i32 @"myrkosti::myrkosti_why"(ptr %lent, i32 %port, ptr %cause, ptr %holder, ptr %ticks)
   ret i32 %answer
 }
 
-define i32 @myrkosti_apart(ptr %table, i64 %length, i32 %first, i32 %second, ptr %reasons) nounwind {
+define signext i32 @myrkosti_apart(ptr %table, i64 %length, i32 %first, i32 %second, ptr %reasons) nounwind {
   %lent = alloca [16 x i8], align 8
   call void @lend(ptr %lent, ptr %table, i64 %length)
   %answer = call i32 @"myrkosti::myrkosti_apart"(ptr %lent, i32 %first, i32 %second, ptr %reasons)
