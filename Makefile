@@ -1,4 +1,4 @@
-.PHONY: demo archive cases test c-test compare targets wire peers bench mutants
+.PHONY: demo archive cases test c-test compare targets wire peers bench mutants lacp try live
 
 # For which machine: x86_64-linux-gnu, aarch64-linux-gnu, riscv64-linux-gnu, or for an archive also aarch64-none-elf, which is freestanding.
 TARGET ?= $(shell uname -m)-linux-gnu
@@ -68,3 +68,20 @@ mutants:
 bench:
 	rt staticlib myrkosti
 	python3 -B tools/bench/bench.py
+
+# The tool lacp: the library on Linux interfaces, target/lacp/lacp. docs/LACP.md is its guide.
+lacp:
+	rt staticlib myrkosti
+	tools/lacp.sh
+
+# Two switches of it on four links, with keys to cut, silence, swap and stop; needs no hardware and no root.
+try: lacp
+	target/lacp/lacp try
+
+# Not in the gate but for a short part: lacp on virtual links, two of it and with Open vSwitch, through cuts, silence, stops, kills, swapped cables and floods;
+# the same with address and undefined-behaviour checkers; and fuzzers over what it parses. Needs no root where the machine lets users have namespaces, and
+# takes about ten minutes.
+live: lacp
+	tools/live.sh
+	tools/live.sh --checked
+	tools/fuzz.sh
