@@ -151,13 +151,18 @@ bool driver_open(struct driver *d)
 {
     bool may = true;
     driver_begin_turn(d);
+    const bool has_slept = now() - d->kept->ticked > TICKS_OF_SLEEP * TICK;
     for (uint32_t port = 1; port <= d->count; port++) {
         struct port *p = &d->ports[port];
         if (p->link.index != 0)
             open_sockets(d, p);
         may = may && p->open_trouble != EPERM;
+        if (has_slept)
+            tell_line(d, port, false); /* its neighbour has given it up since */
         tell(d, port);
     }
+    if (has_slept)
+        d->kept->ticked = now();
     driver_end_turn(d);
     return may;
 }
@@ -208,21 +213,24 @@ static void lose_link(struct driver *d, uint32_t port)
 
 static void take_notice(struct driver *d, const struct notice *notice)
 {
+    const bool is_end = notice->told == TOLD_END;
+    d->is_list_broken |= notice->is_broken;
     for (uint32_t port = 1; port <= d->count; port++) {
         struct port *p = &d->ports[port];
         const bool is_named = strcmp(notice->name, p->name) == 0;
         if (notice->told == TOLD_LINK && is_named)
             take_link(d, port, &notice->link);
-        else if (notice->told != TOLD_OTHER && notice->told != TOLD_END && notice->link.index == p->link.index)
+        else if (notice->told != TOLD_OTHER && !is_end && notice->link.index == p->link.index)
             lose_link(d, port); /* removed, or called otherwise */
-        if (notice->told == TOLD_END) {
-            if (!p->is_listed)
-                lose_link(d, port);
+        if (is_end && !p->is_listed && !d->is_list_broken)
+            lose_link(d, port);
+        if (is_end)
             p->is_listed = false;
-        }
     }
-    if (notice->told == TOLD_END)
+    if (is_end) {
+        d->is_list_broken = false;
         d->something_happened = true;
+    }
 }
 
 void driver_hear_links(struct driver *d)

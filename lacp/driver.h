@@ -22,6 +22,7 @@ struct driver {
     uint32_t count;
     struct port ports[PORTS + 1]; /* from 1 */
     int links;                    /* socket on which the kernel tells of interfaces */
+    bool is_list_broken;          /* the list that it is giving may lack some */
     struct tap tap;
     struct pcap pcap;
     enum left left;               /* what it found; with a table it goes on */

@@ -59,6 +59,7 @@ bool links_parse(const uint8_t *octets, size_t length, size_t *at, struct notice
     memcpy(&header, octets + *at, sizeof header);
     if (header.nlmsg_len < sizeof header || header.nlmsg_len > length - *at)
         return false;
+    notice->is_broken = (header.nlmsg_flags & NLM_F_DUMP_INTR) != 0;
     if (header.nlmsg_type == NLMSG_DONE) {
         notice->told = TOLD_END;
     } else if (header.nlmsg_type == RTM_NEWLINK || header.nlmsg_type == RTM_DELLINK) {

@@ -22,6 +22,7 @@ enum told { TOLD_OTHER, TOLD_LINK, TOLD_GONE, TOLD_END };
 
 struct notice {
     enum told told;
+    bool is_broken; /* interfaces came or went while the kernel made its list, which may lack some */
     char name[IFNAMSIZ];
     struct link link; /* but for duplex and speed */
 };

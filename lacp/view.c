@@ -48,9 +48,9 @@ static void draw_us(struct screen *screen, const struct show *show, const struct
     words_address(&t, d->system.address);
     if (has_one_key(d))
         text_add(&t, " key %u", d->ports[1].key);
-    text_add(&t, " %s %s%s   ", o->is_short ? "fast" : "slow", o->is_active ? "active" : "passive", o->listens ? ", listens only" : "");
+    text_add(&t, " %s %s%s  ", o->is_short ? "fast" : "slow", o->is_active ? "active" : "passive", o->listens ? ", listens only" : "");
     words_time(&t, wall());
-    text_add(&t, "   ticks %llu, latest %.1f ms, %llu missed", (unsigned long long)d->ticks, (double)d->latest / (double)MILLISECOND, (unsigned long long)d->missed);
+    text_add(&t, "  ticks %llu, %llu missed, latest %.1f ms", (unsigned long long)d->ticks, (unsigned long long)d->missed, (double)d->latest / (double)MILLISECOND);
     draw(screen, PLAIN, octets);
 }
 
@@ -94,7 +94,28 @@ static void add_other_end(struct text *t, const struct port_facts *facts, const 
         struct text h = text_in(heard, sizeof heard);
         text_add(&h, "%.1f s", (double)(now() - port->heard) / (double)SECOND);
     }
-    text_add(t, "%-17s %5s %5s %7s", octets, key, number, heard);
+    text_add(t, "%-17s %5s %5s %6s", octets, key, number, heard);
+}
+
+/* A sentence on lines of its own, cut between words. */
+static void draw_below(struct screen *screen, int colour, const char *sentence)
+{
+    enum { INDENT = 6, LEAST = 10 };
+    const size_t room = screen->columns < INDENT + LEAST ? LEAST : screen->columns - INDENT;
+    while (*sentence != 0) {
+        char octets[1024];
+        struct text t = text_in(octets, sizeof octets);
+        size_t length = strlen(sentence);
+        if (length > room)
+            for (length = room; length > 0 && sentence[length] != ' '; length--)
+                ;
+        if (length == 0)
+            length = room; /* one word, and longer than a line */
+        text_add(&t, "%*s%.*s", INDENT, "", (int)length, sentence);
+        draw(screen, colour, octets);
+        sentence += length;
+        sentence += strspn(sentence, " ");
+    }
 }
 
 /* The sentence stands behind the port if there is room, and otherwise below it. */
@@ -107,16 +128,14 @@ static void draw_port(struct screen *screen, const struct show *show, const stru
     words_link(&l, facts);
     words_time(&s, show->now.port_since[i]);
     words_why(&why, &show->now, d, i);
-    text_add(&t, "%4u  %-*s  %-9s  %-7s  %s  ", i, width_of_names(d), d->ports[i].name, link, facts->is_carrying ? "yes" : "no", since);
+    text_add(&t, "%4u  %-*s %-9s %-7s %s  ", i, width_of_names(d), d->ports[i].name, link, facts->is_carrying ? "yes" : "no", since);
     add_other_end(&t, facts, &d->ports[i]);
-    if (why.length > 0 && t.length + 2 + why.length > screen->columns) {
-        draw(screen, colour, octets);
-        t = text_in(octets, sizeof octets);
-        text_add(&t, "    ");
-    }
-    if (why.length > 0)
+    const bool has_room = t.length + 2 + why.length <= screen->columns;
+    if (why.length > 0 && has_room)
         text_add(&t, "  %s", because);
     draw(screen, colour, octets);
+    if (!has_room)
+        draw_below(screen, colour, because);
 }
 
 /* ---- the whole ---- */
@@ -125,7 +144,7 @@ static void draw_head(struct screen *screen, const struct driver *d)
 {
     char octets[128];
     struct text t = text_in(octets, sizeof octets);
-    text_add(&t, "port  %-*s  %-9s  %-7s  %-8s  %-17s %5s %5s %7s  %s", width_of_names(d), "if", "link", "carries", "since", "other end", "key", "port", "heard", "why not");
+    text_add(&t, "port  %-*s %-9s %-7s %-8s  %-17s %5s %5s %6s  %s", width_of_names(d), "if", "link", "carries", "since", "other end", "key", "port", "heard", "why not");
     draw(screen, DIM, octets);
 }
 

@@ -216,7 +216,8 @@ void words_why(struct text *text, const struct state *s, const struct driver *d,
     else
         say_cause(text, s, d, i);
     for (uint32_t w = 0; w < WARNINGS; w++) {
-        if ((facts->warnings >> w & 1) == 0)
+        const bool is_said = (UINT32_C(1) << w) == WARN_APART && (facts->warnings & WARN_LOOP) != 0; /* a loop says why it is apart */
+        if ((facts->warnings >> w & 1) == 0 || is_said)
             continue;
         if (text->length > begin)
             text_add(text, "; ");

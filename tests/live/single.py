@@ -17,6 +17,8 @@ from wires import Wires, command, has_tun, inside, looped
 WRONG = ((), ("--nonsense", "b1"), ("--want", "3", "b1", "b2"), ("--want", "0", "b1"), ("--for", "soon", "b1"), ("--for", "0", "b1"), ("--key", "0", "b1"),
          ("--key", "b9=1", "b1"), ("--system", "01:00:00:00:00:01", "b1"), ("--every", "1", "b1"), ("--listen", "--want", "1", "b1"), ("b1", "b1"),
          ("--table",), ("--priority", "65536", "b1"), ("try", "b1"))
+# Seconds: a trunk comes in two, and to leave it politely takes up to one more, since LACPDUs have just gone.
+WANTED = 3.5
 NO_RIGHTS = ("setpriv", "--inh-caps=-all", "--bounding-set=-all")
 RAW_ALONE = ("setpriv", "--inh-caps=-all,+net_raw", "--bounding-set=-all,+net_raw")
 AS_NOBODY = (*RAW_ALONE, "--reuid=65534", "--regid=65534", "--clear-groups", "--ambient-caps=-all,+net_raw")
@@ -67,7 +69,7 @@ def want(bench):
         ends(bench, 0, 0, 1, "--help")
         checks.true("no rights: nothing is said", ends(bench, 3, 0, 1, "--for", "0.5", *wires.ends("B"), before=NO_RIGHTS))
         with bench.tool("A", *wires.ends("A")) as a:
-            ends(bench, 0, 1.8, 2.7, "--want", "2", "--for", "10", *wires.ends("B"))
+            ends(bench, 0, 1.8, WANTED, "--want", "2", "--for", "10", *wires.ends("B"))
             ended = time.monotonic()
             if not bench.short:
                 stopped = a.wait_until(lambda state: state["carrying"] == 0, 4, ended, what="A stops")
