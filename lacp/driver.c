@@ -14,6 +14,7 @@
 enum { FRAMES_A_TURN = 64, NOTICES_A_TURN = 64, LONGEST_FRAME = 65536 + 64 };
 enum { TICKS_OF_SLEEP = 30 }; /* after so many without a tick the neighbours have given this switch up */
 enum { KEY_OF_LEAVING = 0xff00 };
+#define SECOND_ON_THE_WIRE (SECOND + TICK / 2) /* a frame may wait a little between our clock and the wire */
 
 /* ---- a port ---- */
 
@@ -324,7 +325,7 @@ static void respond(struct driver *d, uint32_t port, const uint8_t *response)
     const int64_t time = now();
     if (d->options->listens)
         return;
-    if (p->responded[p->oldest] != 0 && time - p->responded[p->oldest] <= SECOND) {
+    if (p->responded[p->oldest] != 0 && time - p->responded[p->oldest] <= SECOND_ON_THE_WIRE) {
         p->withheld++;
         p->withheld_lately[d->second]++;
         return;
@@ -424,7 +425,7 @@ void driver_program_and_send(struct driver *d)
     read_trunks(d, collect, distribute);
     tap_follow(tap, d->count, collect, distribute);
     tap_collect(tap, d->ports, d->count, tap->collecting | collect[tap->trunk]);
-    tap_distribute(tap, tap->distributing & distribute[tap->trunk]);
+    tap_send_on_none_but(tap, distribute[tap->trunk]);
     send_what_is_due(d);
     tap_distribute(tap, distribute[tap->trunk]);
     tap_collect(tap, d->ports, d->count, collect[tap->trunk]);

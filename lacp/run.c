@@ -46,7 +46,7 @@ static int open_all(const struct options *options, const struct place *place)
         return cannot(EXIT_CANNOT, octets);
     if (driver.left == LEFT_NO_USE)
         fprintf(stderr, "lacp: no table to go on with (it is damaged, of other interfaces, or of before this machine was started): started anew\n");
-    if (options->tap != NULL && !tap_open(&driver.tap, options->tap, driver.system.address, &trouble)) {
+    if (options->tap != NULL && !tap_open(&driver.tap, options->tap, driver.system.address, driver.ports, driver.count, &trouble)) {
         const bool is_forbidden = errno == EPERM || errno == EACCES;
         return cannot(is_forbidden ? EXIT_RIGHTS : EXIT_CANNOT, octets);
     }

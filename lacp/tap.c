@@ -11,9 +11,11 @@
 #include <sys/socket.h>
 #include <unistd.h>
 
+#include "clock.h"
 #include "sockets.h"
 
 enum { FRAMES_A_TURN = 64, LONGEST_FRAME = 65536 + 64 };
+#define JOINS_AFTER SECOND
 
 static uint8_t frame[LONGEST_FRAME];
 
@@ -38,9 +40,29 @@ static void show_carrier(struct tap *tap, bool has_carrier)
     tap->has_carrier = has_carrier;
 }
 
-bool tap_open(struct tap *tap, const char *name, const uint8_t address[6], struct text *trouble)
+static bool is_a_ports(const uint8_t address[6], const struct port *ports, uint32_t count)
+{
+    for (uint32_t port = 1; port <= count; port++)
+        if (memcmp(ports[port].link.address, address, 6) == 0)
+            return true;
+    return false;
+}
+
+/* What is sent to the trunk comes in on its ports, and is for this machine there too if it has a port's address: then it would come twice. */
+static void make_address(uint8_t address[6], const uint8_t system[6], const struct port *ports, uint32_t count)
+{
+    memcpy(address, system, 6);
+    address[0] |= 0x02; /* not given by a maker */
+    do
+        address[0] = (uint8_t)(address[0] + 4); /* one of 64, more than there are ports */
+    while (is_a_ports(address, ports, count));
+}
+
+bool tap_open(struct tap *tap, const char *name, const uint8_t system[6], const struct port *ports, uint32_t count, struct text *trouble)
 {
     struct ifreq request = {.ifr_flags = IFF_TAP | IFF_NO_PI};
+    uint8_t address[6];
+    make_address(address, system, ports, count);
     strncpy(request.ifr_name, name, IFNAMSIZ - 1);
     tap->file = open("/dev/net/tun", O_RDWR | O_NONBLOCK | O_CLOEXEC);
     const int any = socket(AF_INET, SOCK_DGRAM | SOCK_CLOEXEC, 0);
@@ -85,11 +107,32 @@ void tap_collect(struct tap *tap, const struct port *ports, uint32_t count, uint
     tap->collecting = set;
 }
 
-void tap_distribute(struct tap *tap, uint32_t set)
+static void send_on(struct tap *tap, uint32_t set)
 {
     tap->distributing = set;
     if (tap->has_carrier != (set != 0))
         show_carrier(tap, set != 0);
+}
+
+void tap_send_on_none_but(struct tap *tap, uint32_t set)
+{
+    send_on(tap, tap->distributing & set);
+}
+
+/* A neighbour may say that it collects before it does: Open vSwitch drops what comes by then. So while others carry, a port that joins them can wait. */
+void tap_distribute(struct tap *tap, uint32_t set)
+{
+    const int64_t time = now();
+    uint32_t ready = 0;
+    for (uint32_t port = 1; port <= PORTS; port++) {
+        if ((set & bit_of(port)) == 0)
+            tap->joined[port] = 0;
+        else if (tap->joined[port] == 0)
+            tap->joined[port] = time;
+        if (tap->joined[port] != 0 && time - tap->joined[port] >= JOINS_AFTER)
+            ready |= bit_of(port);
+    }
+    send_on(tap, (tap->distributing & set) == 0 ? set : ready | (tap->distributing & set));
 }
 
 /* ---- conversations ---- */

@@ -1,5 +1,5 @@
 """UDP echoes. As a program: `echo.py answer ADDRESS` answers on it and prints 'ready'; `echo.py ask ADDRESS SECONDS` asks there 200 times a second, in 8 flows,
-and prints how many were sent, which were lost, how many answers came twice, and in each case numbers in the order of sending, as JSON."""
+and prints, as JSON, how many were sent, the moments in which those that got lost were, and how many answers came twice."""
 
 import json
 import select
@@ -52,7 +52,7 @@ def answer(address):
 
 
 def flow(number, address):
-    """The socket of a flow: each has a port of its own."""
+    """The socket of a flow: each has a port of its own. It is connected, so that what the machine took from a member as well as from the tap would come twice."""
     ours = socket.socket(socket.AF_INET, socket.SOCK_DGRAM)
     ours.bind(("", FIRST_FLOW + number))
     ours.connect((address, PORT))
@@ -82,7 +82,7 @@ def ask(address, seconds):
         except OSError:  # it counts as lost
             pass
     receive(flows, time.monotonic() + LATE, came)
-    lost = [number for number in range(count) if number not in came]
+    lost = [start + number / RATE for number in range(count) if number not in came]
     print(json.dumps({"sent": count, "lost": lost, "twice": sum(times - 1 for times in came.values())}), flush=True)
 
 

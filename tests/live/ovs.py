@@ -10,7 +10,8 @@ from wires import has_tun, inside
 sys.path.append(str(Path(__file__).parents[1] / "outside"))
 from neighbour import Control, Member, Neighbour, wait_for  # noqa: E402
 
-MEMBERS = ("b1", "b2")
+MEMBERS, ADDRESS = ("b1", "b2"), "02:00:00:00:0b:ff"
+BOND = ("add-bond", "br0", "bond0", *MEMBERS, "bond_mode=balance-tcp", "lacp=active", "other-config:lacp-time=fast")
 
 
 def is_there():
@@ -33,7 +34,12 @@ class Switch(Neighbour):
         self.launch("ovs-vswitchd", f"unix:{self.path('db.sock')}", "--enable-dummy", "--disable-system")
         self.control = Control(self.path("ovs-vswitchd.ctl"))
         self.configure("add-br", "br0", "--", "set", "bridge", "br0", f"datapath_type={'netdev' if has_tun() else 'dummy'}",
-                       "--", "add-bond", "br0", "bond0", *MEMBERS, "bond_mode=balance-tcp", "lacp=active", "other-config:lacp-time=fast")
+                       f'other-config:hwaddr="{ADDRESS}"', "--", *BOND)
+
+    def open_again(self):
+        """Makes its bond anew: of an interface that is gone and there again it does not hear any more."""
+        self.configure("del-port", "br0", "bond0")
+        self.configure(*BOND)
 
     def members(self):
         """What it says of its members."""

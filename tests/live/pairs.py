@@ -12,8 +12,8 @@ from wires import Wires
 # Seconds: a silent partner is noticed, is given up, and a port waits before it carries; what a measurement may be off by.
 SHORT_TIMEOUT, GIVEN_UP, WAIT = 3.0, 6.0, 2.0
 OFF, WAIT_OFF = 0.35, 0.5
-# A trunk is there so many seconds after the later start, or after the event that drops it.
-FORMS, AGAIN = 2.2, 2.6
+# Seconds until a program tells its first line; until a trunk is there after the later of these lines, and after an event that drops it.
+STARTS, FORMS, AGAIN = 0.5, 2.2, 2.6
 # So long after it came a trunk is at rest: no port is barred from speaking, as after three LACPDUs in a second.
 REST = 1.2
 RANDOM = random.Random(43)
@@ -40,7 +40,9 @@ def pair(bench, links, *words, rest=REST):
     """A trunk of so many cables between A and B, two seconds after the later start, and then at rest."""
     with Wires(links) as wires, bench.tool("A", *words, *wires.ends("A")) as a, bench.tool("B", *words, *wires.ends("B")) as b:
         formed = both((a, b), carry(*wires.links), 5, b.started, "a trunk")
-        bench.checks.between(f"{links} carry in", formed - b.started, WAIT - 0.2, FORMS)
+        began = b.told()[0].moment
+        bench.checks.true(f"its first line comes after {began - b.started:.2f} s", began - b.started < STARTS)
+        bench.checks.between(f"{links} carry in", formed - began, WAIT - 0.2, FORMS)
         hold_trunk(bench.checks, a, b, wires.links)
         hold_trunk(bench.checks, b, a, wires.links)
         time.sleep(rest)
@@ -207,7 +209,7 @@ def kill(bench):
 def swap(bench):
     """B's cables change places: a trunk again, with the partners' ports exchanged."""
     with pair(bench, 2) as (wires, a, b):
-        wires.swap()
+        wires.swap("B")
         moment = time.monotonic()
         back = both((a, b), lambda state: carry(1, 2)(state) and partner_ports(state) == [2, 1], 5, moment, "a trunk with ports exchanged")
         bench.checks.between("back", back - moment, 0, AGAIN)

@@ -40,7 +40,7 @@ def listen(bench):
         checks.true("it sends", all(each["counters"]["lacpdus_sent"] == 0 and not each["carries"] for state in b.told() for each in state.told["ports"]))
         checks.equal("heard by A", sum(each["counters"]["lacpdus_received"] for each in a.last()["ports"]), 0)
         checks.equal("frames from B", len(first.frames) + len(second.frames), 0)
-        checks.note(f"{sum(each['counters']['lacpdus_received'] for each in told['ports'])} heard in {time.monotonic() - start:.1f} s, none sent")
+        checks.note(f"{sum(each['counters']['lacpdus_received'] for each in told['ports'])} heard in {time.monotonic() - start:.1f} s")
 
 
 def ends(bench, expected, least, most, *words, before=()):

@@ -152,7 +152,7 @@ class Tool(Program):
 
     def end(self, number):
         """Ends it by a signal: the number that it ended with; a stopped one goes on first."""
-        for each in (number, signal.SIGCONT):
+        for each in (signal.SIGCONT, number):
             self.process.send_signal(each)
         try:
             return self.over(3)

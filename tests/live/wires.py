@@ -50,7 +50,7 @@ class Wires:
     """So many cables between A and B, all of them up."""
 
     def __init__(self, links):
-        self.links = range(1, links + 1)
+        self.links, self.made = range(1, links + 1), 0
 
     def __enter__(self):
         for space in OF:
@@ -69,9 +69,10 @@ class Wires:
         return [f"{OF[space]}{number}" for number in self.links]
 
     def add(self, number):
-        """A new cable, which is up."""
-        command("ip", "link", "add", f"a{number}", "netns", "A", "index", str(FIRST_INDEX["A"] + number), "address", address("A", number),
-                "type", "veth", "peer", "name", f"b{number}", "netns", "B", "index", str(FIRST_INDEX["B"] + number), "address", address("B", number))
+        """A new cable, which is up. Its ends have indexes that none had before."""
+        self.made += 1
+        command("ip", "link", "add", f"a{number}", "netns", "A", "index", str(FIRST_INDEX["A"] + self.made), "address", address("A", number),
+                "type", "veth", "peer", "name", f"b{number}", "netns", "B", "index", str(FIRST_INDEX["B"] + self.made), "address", address("B", number))
         for space, letter in OF.items():
             ip(space, "link", "set", f"{letter}{number}", "up")
 
@@ -95,14 +96,15 @@ class Wires:
         """What is sent leaves again."""
         command("tc", "-n", space, "qdisc", "del", "dev", f"{OF[space]}{number}", "root")
 
-    def swap(self):
-        """Cables 1 and 2 change places at B."""
-        for name in ("b1", "b2"):
-            ip("B", "link", "set", name, "down")
-        for old, new in (("b1", "aside"), ("b2", "b1"), ("aside", "b2")):
-            ip("B", "link", "set", old, "name", new)
-        for name in ("b1", "b2"):
-            ip("B", "link", "set", name, "up")
+    def swap(self, space):
+        """Cables 1 and 2 change places at one side."""
+        first, second = self.ends(space)[:2]
+        for name in (first, second):
+            ip(space, "link", "set", name, "down")
+        for old, new in ((first, "aside"), (second, first), ("aside", second)):
+            ip(space, "link", "set", old, "name", new)
+        for name in (first, second):
+            ip(space, "link", "set", name, "up")
 
 
 @contextmanager
