@@ -80,7 +80,7 @@ try: lacp
 
 # Not in the gate but for a short part: lacp on virtual links, two of it and with Open vSwitch, through cuts, silence, stops, kills, swapped cables and floods;
 # the same with address and undefined-behaviour checkers; and fuzzers over what it parses. Needs no root where the machine lets users have namespaces, and
-# takes about ten minutes.
+# takes about eighteen minutes.
 live: lacp
 	tools/live.sh
 	tools/live.sh --checked

@@ -27,9 +27,12 @@ static void close_sockets(struct port *p)
     p->lacp = p->traffic = -1;
 }
 
-static void open_sockets(struct driver *d, struct port *p)
+/* A new socket for traffic hears nothing yet, whatever the one before did. */
+static void open_sockets(struct driver *d, uint32_t port)
 {
+    struct port *p = &d->ports[port];
     close_sockets(p);
+    d->tap.collecting &= ~bit_of(port);
     p->lacp = socket_for_lacp(p->link.index);
     p->open_trouble = p->lacp < 0 ? errno : 0;
     if (p->lacp >= 0 && d->tap.file >= 0)
@@ -156,7 +159,7 @@ bool driver_open(struct driver *d)
     for (uint32_t port = 1; port <= d->count; port++) {
         struct port *p = &d->ports[port];
         if (p->link.index != 0)
-            open_sockets(d, p);
+            open_sockets(d, port);
         may = may && p->open_trouble != EPERM;
         if (has_slept)
             tell_line(d, port, false); /* its neighbour has given it up since */
@@ -196,7 +199,7 @@ static void take_link(struct driver *d, uint32_t port, const struct link *link)
     if (d->kept == NULL)
         return; /* before the start: sockets are opened and links told of after it */
     if (is_another || p->lacp < 0)
-        open_sockets(d, p);
+        open_sockets(d, port);
     tell(d, port);
 }
 

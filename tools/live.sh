@@ -13,6 +13,7 @@ for word; do
     esac
 done
 if [ "$program" = target/lacp/lacp ]; then tools/lacp.sh; else tools/lacp.sh --checked; fi
+tools/install.sh ip iproute2
 mkdir -p target/live
 gcc -std=c11 -O2 -Wall -Wextra -Wpedantic -Werror tests/live/flood.c -o target/live/flood
 if [ ! "$is_short" ]; then
