@@ -108,12 +108,18 @@ static bool is_reached(const struct driver *d, const struct show *show)
     return d->options->want != 0 && show->now.carrying >= d->options->want;
 }
 
+/* Nobody reads what is shown any more, or what was to be carried has nowhere to go. */
+static bool is_in_vain(const struct driver *d, const struct show *show)
+{
+    return show->out->is_closed || (d->options->tap != NULL && d->tap.file < 0);
+}
+
 bool loop_run(struct driver *d, struct show *show)
 {
     const int64_t end = d->options->ends_after == 0 ? INT64_MAX : now() + d->options->ends_after;
     struct waited w = {0};
     show_turn(show, d, true, true);
-    while (!is_ended && now() < end && !is_reached(d, show) && !show->out->is_closed) {
+    while (!is_ended && now() < end && !is_reached(d, show) && !is_in_vain(d, show)) {
         const int64_t tick = d->kept->ticked + TICK;
         wait_for_something(&w, d, show, tick < end ? tick : end);
         turn(d, show, &w);

@@ -11,7 +11,7 @@ void loop_catch_signals(void);
 /* The last words to every neighbour, a second and a bit at most; nothing is left to go on with. */
 void loop_leave(struct driver *driver);
 
-/* Runs until a signal, the options or a closed output end it. Whether as many links carry as the options want. */
+/* Runs until a signal, the options, a closed output or a removed tap end it. Whether as many links carry as the options want. */
 bool loop_run(struct driver *driver, struct show *show);
 
 #endif

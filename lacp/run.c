@@ -55,6 +55,18 @@ static int open_all(const struct options *options, const struct place *place)
     return EXIT_DONE;
 }
 
+/* Whether all went well with what was open; says what did not. */
+static bool close_all(const struct options *options)
+{
+    const bool is_cut = capture != NULL && (driver.pcap.file == NULL || fclose(capture) != 0);
+    const bool is_gone = options->tap != NULL && driver.tap.file < 0;
+    if (is_cut)
+        fprintf(stderr, "lacp: --pcap %s: could not be written to its end\n", options->pcap);
+    if (is_gone)
+        fprintf(stderr, "lacp: --tap %s: somebody removed it\n", options->tap);
+    return !is_cut && !is_gone;
+}
+
 int run(const struct options *options, const struct place *place)
 {
     driver = (struct driver){.options = options, .tap = {.file = -1}};
@@ -68,7 +80,5 @@ int run(const struct options *options, const struct place *place)
     const bool enough = loop_run(&driver, &show);
     if (!options->listens)
         loop_leave(&driver);
-    if (capture != NULL)
-        fclose(capture);
-    return enough ? EXIT_DONE : EXIT_TOO_FEW;
+    return close_all(options) ? enough ? EXIT_DONE : EXIT_TOO_FEW : EXIT_CANNOT;
 }

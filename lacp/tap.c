@@ -76,6 +76,12 @@ bool tap_open(struct tap *tap, const char *name, const uint8_t system[6], const 
     return made;
 }
 
+static void tap_close(struct tap *tap)
+{
+    close(tap->file);
+    tap->file = -1;
+}
+
 /* ---- which trunk, and how it is programmed ---- */
 
 static int size_of(uint32_t set)
@@ -208,6 +214,8 @@ void tap_send_out(struct tap *tap, const struct port *ports, uint32_t count)
 {
     for (uint32_t frames = 0; frames < FRAMES_A_TURN * count; frames++) {
         const ssize_t length = read(tap->file, frame, sizeof frame);
+        if (length < 0 && errno != EAGAIN && errno != EINTR)
+            tap_close(tap); /* somebody removed the interface */
         if (length <= 0)
             return;
         const uint32_t port = tap->distributing == 0 ? 0 : tap_port_of(frame, (size_t)length, tap->distributing);

@@ -10,7 +10,7 @@
 #include "text.h"
 
 struct tap {
-    int file;                          /* -1 if there is none */
+    int file;                          /* -1 if there is none, or none any more */
     uint32_t trunk;                    /* which one it is, 0 for none yet */
     uint32_t collecting, distributing; /* as it is programmed */
     int64_t joined[PORTS + 1];         /* since when a port may be sent on, now(); 0 if it may not */

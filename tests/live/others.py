@@ -216,6 +216,8 @@ def traffic(bench):
     with Wires(2) as wires, bench.tool("A", "--tap", "trunk0", *wires.ends("A")) as a, bench.tool("B", "--tap", "br0", *wires.ends("B")) as b:
         both((a, b), carry(1, 2), 5, b.started, "a trunk")
         hold_traffic(bench, wires, a)
+        ip("A", "link", "del", "trunk0")
+        bench.checks.equal("without its tap it ends with", a.over(3), 2)
     if not ovs.is_there():
         bench.checks.note("no Open vSwitch here")
         return
