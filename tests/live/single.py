@@ -7,6 +7,7 @@ import time
 from collections import Counter
 from pathlib import Path
 
+import frames
 import pcapng
 from listener import LACPDU, MARKER, RESPONSE, Listener
 from tap import Tap
@@ -41,6 +42,22 @@ def listen(bench):
         checks.equal("heard by A", sum(each["counters"]["lacpdus_received"] for each in a.last()["ports"]), 0)
         checks.equal("frames from B", len(first.frames) + len(second.frames), 0)
         checks.note(f"{sum(each['counters']['lacpdus_received'] for each in told['ports'])} heard in {time.monotonic() - start:.1f} s")
+
+
+def filtered(bench):
+    """An LACPDU with a VLAN tag, number 0 among them, to another address or of another type is not heard; the same without is."""
+    tagged = [frames.frame(tag=frames.tag(number)) for number in (0, 5, 4094)]
+    strange = [frames.frame(destination=frames.ELSEWHERE), frames.frame(kind=frames.OTHER_TYPE)]
+    with Wires(1) as wires, bench.tool("A", "--listen", "--every", "0.2", *wires.ends("A")) as a:
+        a.last()
+        frames.send("B", "b1", *tagged, *strange)
+        time.sleep(0.6)
+        told = port(a.last(), 1)
+        bench.checks.equal("heard", [told["counters"][name] for name in told["counters"] if name.endswith("received")], [0] * 5)
+        bench.checks.equal("partner", told["partner"], None)
+        frames.send("B", "b1", frames.frame())
+        a.wait_until(lambda state: port(state, 1)["partner"] and port(state, 1)["partner"]["key"] == 9, 1, what="the one without a tag is heard")
+        bench.checks.note(f"{len(tagged)} with a tag and {len(strange)} strange ones not heard")
 
 
 def ends(bench, expected, least, most, *words, before=()):
@@ -165,4 +182,4 @@ def half(bench):
                 bench.checks.equal("duplex", port(a.last(), 1)["duplex"], duplex)
 
 
-PARTS = {"listen": listen, "want": want, "pcap": pcap, "loop": loop, "half": half}
+PARTS = {"listen": listen, "filter": filtered, "want": want, "pcap": pcap, "loop": loop, "half": half}
