@@ -8,8 +8,8 @@ from contextlib import contextmanager
 import ovs
 from echo import RATE, Answers, Asks
 from listener import Listener
-from pairs import FORMS, GIVEN_UP, OFF, SHORT_TIMEOUT, WAIT, WAIT_OFF, partner_ports
-from tool import IS_DEFAULTED, IS_EXPIRED, LINK_DOWN, both, carry, has_cause, is_not, port
+from pairs import FORMS, GIVEN_UP, OFF, SHORT_TIMEOUT, WAIT, WAIT_OFF, hold_silenced, partner_ports
+from tool import LINK_DOWN, both, carry, has_cause, is_not, port
 from wires import Wires, command, has_tun, ip
 
 OURS, THEIRS = "10.43.0.1", "10.43.0.2"
@@ -49,15 +49,7 @@ def hold_cut(bench, wires, a, switch):
 def hold_silence(bench, wires, a, switch):
     """The second link is silent from Open vSwitch to us."""
     with Listener("A", "a2") as heard:
-        heard.first_after(time.monotonic(), 3)
-        start = time.monotonic()
-        wires.silence("B", 2)
-        silenced = time.monotonic()
-        expired = a.wait_until(has_cause(2, IS_EXPIRED), 5, start, what="EXPIRED")
-        last = heard.last_before(silenced)
-        bench.checks.between("EXPIRED", expired - last, SHORT_TIMEOUT - OFF, SHORT_TIMEOUT + OFF)
-        defaulted = a.wait_until(has_cause(2, IS_DEFAULTED), 5, expired, what="DEFAULTED")
-        bench.checks.between("DEFAULTED", defaulted - last, GIVEN_UP - OFF, GIVEN_UP + OFF)
+        start, defaulted = hold_silenced(bench.checks, wires, a, heard)
         wires.unsilence("B", 2)
         again = heard.first_after(defaulted, 4)
         bench.checks.between("carries", a.wait_until(carry(2), 5, again) - again, WAIT - WAIT_OFF, WAIT + WAIT_OFF)

@@ -72,19 +72,25 @@ def cut(bench):
                 bench.checks.true(f"link {other} carries on", tool.always(start, carry(other)))
 
 
+def hold_silenced(checks, wires, a, heard):
+    """The second link falls silent from B to A, where `heard` listens: A notices, and gives up. When it began, and when it was given up."""
+    heard.first_after(time.monotonic(), 3)
+    start = time.monotonic()
+    wires.silence("B", 2)
+    silenced = time.monotonic()
+    expired = a.wait_until(has_cause(2, IS_EXPIRED), 5, start, what="EXPIRED")
+    last = heard.last_before(silenced)
+    checks.between("EXPIRED", expired - last, SHORT_TIMEOUT - OFF, SHORT_TIMEOUT + OFF)
+    defaulted = a.wait_until(has_cause(2, IS_DEFAULTED), 5, expired, what="DEFAULTED")
+    checks.between("DEFAULTED", defaulted - last, GIVEN_UP - OFF, GIVEN_UP + OFF)
+    return start, defaulted
+
+
 def silence_one_way(bench):
     """The second link is silent from B to A: A notices, gives up, and carries again two seconds after it hears it; the first link is undisturbed."""
     checks = bench.checks
     with pair(bench, 2) as (wires, a, b), Listener("A", "a2") as heard:
-        heard.first_after(time.monotonic(), 2)
-        start = time.monotonic()
-        wires.silence("B", 2)
-        silenced = time.monotonic()
-        expired = a.wait_until(has_cause(2, IS_EXPIRED), 5, start, what="EXPIRED")
-        last = heard.last_before(silenced)
-        checks.between("EXPIRED", expired - last, SHORT_TIMEOUT - OFF, SHORT_TIMEOUT + OFF)
-        defaulted = a.wait_until(has_cause(2, IS_DEFAULTED), 5, expired, what="DEFAULTED")
-        checks.between("DEFAULTED", defaulted - last, GIVEN_UP - OFF, GIVEN_UP + OFF)
+        start, defaulted = hold_silenced(checks, wires, a, heard)
         checks.true("B does not carry into the silence", is_not(carry(2))(b.last()))
         wires.unsilence("B", 2)
         heard_again = heard.first_after(defaulted, 3)
