@@ -1,5 +1,7 @@
 // The calls (R1.2) on a table with what its ports asked for, and the call that asks for a Marker (43.5). Each may be given anything. A call of before is `whole`'s on the
 // front of the memory, and then the groups behind it.
+#![tactic(auto)]
+
 ghost use Rattle.std.specs.Prelude.{◌≡◌, Bool, true, cond, ◌&&◌, ◌++◌, ◌+◌, ◌*◌, ◌-◌, ◌≤◌, ◌<◌, length, take, drop, eqb};
 ghost use Rattle.frame.specs.Class.{frame_size};
 ghost use Rattle.frame.specs.Wire.{marker};

@@ -4,7 +4,7 @@ ghost use Rattle.asked.specs.Ask.{said_number};
 
 use control::answer::Answer;
 
-#[derive(Drop)]
+#[derive(Clone, Copy)]
 pub enum Said {
     // What other calls answer too.
     Plain(Answer),

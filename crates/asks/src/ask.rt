@@ -7,7 +7,7 @@ use machine::count::one_more;
 use machine::states::Ticks;
 
 // What came of it. The constant beside a refusal is the first.
-#[derive(Drop)]
+#[derive(Clone, Copy)]
 pub enum Outcome {
     Nothing,
     Awaiting,
@@ -17,7 +17,7 @@ pub enum Outcome {
 }
 
 // The timer is that of the Marker that is awaited; `number` is the transaction of the next one.
-#[derive(Drop)]
+#[derive(Clone, Copy)]
 pub struct Ask {
     pub outcome: Outcome,
     pub timer: Ticks,

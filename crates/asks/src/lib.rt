@@ -1,4 +1,6 @@
 // Markers of our own (43.5): what each port asked for last and what came of it, as a group of octets for each port, one behind the other.
+#![tactic(auto)]
+
 ghost use Rattle.std.specs.Prelude.{◌≡◌, ◌+◌, ◌*◌, ◌≤◌, length};
 ghost use Rattle.octets.specs.Octets.{put_at};
 ghost use Rattle.asks.specs.Ask.{ask_fallen};

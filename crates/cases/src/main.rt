@@ -1,5 +1,7 @@
 // Reads the frames of the file `frames`, which an independent program wrote (tools/make-frames.py), and prints what the
 // frame tests say of each: of an LACPDU also its two blocks and the LACPDU that is written from them, of a Marker the Response.
+#![tactic(auto)]
+
 mod six;
 mod story;
 

@@ -1,4 +1,6 @@
 // Churn detection (43.4.17): the two machines that watch a port's Synchronizations, their octets behind the ports' records, and a run of all of them.
+#![tactic(auto)]
+
 ghost use Rattle.std.specs.Prelude.{◌≡◌, ◌+◌, ◌≤◌, ◌<◌, length, true};
 ghost use Rattle.octets.specs.Octets.{put_at};
 ghost use Rattle.table.specs.Layout.{record_size};
@@ -18,7 +20,7 @@ pub mod group;
 pub mod watch;
 
 // What goes before the machines in a call: a start begins them anew, a tick has made their timers fall.
-#[derive(Drop)]
+#[derive(Clone, Copy)]
 pub enum Stage {
     Start,
     Tick,

@@ -10,21 +10,21 @@ use machine::states::Ticks;
 pub(crate) const CHURN_DETECTION_TIME: u16 = 600;
 
 // The states of 43.4.17. The constant beside a refusal is the first.
-#[derive(Drop)]
+#[derive(Clone, Copy)]
 pub enum Churn {
     NoChurn,
     Monitor,
     Churn,
 }
 
-#[derive(Drop)]
+#[derive(Clone, Copy)]
 pub enum ChurnStep {
     Stay,
     Enter(Churn),
 }
 
 // A machine's state and timer, and how often it found churn.
-#[derive(Drop)]
+#[derive(Clone, Copy)]
 pub struct Watch {
     pub state: Churn,
     pub timer: Ticks,
@@ -32,7 +32,7 @@ pub struct Watch {
 }
 
 // A port's two.
-#[derive(Drop)]
+#[derive(Clone, Copy)]
 pub struct Monitors {
     pub actor: Watch,
     pub partner: Watch,

@@ -7,7 +7,7 @@ use frame::class::{FRAME, Refusal};
 use report::Sets;
 
 // Why a call was refused; `reason_number` gives the answer number of each.
-#[derive(Drop)]
+#[derive(Clone, Copy)]
 pub enum Reason {
     // The memory is no table.
     Table,
@@ -32,7 +32,7 @@ pub enum Reason {
 }
 
 // What a call answers; `answer_number` gives the number of each, `length_sent` how much is to be sent for a frame.
-#[derive(Drop)]
+#[derive(Clone, Copy)]
 pub enum Answer {
     Done,
     // A received LACPDU was done.
@@ -111,14 +111,14 @@ impl Answer {
 }
 
 // The ports of an aggregator; beside a refusal, zeros (R2.20).
-#[derive(Drop)]
+#[derive(Clone, Copy)]
 pub struct AggregatorReport {
     pub answer: Answer,
     pub sets: Sets,
 }
 
 // The ports that have something to send; beside a refusal, none.
-#[derive(Drop)]
+#[derive(Clone, Copy)]
 pub struct DueReport {
     pub answer: Answer,
     pub ports: u32,

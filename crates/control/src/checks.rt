@@ -8,7 +8,7 @@ use frame::class::Class;
 use machine::states::{Line, Mux};
 
 // What the first two tests find: a refusal, or the place of the port, from 0.
-#[derive(Drop)]
+#[derive(Clone, Copy)]
 pub enum Found {
     Refused(Reason),
     Port(usize),

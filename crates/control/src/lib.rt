@@ -1,5 +1,7 @@
 // The calls (R1.2). Each may be given anything: memory of any length and content, any port number, frame, buffer and setting. It tests in
 // the order of R2.14, and a refusal leaves table and outgoing buffer as they came; what an accepted call does stands in `work`.
+#![tactic(auto)]
+
 ghost use Rattle.std.specs.Prelude.{◌≡◌};
 ghost use Rattle.table.specs.Table.{InTable};
 ghost use Rattle.control.specs.Call.{start as call_start, receive as call_receive, tick as call_tick, line as call_line, configure as call_configure, fetch as call_fetch};

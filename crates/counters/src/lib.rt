@@ -1,4 +1,6 @@
 // The counters of a port's page (30.7.3): a small record that is lent to the calls that receive and fetch, and is no part of the table.
+#![tactic(auto)]
+
 ghost use Rattle.std.specs.Prelude.{◌≡◌};
 ghost use Rattle.counters.specs.Counters.{is_marker, is_done, as_lacpdu, as_marker, as_response, counted_if, received, fetched};
 
@@ -7,7 +9,7 @@ use machine::count::one_more;
 
 // Each in 32 bits. Received: LACPDUs, Markers, Marker Responses, unknown and illegal frames. Sent: LACPDUs, and Marker Responses, which answer a Marker.
 #[repr(C)]
-#[derive(Drop)]
+#[derive(Clone, Copy)]
 pub struct Counters {
     pub lacpdus: u32,
     pub markers: u32,

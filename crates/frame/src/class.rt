@@ -3,7 +3,7 @@ ghost use Rattle.std.specs.Prelude.{◌≡◌, ◌≤◌, length};
 ghost use Rattle.frame.specs.Class.{refusal_number, class_of, foreign, unknown, wrong_length, wrong_marker_type, illegal, frame_size};
 
 // Why the frame tests refuse a frame; the definition `refusal_number` gives the answer number of each.
-#[derive(Drop)]
+#[derive(Clone, Copy)]
 pub enum Refusal {
     // Too short for a header, or not to the Slow Protocols address.
     Foreign,
@@ -26,7 +26,7 @@ impl Refusal {
     }
 }
 
-#[derive(Drop)]
+#[derive(Clone, Copy)]
 pub enum Class {
     Lacpdu,
     Marker,

@@ -1,5 +1,7 @@
 // What the machines of Clause 43 are made of: their states and timers, the transitions of their figures over enums and bools, the
 // comparisons of 43.4.9, the ages of sends, and counts. No record of a port is known here.
+#![tactic(auto)]
+
 pub mod ages;
 pub mod compare;
 pub mod count;

@@ -4,7 +4,7 @@ ghost use Rattle.machine.specs.Mux.{waits, is_attached, collects, distributes, i
 
 use crate::states::{Mux, Selection};
 
-#[derive(Drop)]
+#[derive(Clone, Copy)]
 pub enum MuxStep {
     Stay,
     Enter(Mux),

@@ -8,7 +8,7 @@ pub const FAST_PERIODIC_TIME: Ticks = Ticks(10);
 
 pub const SLOW_PERIODIC_TIME: Ticks = Ticks(300);
 
-#[derive(Drop)]
+#[derive(Clone, Copy)]
 pub enum PeriodicStep {
     Stay,
     Enter(Periodic),

@@ -9,7 +9,7 @@ pub const SHORT_TIMEOUT_TIME: Ticks = Ticks(30);
 
 pub const LONG_TIMEOUT_TIME: Ticks = Ticks(900);
 
-#[derive(Drop)]
+#[derive(Clone, Copy)]
 pub enum ReceiveStep {
     Stay,
     Enter(Receive),

@@ -1,4 +1,6 @@
 // The C interface (include/myrkosti.h): each call of `asked` and each report of `reasons` with numbers and lent octets. A call answers its number (R2).
+#![tactic(auto)]
+
 ghost use Rattle.std.specs.Prelude.{◌≡◌};
 ghost use Rattle.control.specs.Call.{start as call_start, tick as call_tick, line as call_line, configure as call_configure};
 ghost use Rattle.asked.specs.Layer.{old_layer, new_layer};
@@ -50,7 +52,7 @@ pub extern "C" fn myrkosti_line(table: &mut [u8], port: u32, up: bool, full: boo
 }
 
 // What a call that counts answers, and the counters after it.
-#[derive(Drop)]
+#[derive(Clone, Copy)]
 pub struct Counted {
     pub number: u32,
     pub counters: Counters,

@@ -1,5 +1,7 @@
 // Octets in lent slices: copying, comparing, and two-octet numbers, high octet first.
 // The loops are the kit's; what is added here is one definition for each meaning, which callers cite.
+#![tactic(auto)]
+
 ghost use Rattle.std.specs.Prelude.{◌≡◌, ◌+◌, ◌≤◌, ◌<◌, length};
 ghost use Rattle.octets.specs.Octets.{put_at, fitted, same_octets, number_at, number_octets, high, low, word_at};
 
@@ -11,7 +13,7 @@ pub fn put(dst: &mut [u8], at: usize, src: &[u8])
     requires { at + length src.now ≤ length dst.old }
     ensures { dst.new ≡ put_at at src.now dst.old }
 {
-    bytes::copy(src, &mut dst[at..]);
+    dst[at..at + src.len()].copy_from_slice(src);
 }
 
 // Writes as many octets of src as fit over dst's, from the front; what is behind them stays.
@@ -20,17 +22,17 @@ pub fn put_fitting(dst: &mut [u8], src: &[u8])
 {
     let n = dst.len();
     if n < src.len() {
-        bytes::copy(&src[..n], dst);
+        dst.copy_from_slice(&src[..n]);
         return;
     }
-    bytes::copy(src, dst);
+    dst[..src.len()].copy_from_slice(src);
 }
 
 // Whether a and b hold the same octets.
 pub fn same(a: &[u8], b: &[u8]) -> bool
     ensures { result ≡ same_octets a.now b.now }
 {
-    check::same(a, b)
+    a == b
 }
 
 // The high octet of a two-octet number.

@@ -7,7 +7,7 @@ use frame::state::PortState;
 use machine::states::{Ages, Line, Phase, Receive, Selection, Ticks, Timers};
 
 // The settings but for own Activity, Timeout and Aggregation, which are kept in the actor's state alone.
-#[derive(Drop)]
+#[derive(Clone, Copy)]
 pub struct Own {
     pub address: Address,
     pub key: u16,
@@ -15,7 +15,7 @@ pub struct Own {
     pub default: Block,
 }
 
-#[derive(Drop)]
+#[derive(Clone, Copy)]
 pub struct Port {
     pub phase: Phase,
     pub aggregator: u8,

@@ -5,7 +5,7 @@ ghost use Rattle.port.specs.Transmit.{due, sent, ntt_cleared, ticked};
 use crate::record::Port;
 
 // What a fetch finds.
-#[derive(Drop)]
+#[derive(Clone, Copy)]
 pub enum Due {
     Nothing,
     Barred,

@@ -1,5 +1,7 @@
 // What is promised of the library's calls, stated in specs/ and proved in proofs/. The code is the calls once more, on a table that a start and
 // later steps made: whatever the arguments are, they leave such a table. So what the program's types can hold is what `Takes` asks for.
+#![tactic(auto)]
+
 ghost use Rattle.std.specs.Prelude.{◌≡◌, true};
 ghost use Rattle.control.specs.Accepted.{accepted};
 ghost use Rattle.promises.specs.Asked.{OldAsked, NewAsked};

@@ -1,5 +1,7 @@
 // Two reports beyond R15 on a table with all that lies behind its records: why a port does not carry, and why two ports are apart. Each may be given anything, and
 // nothing is written.
+#![tactic(auto)]
+
 ghost use Rattle.std.specs.Prelude.{◌≡◌, ◌≤◌, length};
 ghost use Rattle.table.specs.Layout.{place};
 ghost use Rattle.table.specs.Table.{count_in};
@@ -13,13 +15,13 @@ use table::layout::place_of;
 use why::apart::Apart;
 use why::cause::{Cause, Hold, Why};
 
-#[derive(Drop)]
+#[derive(Clone, Copy)]
 pub struct WhyReport {
     pub answer: Answer,
     pub why: Why,
 }
 
-#[derive(Drop)]
+#[derive(Clone, Copy)]
 pub struct ApartReport {
     pub answer: Answer,
     pub apart: Apart,

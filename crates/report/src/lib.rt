@@ -1,4 +1,6 @@
 // Reports of several ports as 32-bit sets: those that hold an aggregator, are attached to it and distribute, and those that have an LACPDU to send.
+#![tactic(auto)]
+
 ghost use Rattle.std.specs.Prelude.{◌≡◌, true, length};
 ghost use Rattle.frame.specs.State.{weighed};
 ghost use Rattle.port.specs.Transmit.{is_due};
@@ -10,7 +12,7 @@ ghost use Rattle.report.specs.Sets.{stands, set_of, lowest_of, sets_of, due_of};
 use table::record::{ages_in, line_in, ntt_in};
 
 // How a port stands to an aggregator; or, whichever it holds, that it has an LACPDU to send.
-#[derive(Drop)]
+#[derive(Clone, Copy)]
 pub enum Role {
     Holds,
     Attached,
@@ -19,7 +21,7 @@ pub enum Role {
 }
 
 // The ports of an aggregator as sets, bit 0 the first port, with how many distribute and the lowest that does (from 1; 0 for none).
-#[derive(Drop)]
+#[derive(Clone, Copy)]
 pub struct Sets {
     pub holding: u32,
     pub attached: u32,

@@ -1,4 +1,6 @@
 // A port's settings: one set at start, with which every port begins, and changed by a call.
+#![tactic(auto)]
+
 ghost use Rattle.std.specs.Prelude.{◌≡◌};
 ghost use Rattle.settings.specs.Settings.{regrouped, same_grouping, same_settings, configured, lawful, blank, started, own_of, own_bits};
 
@@ -9,7 +11,7 @@ use machine::compare::{alike, same_address, same_block};
 use machine::states::{Ages, Line, Mux, Periodic, Phase, Receive, Selection, Ticks, Timers};
 use port::record::{Own, Port};
 
-#[derive(Drop)]
+#[derive(Clone, Copy)]
 pub struct Settings {
     pub address: Address,
     pub key: u16,

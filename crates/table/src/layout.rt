@@ -14,7 +14,7 @@ pub const RECORD: usize = 57;
 // The most ports that a table has.
 pub(crate) const MOST_PORTS: u8 = 32;
 
-#[derive(Drop)]
+#[derive(Clone, Copy)]
 pub struct Header {
     pub count: u8,
     pub system: SystemId,

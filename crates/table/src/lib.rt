@@ -1,5 +1,7 @@
 // The table in lent memory: a header and one record for each port. Where each field lies, reading and writing records, and the
 // check that answer 1 rests on. Nothing of a table's size stands on the stack.
+#![tactic(auto)]
+
 ghost use Rattle.std.specs.Prelude.{◌≡◌, ◌+◌, ◌≤◌, true, leb, length, replicate};
 ghost use Rattle.octets.specs.Octets.{put_at};
 ghost use Rattle.table.specs.Keys.{compared_by};

@@ -22,7 +22,7 @@ use machine::states::{Ages, Line, Phase, Ticks, Timers};
 use port::record::{Own, Port};
 
 // What the selection rule compares (R10): own key and Aggregation, and the partner's system, key and Aggregation.
-#[derive(Drop)]
+#[derive(Clone, Copy)]
 pub struct Keys {
     pub key: u16,
     pub aggregation: bool,

@@ -17,7 +17,7 @@ use frame::block::Block;
 use port::record::Port;
 use table::record::{actor_in, ages_in, line_in, ntt_in, partner_in, phase_in, timers_in};
 
-#[derive(Drop)]
+#[derive(Clone, Copy)]
 pub enum Step {
     // Steps 1 and 2 of a tick: timers fall, sends grow older, and the receive machine runs.
     Tick,

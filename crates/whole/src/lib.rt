@@ -1,5 +1,7 @@
 // The calls (R1.2) on a table with its monitors. Each may be given anything. It is `control`'s call on the table without them; where that did steps 3 to 6,
 // the churn detection machines then run.
+#![tactic(auto)]
+
 ghost use Rattle.std.specs.Prelude.{◌≡◌, ◌-◌, ◌≤◌, true, length};
 ghost use Rattle.machine.specs.States.{same_line};
 ghost use Rattle.settings.specs.Settings.{same_settings};

@@ -11,7 +11,7 @@ use table::layout::Header;
 use table::record::Keys;
 
 // Why a port is individual (R10.1), each reason for itself.
-#[derive(Drop)]
+#[derive(Clone, Copy)]
 pub struct Alone {
     // Its own Aggregation is clear.
     pub own: bool,
@@ -22,7 +22,7 @@ pub struct Alone {
 }
 
 // Why two ports are apart: which is individual, and what they differ in.
-#[derive(Drop)]
+#[derive(Clone, Copy)]
 pub struct Apart {
     pub first: Alone,
     pub second: Alone,

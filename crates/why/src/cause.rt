@@ -7,7 +7,7 @@ use machine::states::Receive;
 use port::record::Port;
 
 // The order is that in which they are asked for, and each keeps its number.
-#[derive(Drop)]
+#[derive(Clone, Copy)]
 pub enum Cause {
     // None is known: beside a refusal, and in memory that no run made.
     NoCause,
@@ -32,13 +32,13 @@ pub enum Cause {
 }
 
 // A port by its number, from 1, and the ticks that it still waits; zeros for nobody.
-#[derive(Drop)]
+#[derive(Clone, Copy)]
 pub struct Hold {
     pub port: u32,
     pub ticks: u32,
 }
 
-#[derive(Drop)]
+#[derive(Clone, Copy)]
 pub struct Why {
     pub cause: Cause,
     // Waits: its own ticks. HeldBack: the port that waits longest, the lowest of several, and its ticks. Otherwise zeros.

@@ -1,5 +1,7 @@
 // The work of an accepted call, on a table that passed the range check: its own change, the receive machine of the port concerned,
 // displaced ports, periodic machines, and steps 3 to 6. `control` tests first, and then calls one of these.
+#![tactic(auto)]
+
 ghost use Rattle.std.specs.Prelude.{◌≡◌, true, ◌+◌, ◌<◌, ◌≤◌, length};
 ghost use Rattle.frame.specs.Class.{frame_size};
 ghost use Rattle.frame.specs.Block.{block_of};

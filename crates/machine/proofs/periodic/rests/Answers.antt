@@ -1,0 +1,12 @@
+-- `machine::periodic::rests` meets its contract: state by state. Assumes nothing.
+use borrow.Author.Rules.{rules}
+use Rattle.machine.proofs.periodic.rests.Goals as goal
+
+pub returns-in-NoPeriodic : goal.returns-in-NoPeriodic
+returns-in-NoPeriodic c = rw c.in-NoPeriodic.is
+
+pub returns-in-FastPeriodic : goal.returns-in-FastPeriodic
+returns-in-FastPeriodic c = rw c.in-FastPeriodic.is
+
+pub returns-in-SlowPeriodic : goal.returns-in-SlowPeriodic
+returns-in-SlowPeriodic c = rw c.in-SlowPeriodic.is
