@@ -1,0 +1,13 @@
+-- `keys` meets its contract: what is compared, as the octets of record i tell of it. Assumes nothing.
+use Rattle.table.specs.Table.{decoded_at}
+use Rattle.table.proofs.StoreLaws.{port-decoded}
+use Rattle.table.proofs.TableLaws.{lies}
+use borrow.Author.Rules.{rules}
+use Rattle.table.proofs.keys.Goals as goal
+
+pub record_at-requires : goal.record_at-requires
+record_at-requires c = lies _ _ c.requires
+
+pub returns : goal.returns
+unfolding decoded_at
+returns c = rw (port-decoded _ _ c.requires.1, c.keys_in.ensures, c.record_at.ensures.0)

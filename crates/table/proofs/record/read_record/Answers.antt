@@ -1,0 +1,8 @@
+-- `read_record` meets its contract: each group is read at its own place. Assumes nothing.
+use Rattle.table.specs.Record.{decoded}
+use borrow.Author.Rules.{rules}
+use Rattle.table.proofs.record.read_record.Goals as goal
+
+pub returns : goal.returns
+unfolding decoded
+returns c = simp (c.read.ensures, c.own_in.ensures, c.ages_in.ensures, c.timers_in.ensures, c.of_octet.ensures, c.line_in.ensures, c.flag_of.ensures, c.phase_in.ensures)

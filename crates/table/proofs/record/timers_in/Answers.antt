@@ -1,0 +1,6 @@
+-- `timers_in` meets its contract: each timer is read at its own place. Assumes nothing.
+use borrow.Author.Rules.{rules}
+use Rattle.table.proofs.record.timers_in.Goals as goal
+
+pub returns : goal.returns
+returns c = simp (c.wide.ensures, c.number-2.ensures, c.number.ensures)
