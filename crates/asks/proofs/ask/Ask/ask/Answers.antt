@@ -1,0 +1,6 @@
+-- `ask` meets its contract. Assumes nothing.
+use borrow.Author.Rules.{rules}
+use Rattle.asks.proofs.ask.Ask.ask.Goals as goal
+
+pub returns : goal.returns
+returns c = rw c.one_more.ensures

@@ -1,0 +1,16 @@
+-- `begin_all` meets its contract: the loop has done the first i groups, and a turn does the next. Assumes nothing.
+use Prim.Native.Nat.{◌≤◌, ◌-◌, ◌*◌}
+use mathlib.Core.Path.{◌≡◌, ap, ◌∙◌}
+use native.Mathlib.Omega.{arith}
+use native.Mathlib.Numerals.{add-one}
+use Rattle.octets.specs.Octets.{put_at}
+use Rattle.asks.specs.declared.ask.Ask.{Ask}
+use Rattle.asks.specs.Group.{group_size, group_octets}
+use Rattle.asks.proofs.GroupLaws.{done_to, fresh_at, done_first, turn-length, turn-fits, begin-turn, begin_end}
+use Rattle.asks.proofs.begin_all.Given as goal
+
+abbrev pub invariant-loop-i : goal.invariant-loop-i
+invariant-loop-i l = (l.i ≤ l.n) × (l.groups ≡ done_to fresh_at l.initial.groups l.i)
+
+abbrev pub decreases-loop-i : goal.decreases-loop-i
+decreases-loop-i l = l.n - l.i

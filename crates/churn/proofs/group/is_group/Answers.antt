@@ -1,0 +1,10 @@
+-- `is_group` meets its contract: where states and timers are 0 they are in range, and elsewhere they are tested one by one. Assumes nothing.
+use mathlib.Core.Path.{sym, ◌∙◌}
+use mathlib.Core.Bool.{true}
+use Rattle.churn.proofs.RestLaws.{still-ranged}
+use borrow.Author.Rules.{rules}
+use Rattle.churn.proofs.group.is_group.Goals as goal
+
+pub returns-then-is_still : goal.returns-then-is_still
+returns-then-is_still c =
+    sym (still-ranged true true c.args.s.now (λ j. (c.shared_slice_known-1.given j).fits) (sym c.is_still.ensures ∙ c.if-is_still.true))

@@ -1,0 +1,23 @@
+-- `trunk::select::group_of` meets its contract: an individual port is alone; else port i, and then each later port by what is compared. Assumes nothing.
+use Prim.Native.Nat.{ℕ, ◌-◌, ◌≤◌, ◌<◌}
+use mathlib.Core.Path.{◌≡◌, sym, ap, ◌∙◌}
+use mathlib.Core.Bool.{true}
+use mathlib.Core.List.{map}
+use native.Mathlib.Omega.{arith}
+use lib.ListN.{length, get_or, length-map}
+use Rattle.octets.specs.Sets.{member}
+use Rattle.port.specs.Compared.{Compared, compared}
+use Rattle.table.specs.Table.{count_in, ports, port_at}
+use Rattle.table.proofs.StoreLaws.{ports-length}
+use Rattle.table.proofs.TableLaws.{in_range}
+use Rattle.trunk.specs.Selection.{individual, same_group, nobody, joins}
+use Rattle.trunk.proofs.SelectLaws.{joins_at}
+use Rattle.trunk.proofs.TableWork.{map-port_at}
+use Rattle.trunk.proofs.GroupSets.{so_far, group-begins, group-alone, group-more, group-ends}
+use Rattle.trunk.proofs.select.group_of.Given as goal
+
+abbrev pub invariant-loop-j : goal.invariant-loop-j
+invariant-loop-j l = (l.i < l.j) × (l.j ≤ l.n) × ((m : ℕ) → member l.set m ≡ so_far l.ours (map compared (ports l.table)) l.i l.j m)
+
+abbrev pub decreases-loop-j : goal.decreases-loop-j
+decreases-loop-j l = l.n - l.j

@@ -1,0 +1,103 @@
+-- `trunk::select::select_all` meets its contract: the groups whose lowest port is below i are done (`done_below`), and a turn does that of port i, if it is the lowest of one. Assumes nothing.
+use Prim.Native.Nat.{ℕ, ◌-◌, ◌≤◌, ◌<◌}
+use mathlib.Core.Path.{◌≡◌, sym, ap, ◌∙◌}
+use mathlib.Core.Bool.{true, false}
+use mathlib.Core.List.{List, map}
+use native.Mathlib.Omega.{arith}
+use lib.Dec.{ltb}
+use borrow.Author.Tests.{le-ltb, ltb-true, ltb-false, not-true, not-false}
+use Rattle.octets.specs.Lists.{map_from}
+use Rattle.octets.specs.Sets.{member}
+use Rattle.octets.proofs.SetLaws.{none-member}
+use Rattle.port.specs.declared.record.Port.{Port}
+use Rattle.port.specs.Compared.{compared}
+use Rattle.table.specs.Table.{InTable, count_in, ports}
+use Rattle.table.specs.Leaves.{Leaves}
+use Rattle.table.proofs.LeavesLaws.{unworked, then, said, count_kept}
+use Rattle.table.proofs.StoreLaws.{ports-length}
+use Rattle.table.proofs.TableLaws.{in_range}
+use Rattle.trunk.specs.Selection.{lowest}
+use Rattle.trunk.specs.Groups.{since, placing}
+use Rattle.trunk.proofs.GroupLaws.{lowest-le}
+use Rattle.trunk.proofs.GroupSets.{done_below, since-before, below_none, below_all, below_compares, below-same, below-done, below_more, more-done}
+use Rattle.trunk.proofs.select.select_all.Goals as goal
+
+pub count-n-requires : goal.count-n-requires
+count-n-requires c = c.requires
+
+pub loop-i-init : goal.loop-i-init
+loop-i-init c =
+    let a = c.args in
+    let t = a.table.now in (
+      omega arith,
+      sym c.count-n.ensures,
+      λ m. none-member m ∙ sym (le-ltb (lowest a.ours (map compared (ports t)) m) 0 (omega arith)),
+      said (sym (below_none a.ours (ports t))) (unworked t c.requires),
+    )
+
+pub overflow_add-i : goal.overflow_add-i
+overflow_add-i c = let most = (in_range _ c.requires).most in let end = c.loop-i.invariant.1 in omega (arith, end, most)
+
+pub has-requires : goal.has-requires
+has-requires c = let most = (in_range _ c.requires).most in let end = c.loop-i.invariant.1 in omega (arith, end, most)
+
+pub group_of-set-requires : goal.group_of-set-requires
+group_of-set-requires c = let inv = c.loop-i.invariant in (inv.3.ranged, rw (count_kept inv.3) (omega (arith, inv.1)))
+
+pub select_set-requires : goal.select_set-requires
+select_set-requires c =
+    let inv = c.loop-i.invariant in
+    let u = c.loop-i.table in
+    let i = c.loop-i.i in
+    let at : InTable u i = (inv.3.ranged, rw (count_kept inv.3) (omega (arith, inv.1))) in
+    (at, λ m h. c.group_of-set.ensures m ∙ since-before c.args.ours (map compared (ports u)) i m h)
+
+pub all_of-done-requires : goal.all_of-done-requires
+all_of-done-requires c = tt
+
+pub loop-i-smaller-then-not-has : goal.loop-i-smaller-then-not-has
+loop-i-smaller-then-not-has c = omega arith
+
+pub loop-i-preserved-then-not-has : goal.loop-i-preserved-then-not-has
+loop-i-preserved-then-not-has c =
+    let a = c.args in
+    let t = a.table.now in
+    let inv = c.loop-i.invariant in
+    let i = c.loop-i.i in
+    let u = c.loop-i.table in
+    let h : i < count_in t = omega (arith, inv.1) in
+    let read : map compared (ports u) ≡ map compared (ports t) = ap (λ (l : List Port). map compared l) inv.3.records ∙ below_compares a.ours (ports t) i in
+    let none : member c.loop-i.done i ≡ false = sym c.has.ensures ∙ c.if-not-has.true in
+    let low : lowest a.ours (map compared (ports t)) i ≡ i =
+    omega (arith, lowest-le a.ours (map compared (ports t)) i, ltb-false (lowest a.ours (map compared (ports t)) i) i (sym (inv.2 i) ∙ none)) in
+    let set = c.group_of-set.result in
+    let is_set : (m : ℕ) → member set m ≡ since a.ours (map compared (ports t)) i m = λ m. c.group_of-set.ensures m ∙ ap (λ l. since a.ours l i m) read in (
+      omega arith,
+      inv.1,
+      more-done a.ours (ports t) i low set is_set c.loop-i.done c.all_of-done.result inv.2 c.all_of-done.ensures,
+      said (ap (λ (l : List Port). map_from (placing set i) 0 l) inv.3.records ∙ below_more a.ours (ports t) i low set is_set) (then inv.3 c.select_set.ensures),
+    )
+
+pub loop-i-smaller : goal.loop-i-smaller
+loop-i-smaller c = omega arith
+
+pub loop-i-preserved : goal.loop-i-preserved
+loop-i-preserved c =
+    let a = c.args in
+    let t = a.table.now in
+    let inv = c.loop-i.invariant in
+    let i = c.loop-i.i in
+    let u = c.loop-i.table in
+    let h : i < count_in t = omega (arith, inv.1) in
+    let read : map compared (ports u) ≡ map compared (ports t) = ap (λ (l : List Port). map compared l) inv.3.records ∙ below_compares a.ours (ports t) i in
+    let some : member c.loop-i.done i ≡ true = sym c.has.ensures ∙ c.if-not-has.false in
+    let low : lowest a.ours (map compared (ports t)) i < i = ltb-true (lowest a.ours (map compared (ports t)) i) i (sym (inv.2 i) ∙ some) in
+    (omega arith, inv.1, below-done a.ours (ports t) i low c.loop-i.done inv.2, said (below-same a.ours (ports t) i low) inv.3)
+
+pub returns : goal.returns
+returns c =
+    let a = c.args in
+    let t = a.table.now in
+    let inv = c.loop-i.invariant in
+    let end : count_in t ≡ c.loop-i.i = omega (arith, inv.1) in
+    said (below_all a.ours (ports t) c.loop-i.i (ports-length t ∙ end)) inv.3

@@ -1,0 +1,118 @@
+-- `trunk::select::select_set` meets its contract: the loop has done the ports below j (`done_to`), and a turn does the next; those below i are in no such set, nor are those
+-- from its end on. Assumes nothing.
+use Prim.Native.Nat.{ℕ, ◌+◌, ◌-◌, ◌≤◌, ◌<◌}
+use mathlib.Core.Path.{◌≡◌, refl, sym, ap, ◌∙◌}
+use mathlib.Core.Bool.{Bool, true, false, cond}
+use native.Mathlib.Omega.{arith}
+use lib.Dec.{leb}
+use borrow.Author.Tests.{leb-false}
+use Rattle.octets.specs.Sets.{member}
+use Rattle.octets.proofs.ListLaws.{done_to, done-idle, done-rest}
+use Rattle.octets.proofs.RangeLaws.{within-is}
+use Rattle.port.specs.declared.record.Port.{Port}
+use Rattle.table.specs.Table.{count_in, ports, port_at}
+use Rattle.table.specs.Leaves.{Leaves}
+use Rattle.table.proofs.LeavesLaws.{unworked, left_alone, said, count_kept}
+use Rattle.table.proofs.StoreLaws.{ports-length}
+use Rattle.table.proofs.TableLaws.{in_range}
+use Rattle.trunk.specs.Groups.{placing}
+use Rattle.trunk.specs.Settled.{reselected}
+use Rattle.trunk.proofs.TableWork.{in_count, next-is, turn}
+use Rattle.trunk.proofs.select.select_set.Goals as goal
+use Rattle.trunk.proofs.select.select_set.Invariants.{Bound, bound}
+
+pub count-requires : goal.count-requires
+count-requires c = c.requires.0.0
+
+pub end-requires : goal.end-requires
+end-requires c = tt
+
+pub lesser-n-requires : goal.lesser-n-requires
+lesser-n-requires c = tt
+
+pub overflow_add-k : goal.overflow_add-k
+overflow_add-k c = let most = (in_range _ c.requires.0.0).most in let less = c.requires.0.1 in omega arith
+
+pub overflow_cast-k : goal.overflow_cast-k
+overflow_cast-k c = let most = (in_range _ c.requires.0.0).most in let less = c.requires.0.1 in omega arith
+
+pub loop-j-init : goal.loop-j-init
+loop-j-init c =
+    let a = c.args in
+    let t = a.table.now in
+    let pre = c.requires in
+    let less = pre.0.1 in
+    let idle : done_to (placing a.set a.i) a.i (ports t) ≡ ports t =
+    done-idle (placing a.set a.i) (ports t) a.i (λ m x h. ap (λ (b : Bool). cond b (reselected (a.i + 1) x) x) (pre.1 m h)) in
+    (omega arith, omega arith, rw (c.lesser-n.ensures, c.count.ensures) (bound a.set (count_in t) c.end.result c.end.ensures.1), said (sym idle) (unworked t pre.0.0))
+
+pub overflow_add-j : goal.overflow_add-j
+overflow_add-j c =
+    let most = (in_range _ c.requires.0.0).most in
+    let few = c.loop-j.invariant.2.few in
+    omega (arith, few, most)
+
+pub has-requires : goal.has-requires
+has-requires c =
+    let most = (in_range _ c.requires.0.0).most in
+    let few = c.loop-j.invariant.2.few in
+    omega (arith, few, most)
+
+pub select_one-requires : goal.select_one-requires
+select_one-requires c =
+    let a = c.args in
+    let t = a.table.now in
+    let inv = c.loop-j.invariant in
+    let j = c.loop-j.j in
+    let h : j < count_in t = omega (arith, inv.2.few) in
+    let some = c.requires.0.1 in
+    let most : a.i + 1 ≤ count_in c.loop-j.table = rw (count_kept inv.3) (omega arith) in
+    ((inv.3.ranged, in_count (placing a.set a.i) j inv.3 h), within-is 1 (a.i + 1) (count_in c.loop-j.table) (omega arith) most)
+
+pub loop-j-smaller-then-has : goal.loop-j-smaller-then-has
+loop-j-smaller-then-has c = omega arith
+
+pub loop-j-preserved-then-has : goal.loop-j-preserved-then-has
+loop-j-preserved-then-has c =
+    let a = c.args in
+    let t = a.table.now in
+    let inv = c.loop-j.invariant in
+    let j = c.loop-j.j in
+    let h : j < count_in t = omega (arith, inv.2.few) in
+    let told : member a.set j ≡ true = sym c.has.ensures ∙ c.if-has.true in
+    let is : reselected (a.i + 1) (port_at c.loop-j.table j) ≡ placing a.set a.i j (port_at t j) =
+    ap (λ (p : Port). reselected (a.i + 1) p) (next-is (placing a.set a.i) j inv.3 h)
+    ∙ ap (λ (b : Bool). cond b (reselected (a.i + 1) (port_at t j)) (port_at t j)) (sym told) in
+    (omega (arith, inv.0), omega (arith, h), inv.2, turn (placing a.set a.i) j inv.3 h _ c.select_one.ensures is)
+
+pub loop-j-smaller : goal.loop-j-smaller
+loop-j-smaller c = omega arith
+
+pub loop-j-preserved : goal.loop-j-preserved
+loop-j-preserved c =
+    let a = c.args in
+    let t = a.table.now in
+    let inv = c.loop-j.invariant in
+    let j = c.loop-j.j in
+    let u = c.loop-j.table in
+    let h : j < count_in t = omega (arith, inv.2.few) in
+    let told : member a.set j ≡ false = sym c.has.ensures ∙ c.if-has.false in
+    let is : port_at u j ≡ placing a.set a.i j (port_at t j) =
+    next-is (placing a.set a.i) j inv.3 h ∙ ap (λ (b : Bool). cond b (reselected (a.i + 1) (port_at t j)) (port_at t j)) (sym told) in (
+      omega (arith, inv.0),
+      omega (arith, h),
+      inv.2,
+      turn (placing a.set a.i) j inv.3 h (port_at u j) (left_alone u j (port_at u j) inv.3.ranged (in_count (placing a.set a.i) j inv.3 h) refl) is,
+    )
+
+pub returns : goal.returns
+returns c =
+    let a = c.args in
+    let t = a.table.now in
+    let inv = c.loop-j.invariant in
+    let j = c.loop-j.j in
+    let over : c.lesser-n.result ≤ j = omega arith in
+    said
+    (done-rest (placing a.set a.i) (ports t) j (port_at t 0)
+    (λ m x h k. ap (λ (b : Bool). cond b (reselected (a.i + 1) x) x) (inv.2.rest m (omega (arith, over, h)) (rw ports-length at k))))
+    inv.3

@@ -1,0 +1,16 @@
+-- `trunk::settle::settle` meets its contract: steps 3 to 5, and 6. Assumes nothing.
+use mathlib.Core.Path.{ap}
+use mathlib.Core.List.{List, map}
+use Rattle.port.specs.declared.record.Port.{Port}
+use Rattle.trunk.specs.Settled.{muxed, settled}
+use Rattle.octets.proofs.ListLaws.{sweep_map}
+use Rattle.table.proofs.LeavesLaws.{then, said}
+use borrow.Author.Rules.{rules}
+use Rattle.trunk.proofs.settle.settle.Goals as goal
+
+pub returns : goal.returns
+unfolding settled
+returns c =
+    let first = c.join_all.ensures in
+    let second = said (sweep_map muxed 0 _) c.sweep.ensures in
+    said (ap (λ (l : List Port). map muxed l) first.records) (then first second)
