@@ -1,0 +1,36 @@
+-- `work::begin` meets its contract: memory is filled with the record with which a port begins, and steps 3 to 6 done. Assumes nothing.
+use mathlib.Core.Path.{◌≡◌, sym, ap, ◌∙◌}
+use mathlib.Core.List.{List, map}
+use lib.ListN.{replicate}
+use Rattle.port.specs.declared.record.Port.{Port}
+use Rattle.settings.specs.Settings.{started}
+use Rattle.port.specs.Range.{own_fits}
+use Rattle.table.specs.Table.{table_octets}
+use Rattle.trunk.specs.Settled.{muxed, settled}
+use Rattle.work.specs.Work.{after_start}
+use Rattle.octets.proofs.ListLaws.{sweep_map}
+use Rattle.table.proofs.FillLaws.{room-is}
+use Rattle.table.proofs.LeavesLaws.{made_of, then, said}
+use Rattle.settings.proofs.RangeLaws.{started_typed}
+use Rattle.work.proofs.WorkLaws.{own_typed}
+use borrow.Author.Rules.{rules}
+use Rattle.work.proofs.begin.Goals as goal
+
+pub fill-requires : goal.fill-requires
+fill-requires c =
+    let a = c.args in
+    let room = c.requires in
+    let is : c.start.result ≡ started a.settings = c.start.ensures in
+    let own = own_typed c.start.result.own _ _ c.start.type_inv.1.1.1.1.1.1.1.1.1.0.1 in
+    (room, rw is (started_typed a.header.count a.settings (room-is a.table.now a.header.count room).some (ap (λ (q : Port). own_fits q.own) (sym is) ∙ own)))
+
+pub returns : goal.returns
+unfolding after_start settled
+returns c =
+    let a = c.args in
+    let laid = c.fill.ensures in
+    let first = c.join_all.ensures in
+    let second = said (sweep_map muxed 0 _) c.sweep.ensures in
+    let both = said (ap (λ (l : List Port). map muxed l) first.records) (then first second) in
+    made_of both (λ j. (c.slice_known-4-1.given j).fits)
+    ∙ (λ j. table_octets (laid.0 j) (settled (laid.0 j) ((laid.2 ∙ ap (replicate a.header.count) c.start.ensures) j)))

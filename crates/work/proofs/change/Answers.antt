@@ -1,0 +1,18 @@
+-- `work::change` meets its contract: the record is stored, and the rest of the work done. Assumes nothing.
+use Rattle.table.proofs.LeavesLaws.{then, said, made_of}
+use Rattle.work.specs.Work.{worked, after_one}
+use borrow.Author.Rules.{rules}
+use Rattle.work.proofs.change.Goals as goal
+
+pub store-requires : goal.store-requires
+store-requires c = c.requires
+
+pub finish-requires : goal.finish-requires
+finish-requires c = c.store.ensures.ranged
+
+pub returns : goal.returns
+unfolding after_one
+returns c =
+    let put = c.store.ensures in
+    let finished = c.finish.ensures in
+    made_of (said (λ i. worked (put.header i) (put.records i)) (then put finished)) (λ j. (c.slice_known-3-1.given j).fits)

@@ -1,0 +1,39 @@
+-- `work::set_line` meets its contract: values as they are change nothing, others go through `change`. Assumes nothing.
+use mathlib.Core.Path.{◌≡◌, sym, ap, ◌∙◌}
+use mathlib.Core.Bool.{true, false}
+use Rattle.machine.specs.States.{same_line}
+use Rattle.port.specs.declared.record.Port.{Port}
+use Rattle.port.proofs.RangeLaws.{lined-ranged}
+use Rattle.table.specs.Table.{count_in, port_at}
+use Rattle.table.proofs.TableLaws.{ranged-at, octets-back}
+use Rattle.work.specs.Work.{after_line}
+use borrow.Author.Rules.{rules}
+use Rattle.work.proofs.set_line.Goals as goal
+
+pub load-p-requires : goal.load-p-requires
+load-p-requires c = c.requires
+
+pub returns-then-same : goal.returns-then-same
+unfolding after_line
+returns-then-same c =
+    let a = c.args in
+    let same : same_line a.line (port_at a.table.now a.i).line ≡ true =
+    ap (λ (p : Port). same_line a.line p.line) (sym c.load-p.ensures) ∙ (sym c.same.ensures ∙ c.if-same.true) in
+    rw same (sym (octets-back a.table.now c.requires.0 (λ j. (c.slice_known-1.given j).fits)))
+
+pub change-requires : goal.change-requires
+change-requires c =
+    let a = c.args in
+    let t = a.table.now in (
+      c.requires,
+      rw (c.set_line.ensures, c.load-p.ensures)
+          (lined-ranged (count_in t) a.line (port_at t a.i) (ranged-at t c.requires.0 (λ j. (c.slice_known-1.given j).fits) a.i c.requires.1)),
+    )
+
+pub returns : goal.returns
+unfolding after_line
+returns c =
+    let a = c.args in
+    let other : same_line a.line (port_at a.table.now a.i).line ≡ false =
+    ap (λ (p : Port). same_line a.line p.line) (sym c.load-p.ensures) ∙ (sym c.same.ensures ∙ c.if-same.false) in
+    rw (other, c.change.ensures, c.set_line.ensures, c.load-p.ensures)
