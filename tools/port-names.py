@@ -116,6 +116,8 @@ def main():
         now = antt(was, to)
         if now != was:
             open(path, "w", encoding="utf-8").write(now)
+    # a function of src/ may have the name of a lemma above, and keeps it
+    to = {n: t for n, t in to.items() if not (n in OTHER and "-" not in n)}
     for path in glob.glob("crates/*/src/**/*.rt", recursive=True) + glob.glob("crates/*/must-fail/*.edit"):
         was = open(path, encoding="utf-8").read()
         now = source(was, to)

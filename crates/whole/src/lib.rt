@@ -263,7 +263,7 @@ pub fn forward(old: &[u8], new: &mut [u8]) -> Answer
 }
 
 // Whether `new` is a table with monitors, and the other memory has the size of the same table without them.
-fn goes_back_lem(new: &[u8], old: &[u8]) -> bool
+fn goes_back(new: &[u8], old: &[u8]) -> bool
     ensures { result ≡ goes_back new.now old.now }
 {
     if !churn::has_monitors(new) {

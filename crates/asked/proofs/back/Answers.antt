@@ -1,0 +1,151 @@
+-- `back` meets its contract: the front moves, and the groups go along. Assumes nothing.
+use Prim.Native.Nat.{ℕ, ◌+◌, ◌*◌}
+use mathlib.Core.Path.{◌≡◌, sym, ap, ◌∙◌}
+use mathlib.Core.List.{List, ◌++◌}
+use native.Mathlib.Omega.{arith}
+use lib.ListN.{length, take, drop, length-drop}
+use lib.Seq.{length-take-le}
+use borrow.Author.Tests.{not-true, not-false, ne_eqb}
+use Rattle.octets.specs.Octets.{put_at}
+use Rattle.table.specs.Table.{count_in}
+use Rattle.asks.specs.Group.{group_size}
+use Rattle.whole.specs.Moves.{is_new}
+use Rattle.asked.specs.Asked.{asked_size, front_of}
+use Rattle.asked.specs.Layer.{old_layer, new_layer}
+use Rattle.asked.proofs.AskedLaws.{asked-size, tail_is, same_size}
+use Rattle.asked.proofs.MoveLaws.{back-refused, back_done, back-not, and-false}
+use borrow.Author.Rules.{rules}
+use Rattle.asked.proofs.back.Goals as goal
+
+pub returns-then-not-has_asks : goal.returns-then-not-has_asks
+returns-then-not-has_asks c = back-refused c.args.new.now c.args.old.now (rw (sym c.has_asks.ensures ∙ c.if-not-has_asks.true))
+
+pub bounds-new-0 : goal.bounds-new-0
+bounds-new-0 c =
+    let a = c.args in
+    let m = a.new.now in
+    let held = sym c.has_asks.ensures ∙ c.if-not-has_asks.false in
+    let long = asked-size new_layer m held in
+    omega (arith, long)
+
+pub place_of-b-requires : goal.place_of-b-requires
+place_of-b-requires c = omega (arith, c.shared_slice_known-2-1.given 0)
+
+pub whole_size-f-requires : goal.whole_size-f-requires
+whole_size-f-requires c = omega (arith, c.shared_slice_known-2-1.given 0)
+
+pub returns-then-old-b : goal.returns-then-old-b
+returns-then-old-b c =
+    let a = c.args in
+    let m = a.new.now in
+    let held = sym c.has_asks.ensures ∙ c.if-not-has_asks.false in
+    let long = asked-size new_layer m held in
+    let u = a.old.now in
+    let b = c.place_of-b.result in
+    let f = c.whole_size-f.result in
+    let isb = c.place_of-b.ensures in
+    let isf = c.whole_size-f.ensures in
+    back-refused m u (rw (held, ne_eqb (length u) (asked_size old_layer (count_in m)) (λ e. let k = c.if-old-b.true in omega (arith, k, e, isb, isf))) (and-false (is_new (front_of new_layer m))))
+
+pub slice_bounds-back-end : goal.slice_bounds-back-end
+slice_bounds-back-end c =
+    let a = c.args in
+    let m = a.new.now in
+    let held = sym c.has_asks.ensures ∙ c.if-not-has_asks.false in
+    let long = asked-size new_layer m held in
+    let u = a.old.now in
+    let b = c.place_of-b.result in
+    let f = c.whole_size-f.result in
+    let isb = c.place_of-b.ensures in
+    let isf = c.whole_size-f.ensures in
+    sym (length-take-le f m (omega (arith, long, isb, isf)))
+
+pub slice_bounds-back-end-3 : goal.slice_bounds-back-end-3
+slice_bounds-back-end-3 c =
+    let a = c.args in
+    let m = a.new.now in
+    let held = sym c.has_asks.ensures ∙ c.if-not-has_asks.false in
+    let long = asked-size new_layer m held in
+    let u = a.old.now in
+    let b = c.place_of-b.result in
+    let f = c.whole_size-f.result in
+    let isb = c.place_of-b.ensures in
+    let isf = c.whole_size-f.ensures in
+    let size : length u ≡ b + group_size * count_in m = let k = c.if-old-b.false in omega (arith, k) in
+    sym (length-take-le b u (omega (arith, size)))
+
+pub slice_bounds-put-count : goal.slice_bounds-put-count
+slice_bounds-put-count c =
+    let a = c.args in
+    let m = a.new.now in
+    let held = sym c.has_asks.ensures ∙ c.if-not-has_asks.false in
+    let long = asked-size new_layer m held in
+    let u = a.old.now in
+    let b = c.place_of-b.result in
+    let f = c.whole_size-f.result in
+    let isb = c.place_of-b.ensures in
+    let isf = c.whole_size-f.ensures in
+    omega (arith, long, isb, isf)
+
+pub slice_bounds-put-start : goal.slice_bounds-put-start
+slice_bounds-put-start c =
+    let a = c.args in
+    let m = a.new.now in
+    let held = sym c.has_asks.ensures ∙ c.if-not-has_asks.false in
+    let long = asked-size new_layer m held in
+    let u = a.old.now in
+    let b = c.place_of-b.result in
+    let f = c.whole_size-f.result in
+    let isb = c.place_of-b.ensures in
+    let isf = c.whole_size-f.ensures in
+    omega (arith, long, isb, isf)
+
+pub put-requires : goal.put-requires
+put-requires c =
+    let a = c.args in
+    let m = a.new.now in
+    let held = sym c.has_asks.ensures ∙ c.if-not-has_asks.false in
+    let long = asked-size new_layer m held in
+    let u = a.old.now in
+    let b = c.place_of-b.result in
+    let f = c.whole_size-f.result in
+    let isb = c.place_of-b.ensures in
+    let isf = c.whole_size-f.ensures in
+    let size : length u ≡ b + group_size * count_in m = let k = c.if-old-b.false in omega (arith, k) in
+    let v = c.back-a.new.old in
+    let same : length v ≡ length (take b u) = search rules in
+    let k = same_size b u v (omega (arith, size)) same in
+    rw (tail_is f m) (let d = length-drop f m in omega (arith, d, k, size, long, isb, isf))
+
+pub returns-then-is_accepted : goal.returns-then-is_accepted
+returns-then-is_accepted c =
+    let a = c.args in
+    let m = a.new.now in
+    let held = sym c.has_asks.ensures ∙ c.if-not-has_asks.false in
+    let long = asked-size new_layer m held in
+    let u = a.old.now in
+    let b = c.place_of-b.result in
+    let f = c.whole_size-f.result in
+    let isb = c.place_of-b.ensures in
+    let isf = c.whole_size-f.ensures in
+    let size : length u ≡ b + group_size * count_in m = let k = c.if-old-b.false in omega (arith, k) in
+    let v = c.back-a.new.old in
+    let same : length v ≡ length (take b u) = search rules in
+    back_done m u b f isb isf held size _ v c.back-a.ensures.0 c.back-a.ensures.1 (sym c.is_accepted.ensures ∙ c.if-is_accepted.true) same _
+    (c.put.ensures ∙ ap (λ (l : List ℕ). put_at b l (v ++ drop b u)) (tail_is f m))
+
+pub returns-else-is_accepted : goal.returns-else-is_accepted
+returns-else-is_accepted c =
+    let a = c.args in
+    let m = a.new.now in
+    let held = sym c.has_asks.ensures ∙ c.if-not-has_asks.false in
+    let long = asked-size new_layer m held in
+    let u = a.old.now in
+    let b = c.place_of-b.result in
+    let f = c.whole_size-f.result in
+    let isb = c.place_of-b.ensures in
+    let isf = c.whole_size-f.ensures in
+    let size : length u ≡ b + group_size * count_in m = let k = c.if-old-b.false in omega (arith, k) in
+    let v = c.back-a.new.old in
+    let same : length v ≡ length (take b u) = search rules in
+    back-not m u b f isb isf held size _ v c.back-a.ensures.0 c.back-a.ensures.1 (sym c.is_accepted.ensures ∙ c.if-is_accepted.false)

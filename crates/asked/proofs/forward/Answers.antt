@@ -1,0 +1,153 @@
+-- `forward` meets its contract: the front moves, and the groups go along. Assumes nothing.
+use Prim.Native.Nat.{ℕ, ◌+◌, ◌*◌}
+use mathlib.Core.Path.{◌≡◌, sym, ap, ◌∙◌}
+use mathlib.Core.List.{List, ◌++◌}
+use native.Mathlib.Omega.{arith}
+use lib.ListN.{length, take, drop, length-drop}
+use lib.Seq.{length-take-le}
+use borrow.Author.Tests.{not-true, not-false, ne_eqb}
+use Rattle.octets.specs.Octets.{put_at}
+use Rattle.table.specs.Table.{count_in, table_in_range}
+use Rattle.asks.specs.Group.{group_size}
+use Rattle.asked.specs.Asked.{asked_size, front_of}
+use Rattle.asked.specs.Layer.{old_layer, new_layer}
+use Rattle.asked.proofs.AskedLaws.{asked-size, tail_is, same_size}
+use Rattle.asked.proofs.MoveLaws.{forward-refused, forward-done, forward-not, and-false}
+use borrow.Author.Rules.{rules}
+use Rattle.asked.proofs.forward.Goals as goal
+
+pub returns-then-not-has_old_asks : goal.returns-then-not-has_old_asks
+returns-then-not-has_old_asks c = forward-refused c.args.old.now c.args.new.now (rw (sym c.has_old_asks.ensures ∙ c.if-not-has_old_asks.true))
+
+pub bounds-old-0 : goal.bounds-old-0
+bounds-old-0 c =
+    let a = c.args in
+    let m = a.old.now in
+    let held = sym c.has_old_asks.ensures ∙ c.if-not-has_old_asks.false in
+    let long = asked-size old_layer m held in
+    omega (arith, long)
+
+pub place_of-b-requires : goal.place_of-b-requires
+place_of-b-requires c = omega (arith, c.shared_slice_known-2-1.given 0)
+
+pub whole_size-f-requires : goal.whole_size-f-requires
+whole_size-f-requires c = omega (arith, c.shared_slice_known-2-1.given 0)
+
+pub overflow_add-f : goal.overflow_add-f
+overflow_add-f c = let is = c.whole_size-f.ensures in omega (arith, is, c.shared_slice_known-2-1.given 0)
+
+pub returns-then-new-f : goal.returns-then-new-f
+returns-then-new-f c =
+    let a = c.args in
+    let m = a.old.now in
+    let held = sym c.has_old_asks.ensures ∙ c.if-not-has_old_asks.false in
+    let long = asked-size old_layer m held in
+    let u = a.new.now in
+    let b = c.place_of-b.result in
+    let f = c.whole_size-f.result in
+    let isb = c.place_of-b.ensures in
+    let isf = c.whole_size-f.ensures in
+    forward-refused m u (rw (held, ne_eqb (length u) (asked_size new_layer (count_in m)) (λ e. let k = c.if-new-f.true in omega (arith, k, e, isb, isf))) (and-false (table_in_range (front_of old_layer m))))
+
+pub slice_bounds-forward-end : goal.slice_bounds-forward-end
+slice_bounds-forward-end c =
+    let a = c.args in
+    let m = a.old.now in
+    let held = sym c.has_old_asks.ensures ∙ c.if-not-has_old_asks.false in
+    let long = asked-size old_layer m held in
+    let u = a.new.now in
+    let b = c.place_of-b.result in
+    let f = c.whole_size-f.result in
+    let isb = c.place_of-b.ensures in
+    let isf = c.whole_size-f.ensures in
+    sym (length-take-le b m (omega (arith, long, isb, isf)))
+
+pub slice_bounds-forward-end-3 : goal.slice_bounds-forward-end-3
+slice_bounds-forward-end-3 c =
+    let a = c.args in
+    let m = a.old.now in
+    let held = sym c.has_old_asks.ensures ∙ c.if-not-has_old_asks.false in
+    let long = asked-size old_layer m held in
+    let u = a.new.now in
+    let b = c.place_of-b.result in
+    let f = c.whole_size-f.result in
+    let isb = c.place_of-b.ensures in
+    let isf = c.whole_size-f.ensures in
+    let size : length u ≡ f + group_size * count_in m = let k = c.if-new-f.false in omega (arith, k) in
+    sym (length-take-le f u (omega (arith, size)))
+
+pub slice_bounds-put-count : goal.slice_bounds-put-count
+slice_bounds-put-count c =
+    let a = c.args in
+    let m = a.old.now in
+    let held = sym c.has_old_asks.ensures ∙ c.if-not-has_old_asks.false in
+    let long = asked-size old_layer m held in
+    let u = a.new.now in
+    let b = c.place_of-b.result in
+    let f = c.whole_size-f.result in
+    let isb = c.place_of-b.ensures in
+    let isf = c.whole_size-f.ensures in
+    omega (arith, long, isb, isf)
+
+pub slice_bounds-put-start : goal.slice_bounds-put-start
+slice_bounds-put-start c =
+    let a = c.args in
+    let m = a.old.now in
+    let held = sym c.has_old_asks.ensures ∙ c.if-not-has_old_asks.false in
+    let long = asked-size old_layer m held in
+    let u = a.new.now in
+    let b = c.place_of-b.result in
+    let f = c.whole_size-f.result in
+    let isb = c.place_of-b.ensures in
+    let isf = c.whole_size-f.ensures in
+    omega (arith, long, isb, isf)
+
+pub put-requires : goal.put-requires
+put-requires c =
+    let a = c.args in
+    let m = a.old.now in
+    let held = sym c.has_old_asks.ensures ∙ c.if-not-has_old_asks.false in
+    let long = asked-size old_layer m held in
+    let u = a.new.now in
+    let b = c.place_of-b.result in
+    let f = c.whole_size-f.result in
+    let isb = c.place_of-b.ensures in
+    let isf = c.whole_size-f.ensures in
+    let size : length u ≡ f + group_size * count_in m = let k = c.if-new-f.false in omega (arith, k) in
+    let v = c.forward-a.new.new in
+    let same : length v ≡ length (take f u) = search rules in
+    let k = same_size f u v (omega (arith, size)) same in
+    rw (tail_is b m) (let d = length-drop b m in omega (arith, d, k, size, long, isb, isf))
+
+pub returns-then-is_accepted : goal.returns-then-is_accepted
+returns-then-is_accepted c =
+    let a = c.args in
+    let m = a.old.now in
+    let held = sym c.has_old_asks.ensures ∙ c.if-not-has_old_asks.false in
+    let long = asked-size old_layer m held in
+    let u = a.new.now in
+    let b = c.place_of-b.result in
+    let f = c.whole_size-f.result in
+    let isb = c.place_of-b.ensures in
+    let isf = c.whole_size-f.ensures in
+    let size : length u ≡ f + group_size * count_in m = let k = c.if-new-f.false in omega (arith, k) in
+    let v = c.forward-a.new.new in
+    let same : length v ≡ length (take f u) = search rules in
+    forward-done m u b f isb isf held size _ v c.forward-a.ensures.0 c.forward-a.ensures.1 (sym c.is_accepted.ensures ∙ c.if-is_accepted.true) same _
+    (c.put.ensures ∙ ap (λ (l : List ℕ). put_at f l (v ++ drop f u)) (tail_is b m))
+
+pub returns-else-is_accepted : goal.returns-else-is_accepted
+returns-else-is_accepted c =
+    let a = c.args in
+    let m = a.old.now in
+    let held = sym c.has_old_asks.ensures ∙ c.if-not-has_old_asks.false in
+    let long = asked-size old_layer m held in
+    let u = a.new.now in
+    let b = c.place_of-b.result in
+    let f = c.whole_size-f.result in
+    let isb = c.place_of-b.ensures in
+    let isf = c.whole_size-f.ensures in
+    let size : length u ≡ f + group_size * count_in m = let k = c.if-new-f.false in omega (arith, k) in
+    let v = c.forward-a.new.new in
+    let same : length v ≡ length (take f u) = search rules in
+    forward-not m u b f isb isf held size _ v c.forward-a.ensures.0 c.forward-a.ensures.1 (sym c.is_accepted.ensures ∙ c.if-is_accepted.false)

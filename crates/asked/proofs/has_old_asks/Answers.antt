@@ -1,0 +1,22 @@
+-- `has_old_asks` meets its contract: memory of no octet has no groups, and the rest is tested by its size. Assumes nothing.
+use native.Mathlib.Omega.{arith}
+use lib.ListN.{length}
+use borrow.Author.Tests.{ne_eqb}
+use Rattle.table.specs.Table.{count_in}
+use Rattle.asked.specs.Layer.{old_layer}
+use Rattle.asked.specs.Asked.{asked_size, has_asks}
+use borrow.Author.Rules.{rules}
+use Rattle.asked.proofs.has_old_asks.Goals as goal
+
+pub returns-then-table-eq0 : goal.returns-then-table-eq0
+unfolding has_asks
+returns-then-table-eq0 c =
+    let t = c.args.table.now in
+    rw (ne_eqb (length t) (asked_size old_layer (count_in t)) (λ e. omega (arith, c.if-table-eq0.true, e)))
+
+pub place_of-requires : goal.place_of-requires
+place_of-requires c = omega (arith, c.shared_slice_known-2-1.given 0)
+
+pub returns : goal.returns
+unfolding has_asks
+returns c = rw (c.is_asked.ensures, c.place_of.ensures)

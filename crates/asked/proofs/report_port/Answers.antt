@@ -1,0 +1,119 @@
+-- `report_port` meets its contract: the record of the front, and behind it the group or zeros. Assumes nothing.
+use Prim.Native.Nat.{ℕ, ◌-◌, ◌≤◌}
+use mathlib.Core.Path.{◌≡◌, refl, sym, ap, ◌∙◌}
+use mathlib.Core.List.{List}
+use native.Mathlib.Omega.{arith}
+use lib.ListN.{length, length-drop}
+use lib.Seq.{length-take-le}
+use borrow.Author.Tests.{not-true, not-false}
+use borrow.Rule.Slice.PartMut.{put_mid}
+use Rattle.octets.specs.Rows.{row_at}
+use Rattle.table.specs.Table.{count_in}
+use Rattle.table.specs.Layout.{place}
+use Rattle.asks.specs.Group.{group_size}
+use Rattle.control.specs.Accepted.{accepted}
+use Rattle.whole.proofs.CallLaws.{given_back, taken_back}
+use Rattle.asked.proofs.AskedLaws.{tail_is}
+use Rattle.asked.proofs.AskLaws.{port-there}
+use Rattle.asked.proofs.ReportLaws.{report-roomless, reported-short, reported}
+use borrow.Author.Rules.{rules}
+use Rattle.asked.proofs.report_port.Goals as goal
+
+pub returns-then-not-has_asks : goal.returns-then-not-has_asks
+returns-then-not-has_asks c =
+    let a = c.args in
+    report-roomless a.n a.table.now a.«record».now _ (sym c.has_asks.ensures ∙ c.if-not-has_asks.true) c.put_fitting.ensures
+
+pub front_size-f-requires : goal.front_size-f-requires
+front_size-f-requires c = sym c.has_asks.ensures ∙ c.if-not-has_asks.false
+
+pub slice_bounds-report_port-end : goal.slice_bounds-report_port-end
+slice_bounds-report_port-end c =
+    let m = c.args.table.now in
+    let size = c.front_size-f.ensures.1 in let most : c.front_size-f.result ≤ length m = omega (arith, size) in
+    sym (length-take-le c.front_size-f.result m most)
+
+pub returns-then-record-lt-WHOLE_RECORD : goal.returns-then-record-lt-WHOLE_RECORD
+returns-then-record-lt-WHOLE_RECORD c =
+    let a = c.args in
+    let m = a.table.now in
+    let f = c.front_size-f.result in
+    let isf = c.front_size-f.ensures.0 in
+    let size = c.front_size-f.ensures.1 in
+    let most : f ≤ length m = omega (arith, size) in
+    let n = a.n in
+    let l = a.«record».now in
+    let held = sym c.has_asks.ensures ∙ c.if-not-has_asks.false in
+    let told = c.report_port-a.ensures.0 in
+    let first = c.report_port-a.ensures.1 in
+    let r = c.report_port-a.new.«record» in
+    let kept : length r ≡ length l = search rules in
+    reported-short n m l held f isf _ _ told first (let h = c.if-record-lt-WHOLE_RECORD.true in omega (arith, h, kept))
+
+pub overflow_sub-i : goal.overflow_sub-i
+overflow_sub-i c =
+    let a = c.args in
+    let m = a.table.now in
+    let f = c.front_size-f.result in
+    let isf = c.front_size-f.ensures.0 in
+    let size = c.front_size-f.ensures.1 in
+    let most : f ≤ length m = omega (arith, size) in
+    let n = a.n in
+    let done = sym c.is_accepted.ensures ∙ c.if-is_accepted.true in
+    let there = port-there n m f (place (count_in m)) isf refl (sym (ap accepted c.report_port-a.ensures.0) ∙ done) in
+    let some = there.some in
+    let few = there.most in
+    some
+
+pub group_at-requires : goal.group_at-requires
+group_at-requires c =
+    let a = c.args in
+    let m = a.table.now in
+    let f = c.front_size-f.result in
+    let isf = c.front_size-f.ensures.0 in
+    let size = c.front_size-f.ensures.1 in
+    let most : f ≤ length m = omega (arith, size) in
+    let n = a.n in
+    let done = sym c.is_accepted.ensures ∙ c.if-is_accepted.true in
+    let there = port-there n m f (place (count_in m)) isf refl (sym (ap accepted c.report_port-a.ensures.0) ∙ done) in
+    let some = there.some in
+    let few = there.most in
+    rw (tail_is f m) (let d = length-drop f m in omega (arith, d, size, some, few))
+
+pub returns-then-is_accepted : goal.returns-then-is_accepted
+returns-then-is_accepted c =
+    let a = c.args in
+    let m = a.table.now in
+    let f = c.front_size-f.result in
+    let isf = c.front_size-f.ensures.0 in
+    let size = c.front_size-f.ensures.1 in
+    let most : f ≤ length m = omega (arith, size) in
+    let n = a.n in
+    let l = a.«record».now in
+    let held = sym c.has_asks.ensures ∙ c.if-not-has_asks.false in
+    let told = c.report_port-a.ensures.0 in
+    let first = c.report_port-a.ensures.1 in
+    let r = c.report_port-a.new.«record» in
+    let kept : length r ≡ length l = search rules in
+    let done = sym c.is_accepted.ensures ∙ c.if-is_accepted.true in
+    reported n m l held f isf _ _ told first _ _ (let h = c.if-record-lt-WHOLE_RECORD.false in omega (arith, h, kept)) (ap (λ (x : List ℕ). put_mid 71 (length r - 71) r x) c.put_fitting-then-is_accepted.ensures)
+    (c.group_at.ensures.0 ∙ ap (λ (x : List ℕ). row_at group_size x (n - 1)) (tail_is f m) ∙ sym (given_back _ _ c.report_port-a.result done))
+
+pub returns : goal.returns
+returns c =
+    let a = c.args in
+    let m = a.table.now in
+    let f = c.front_size-f.result in
+    let isf = c.front_size-f.ensures.0 in
+    let size = c.front_size-f.ensures.1 in
+    let most : f ≤ length m = omega (arith, size) in
+    let n = a.n in
+    let l = a.«record».now in
+    let held = sym c.has_asks.ensures ∙ c.if-not-has_asks.false in
+    let told = c.report_port-a.ensures.0 in
+    let first = c.report_port-a.ensures.1 in
+    let r = c.report_port-a.new.«record» in
+    let kept : length r ≡ length l = search rules in
+    let not_done = sym c.is_accepted.ensures ∙ c.if-is_accepted.false in
+    reported n m l held f isf _ _ told first _ _ (let h = c.if-record-lt-WHOLE_RECORD.false in omega (arith, h, kept)) (ap (λ (x : List ℕ). put_mid 71 (length r - 71) r x) c.put_fitting-2.ensures)
+    (sym (taken_back _ _ c.report_port-a.result not_done))

@@ -1,0 +1,6 @@
+-- `write_marker` meets its contract: the request in twelve octets, and the frame over the first of `out`. Assumes nothing.
+use borrow.Author.Rules.{rules}
+use Rattle.asked.proofs.write_marker.Goals as goal
+
+pub returns : goal.returns
+returns c = rw (c.write_marker.ensures, c.write_request.ensures, c.read_header-header.ensures, c.load-p.ensures)

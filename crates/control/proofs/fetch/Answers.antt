@@ -1,0 +1,44 @@
+-- `control::fetch` meets its contract: answers 1 and 2, or what the port's part of it gives. Assumes nothing.
+use Prim.Native.Nat.{ℕ}
+use mathlib.Core.Path.{◌≡◌, sym, ap, ◌∙◌}
+use Rattle.port.specs.Transmit.{due}
+use Rattle.table.specs.Table.{port_at, state_of, on_octets}
+use Rattle.work.specs.Work.{after_send, lacpdu_of, written_over}
+use Rattle.control.specs.Answer.{with_room, due_answer}
+use Rattle.control.specs.Call as call
+use Rattle.control.specs.After.{answer, unless, effect, after, written_by, outgoing}
+use Rattle.control.proofs.CallLaws.{found-refused, found-answers, found-table, found_inside, found-index, refused-table, refused-buffer}
+use borrow.Author.Rules.{rules}
+use Rattle.control.proofs.fetch.Goals as goal
+
+pub fetch_at-requires : goal.fetch_at-requires
+fetch_at-requires c =
+    let t = c.args.table.now in
+    let here = sym c.find.ensures ∙ c.in-Port.is in
+    (found-table t _ here, found_inside t _ here)
+
+pub returns-in-Refused : goal.returns-in-Refused
+unfolding answer
+returns-in-Refused c =
+    let a = c.args in
+    let t = a.table.now in
+    let this = call.fetch a.n a.out.now in
+    let refused = found-refused t a.n (sym c.find.ensures ∙ c.in-Refused.is) _ in
+    (sym refused, sym (refused-table this t refused), sym (refused-buffer this t refused))
+
+pub returns-in-Port : goal.returns-in-Port
+unfolding answer effect after written_by outgoing
+returns-in-Port c =
+    let a = c.args in
+    let t = a.table.now in
+    let out = a.out.now in
+    let this = call.fetch a.n out in
+    let here = sym c.find.ensures ∙ c.in-Port.is in
+    let i = found-index t a.n here in
+    let did = c.fetch_at.ensures in
+    let is : c.fetch_at.result ≡ answer this t =
+    did.0 ∙ ap (λ (k : ℕ). with_room out (due_answer (due (port_at t k)))) i ∙ sym (found-answers t a.n here _) in (
+      is,
+      did.1 ∙ (λ j. unless (is j) t (on_octets (after_send (i j)) t)),
+      did.2 ∙ (λ j. unless (is j) out (written_over (lacpdu_of (state_of t) (i j)) out)),
+    )

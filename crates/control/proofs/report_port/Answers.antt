@@ -1,0 +1,29 @@
+-- `control::report_port` meets its contract: the record's octets as they lie in the table, or zeros beside a refusal. Assumes nothing.
+use mathlib.Core.Path.{refl, sym, ◌∙◌}
+use Rattle.table.proofs.RuleLaws.{absent_zeros}
+use Rattle.control.specs.declared.answer.Answer.TheVariants.{Done}
+use Rattle.control.specs.After.{answer}
+use Rattle.control.specs.Report.{port_report}
+use Rattle.control.proofs.CallLaws.{found-refused, found-answers, found-table, found_inside, found-index}
+use borrow.Author.Rules.{rules}
+use Rattle.control.proofs.report_port.Goals as goal
+
+pub look-requires : goal.look-requires
+look-requires c =
+    let t = c.args.table.now in
+    let here = sym c.find.ensures ∙ c.in-Port.is in
+    (found-table t _ here, found_inside t _ here)
+
+pub returns-in-Refused : goal.returns-in-Refused
+unfolding port_report answer
+returns-in-Refused c =
+    let a = c.args in
+    let here = sym c.find.ensures ∙ c.in-Refused.is in
+    rw (found-refused a.table.now a.n here Done, absent_zeros) (refl, c.put_fitting.ensures)
+
+pub returns-in-Port : goal.returns-in-Port
+unfolding port_report answer
+returns-in-Port c =
+    let a = c.args in
+    let here = sym c.find.ensures ∙ c.in-Port.is in
+    rw (found-answers a.table.now a.n here Done, ← found-index a.table.now a.n here, ← c.look.ensures.2) (refl, c.put_fitting-in-Port.ensures)
