@@ -31,7 +31,6 @@ use Rattle.trunk.specs.Ready.{waits_for, has_waiting, holds_back, held_back, rea
 use Rattle.trunk.specs.Settled.{Chosen}
 use Rattle.trunk.proofs.EachLaws.{Fits}
 use Rattle.trunk.proofs.ReadyLaws.{some-waits, waits-own}
-use Rattle.control.specs.Call.{aggregator}
 use Rattle.control.specs.After.{answer}
 use Rattle.control.specs.Report.{aggregator_report}
 use Rattle.claims.specs.AtRest.{Sound}

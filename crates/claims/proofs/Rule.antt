@@ -29,7 +29,7 @@ use Rattle.table.proofs.StoreLaws.{ports-at}
 use Rattle.trunk.specs.Selection.{rule_of, shares_group}
 use Rattle.trunk.specs.Ready.{ready}
 use Rattle.trunk.specs.Settled.{settled, Chosen}
-use Rattle.trunk.proofs.GroupLaws.{together, rule-apart}
+use Rattle.trunk.proofs.GroupLaws.{rule-apart}
 use Rattle.work.specs.Work.{worked}
 use Rattle.trunk.proofs.Settles.{Firm, settles}
 use Rattle.claims.specs.AtRest.{Sound}

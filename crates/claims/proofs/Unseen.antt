@@ -1,7 +1,7 @@
 -- Between two looks at the table, with fewer ticks between them than aggregate_wait_time has, no port gets from one aggregator to another: one that
 -- gets another begins to wait (`one-aggregator`), and whoever waits goes on until its timer has run out, which each tick makes smaller by one and
 -- nothing else does. Assumes nothing.
-use Prim.Native.Nat.{ℕ, suc, ◌+◌, ◌-◌, ◌<◌, ◌≤◌}
+use Prim.Native.Nat.{ℕ, suc, ◌+◌, ◌<◌, ◌≤◌}
 use mathlib.Core.Path.{◌≡◌, refl, sym, ap, ◌∙◌, subst}
 use mathlib.Core.Bool.{Bool, true, false, cond, ◌&&◌, true≢false}
 use mathlib.Core.List.{List, [], ◌∷◌, map}

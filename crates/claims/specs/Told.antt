@@ -1,5 +1,5 @@
 -- What the two reports beyond R15 say of a table that calls made: why a port does not carry (why/specs/Cause.antt), and why two are apart (why/specs/Apart.antt).
-use Rattle.std.specs.Prelude.{ℕ, ◌+◌, ◌-◌, ◌≤◌, ◌<◌, ◌≡◌, ◌≢◌, Bool, true, false, cond, not, List}
+use Rattle.std.specs.Prelude.{ℕ, ◌+◌, ◌≤◌, ◌<◌, ◌≡◌, ◌≢◌, Bool, true, false, cond, List}
 use Rattle.machine.specs.declared.states.Line.{Line}
 use Rattle.machine.specs.declared.states.Mux.TheVariants as mux
 use Rattle.machine.specs.declared.states.Receive.TheVariants as receive

@@ -17,7 +17,6 @@ use Rattle.machine.specs.declared.states.Mux.{Mux}
 use Rattle.table.specs.State.{State}
 use Rattle.table.specs.Table.{table_in_range, count_in, port_at}
 use Rattle.machine.specs.Mux.{collects, distributes}
-use Rattle.port.specs.declared.record.Port.{Port}
 use Rattle.control.specs.declared.answer.Answer.{Answer}
 use Rattle.control.specs.declared.answer.Answer.TheVariants.{Done, Lacpdu, Marker, Refused}
 use Rattle.control.specs.declared.answer.Reason.{Reason}

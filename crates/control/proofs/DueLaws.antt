@@ -24,7 +24,7 @@ use Rattle.table.proofs.TableLaws.{octets-back}
 use Rattle.control.specs.declared.answer.Answer.{Answer}
 use Rattle.control.specs.declared.answer.Answer.TheVariants.{Done, Refused}
 use Rattle.control.specs.declared.answer.Reason.TheVariants as reason
-use Rattle.control.specs.Answer.{on_table, on_port, with_room, due_answer}
+use Rattle.control.specs.Answer.{on_port, with_room, due_answer}
 use Rattle.control.specs.Accepted.{accepted}
 use Rattle.control.specs.Call.{fetch, due}
 use Rattle.control.specs.After.{answer, after, unless, effect}

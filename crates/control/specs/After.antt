@@ -3,11 +3,10 @@ use Rattle.std.specs.Prelude.{ℕ, ◌-◌, List, []}
 use Rattle.frame.specs.Class.{class_of}
 use Rattle.port.specs.Transmit.{due as dueOn}
 use Rattle.table.specs.State.{State}
-use Rattle.table.specs.Table.{table_in_range, port_at, state_of, on_octets}
+use Rattle.table.specs.Table.{port_at, state_of, on_octets}
 use Rattle.work.specs.Work.{after_start, after_received, after_tick, after_line, after_settings, after_send, lacpdu_of, response_of, written_over}
 use Rattle.control.specs.declared.answer.Answer.{Answer}
 use Rattle.control.specs.declared.answer.Answer.TheVariants.{Done, Lacpdu, Marker, Refused}
-use Rattle.control.specs.declared.answer.Reason.TheVariants as reason
 use Rattle.control.specs.Answer.{on_table, on_port, with_room, with_default, frame_answer, due_answer, start_answer}
 use Rattle.control.specs.Call.{Call, start, receive, tick, line, configure, fetch, report, aggregator, due}
 

@@ -7,7 +7,7 @@ use mathlib.Core.List.{List, [], ◌∷◌}
 use native.Mathlib.Omega.{arith}
 use lib.ListN.{length, get_or}
 use lib.Dec.{eqb}
-use Rattle.octets.specs.Octets.{Octets, high, low}
+use Rattle.octets.specs.Octets.{Octets}
 use Rattle.octets.proofs.Laws.{number-back, spread-all}
 use Rattle.octets.proofs.OctetLists.{first_back, second_back}
 use Rattle.frame.specs.declared.state.PortState.{PortState}

@@ -1,6 +1,6 @@
 -- What is written can be read: an LACPDU gives back both its blocks, a Marker PDU its request, whatever follows them in the
 -- buffer, and both pass the frame tests as what they are. By computation on the octets as laid out. Assumes nothing.
-use Prim.Native.Nat.{ℕ, ◌+◌, ◌≤◌}
+use Prim.Native.Nat.{ℕ, ◌≤◌}
 use mathlib.Core.Path.{◌≡◌, refl, ap, ◌∙◌}
 use mathlib.Core.Bool.{false}
 use mathlib.Core.List.{List, ◌++◌, append_assoc}

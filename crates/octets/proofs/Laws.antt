@@ -2,7 +2,7 @@
 -- middle, the test for equal octets, and the round trip of a two-octet number. Lists of octets are in `OctetLists.antt`. Assumes nothing.
 use Prim.Native.Nat.{ℕ, zero, suc, ◌+◌, ◌-◌, ◌≤◌, ◌<◌}
 use mathlib.Core.Path.{◌≡◌, refl, sym, ap, ◌∙◌}
-use mathlib.Core.Bool.{Bool, true, false, and-eq-true_iff, false≢true}
+use mathlib.Core.Bool.{true, and-eq-true_iff, false≢true}
 use mathlib.Core.List.{List, [], ◌∷◌, ◌++◌, append_assoc, append-nil}
 use native.Mathlib.Omega.{arith}
 use native.Mathlib.Nat.{zero-add}
@@ -12,7 +12,7 @@ use lib.Seq.{take_all, take-length, length-take-le, take-append-le, drop-append-
 use lib.Dec.{eqb}
 use lib.Pointwise.{pointwise}
 use borrow.Author.Tests.{eqb-true, eq-eqb}
-use borrow.Rule.Slice.PartMut.{put_mid, mid_of, Post-is}
+use borrow.Rule.Slice.PartMut.{put_mid, Post-is}
 use Rattle.octets.specs.Octets.{put_at, fitted, same_octets, high, low, joined}
 
 -- ---- writing over lent parts

@@ -1,7 +1,7 @@
 -- Where a test of a few fields says so, and only there, a step gives the record back, so that a look at them is enough. By cases on what the
 -- machine looks at: where a transition applies, the state that it leads to is another. Assumes nothing.
 use mathlib.Core.Path.{◌≡◌, refl, sym, ap, ◌∙◌}
-use mathlib.Core.Bool.{Bool, true, false, cond, not, ◌&&◌, true≢false, false≢true}
+use mathlib.Core.Bool.{Bool, true, false, cond, not, ◌&&◌, false≢true}
 use borrow.Author.Tests.{not-true}
 use Rattle.octets.proofs.RangeLaws.{both, both_true}
 use Rattle.machine.specs.declared.states.Receive.{Receive}
@@ -19,7 +19,7 @@ use Rattle.machine.specs.Receive.{receive_next, receive_stays}
 use Rattle.machine.specs.Time.{ran_out}
 use Rattle.port.specs.declared.record.Port.{Port}
 use Rattle.port.specs.Record.{with_ntt}
-use Rattle.port.specs.Receive.{initialized, port_disabled, expired, lacp_disabled, defaulted, receive_entered, receive_taken, receive_choice, receive_step, receive_run, rests_receive}
+use Rattle.port.specs.Receive.{initialized, port_disabled, expired, lacp_disabled, defaulted, receive_taken, receive_choice, receive_step, receive_run, rests_receive}
 use Rattle.port.specs.Periodic.{periodic_step, periodic_run, rests_periodic}
 use Rattle.port.specs.Mux.{mux_taken, mux_choice, mux_step, mux_run, rests_mux}
 use Rattle.port.specs.Transmit.{silent, ntt_cleared, is_settled}

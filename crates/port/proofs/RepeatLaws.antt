@@ -1,13 +1,11 @@
 -- An LACPDU that says nothing new leaves all but the current-while timer as it is, and only such a one does: field by field. Assumes nothing.
 use mathlib.Core.Path.{◌≡◌, refl, sym, ap, ◌∙◌}
-use mathlib.Core.Bool.{Bool, true, false, cond, not, ◌&&◌, ◌||◌, or-true, true≢false, false≢true}
-use borrow.Author.Tests.{not-true}
+use mathlib.Core.Bool.{Bool, true, false, cond, not, ◌||◌, false≢true}
 use Rattle.octets.proofs.RangeLaws.{both, both_true}
 use Rattle.frame.specs.declared.block.Block.{Block}
 use Rattle.machine.specs.declared.states.Receive.{Receive}
 use Rattle.machine.specs.declared.states.Receive.TheVariants.{Initialize, PortDisabled, Expired, LacpDisabled, Defaulted, Current}
-use Rattle.machine.specs.declared.states.Selection.TheVariants.{Unselected}
-use Rattle.machine.specs.Compare.{same_party, same_view, same_block, in_sync, party}
+use Rattle.machine.specs.Compare.{same_party, same_view, same_block, party}
 use Rattle.machine.specs.Receive.{is_current}
 use Rattle.machine.specs.Time.{timeout_time}
 use Rattle.machine.proofs.CompareLaws.{block-true, block_refl, party-is}

@@ -1,5 +1,5 @@
 -- What a fetch needs of one port (43.4.16), the ages of its sends, and a tick of one port.
-use Rattle.std.specs.Prelude.{◌-◌, Bool, true, false, cond, not, ◌&&◌, ◌||◌}
+use Rattle.std.specs.Prelude.{Bool, true, false, cond, not, ◌&&◌, ◌||◌}
 use Rattle.port.specs.declared.record.Port.{Port}
 use Rattle.port.specs.declared.transmit.Due.{Due}
 use Rattle.port.specs.declared.transmit.Due.TheVariants.{Nothing, Barred, Lacpdu}

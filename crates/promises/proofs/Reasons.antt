@@ -16,7 +16,6 @@ use Rattle.table.proofs.StoreLaws.{ports-length, ports-at}
 use Rattle.trunk.specs.Selection.{nobody}
 use Rattle.control.specs.declared.answer.Answer.{Answer}
 use Rattle.control.specs.declared.answer.Answer.TheVariants.{Done}
-use Rattle.control.specs.Accepted.{accepted}
 use Rattle.control.specs.Call.{Call, report}
 use Rattle.control.specs.After.{answer, after, unless}
 use Rattle.whole.proofs.CallLaws.{taken_back}

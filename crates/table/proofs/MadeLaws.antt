@@ -8,7 +8,7 @@ use lib.ListN.{length, take, drop, get_or, length-append, drop_of_length-le}
 use lib.Dec.{eqb}
 use borrow.Author.Tests.{eqb-true}
 use lib.Seq.{take_at, drop-nil, drop-drop, drop-append-add, drop-cons, ext_get_or}
-use Rattle.octets.specs.Octets.{Octets, put_at, high, low, number_octets, fits, within}
+use Rattle.octets.specs.Octets.{Octets, put_at, number_octets, fits, within}
 use Rattle.octets.proofs.Laws.{number-back, over-put, put-append}
 use Rattle.octets.proofs.OctetLists.{octets_of_lem, append-octets}
 use Rattle.octets.proofs.RangeLaws.{both, both_true, number_fits, number-octets, within-true}

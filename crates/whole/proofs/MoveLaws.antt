@@ -1,6 +1,6 @@
 -- A move forward: the source over the front of the target, and a run of machines that begin anew, which looks at nothing that the target held. There and back gives
 -- the same table, and back and there keeps all but the monitors. Assumes nothing.
-use Prim.Native.Nat.{ℕ, ◌+◌, ◌<◌}
+use Prim.Native.Nat.{ℕ, ◌<◌}
 use mathlib.Core.Path.{◌≡◌, refl, sym, ap, ◌∙◌}
 use mathlib.Core.Bool.{Bool, true, false, cond, ◌&&◌, false≢true}
 use mathlib.Core.List.{List, ◌++◌}

@@ -1,5 +1,5 @@
 -- What is proved of the two reports on any records. `First`: a cause says what is so, and none that is asked for before it does.
-use Rattle.std.specs.Prelude.{ℕ, ◌+◌, ◌-◌, ◌≤◌, ◌<◌, ◌≡◌, ◌≢◌, Bool, true, false, not, List, [], ◌∷◌, ◌++◌, length, get_or, eqb}
+use Rattle.std.specs.Prelude.{ℕ, ◌+◌, ◌≤◌, ◌<◌, ◌≡◌, ◌≢◌, Bool, true, false, not, List, [], ◌∷◌, ◌++◌, length, get_or, eqb}
 use Rattle.octets.specs.Sets.{member}
 use Rattle.machine.specs.Compare.{same_address, same_system}
 use Rattle.machine.specs.Mux.{distributes}

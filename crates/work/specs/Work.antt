@@ -15,7 +15,6 @@ use Rattle.settings.specs.declared.Settings.{Settings}
 use Rattle.settings.specs.Settings.{configured, same_settings, started}
 use Rattle.table.specs.declared.layout.Header.{Header}
 use Rattle.table.specs.State.{State, port_of, with_ports, with_port}
-use Rattle.table.specs.Table.{ports}
 use Rattle.trunk.specs.Settled.{settled}
 use Rattle.trunk.specs.Displaced.{displaced}
 

@@ -5,7 +5,6 @@ use mathlib.Core.Bool.{true}
 use mathlib.Core.List.{List}
 use lib.ListN.{take, drop}
 use lib.Seq.{length-take-le}
-use borrow.Author.Tests.{not-true, not-false}
 use Rattle.octets.specs.Octets.{same_octets}
 use Rattle.frame.specs.Wire.{request_part}
 use Rattle.table.specs.Table.{ours}
@@ -14,7 +13,6 @@ use Rattle.asks.specs.Groups.{ask_at}
 use Rattle.asks.specs.declared.ask.Ask.{Ask}
 use Rattle.asked.specs.Asked.{request_of}
 use Rattle.asked.proofs.AskedLaws.{tail_is}
-use borrow.Author.Rules.{rules}
 use Rattle.asked.proofs.brings.Goals as goal
 
 pub returns-then-not-is_awaiting : goal.returns-then-not-is_awaiting

@@ -4,10 +4,8 @@ use mathlib.Core.Path.{refl, sym, ◌∙◌}
 use native.Mathlib.Omega.{arith}
 use lib.ListN.{length}
 use lib.Seq.{length-take-le}
-use borrow.Author.Tests.{not-true, not-false}
 use Rattle.control.specs.Call as call
 use Rattle.asked.proofs.AskedLaws.{roomless, finished}
-use borrow.Author.Rules.{rules}
 use Rattle.asked.proofs.configure.Goals as goal
 
 pub returns-then-not-has_asks : goal.returns-then-not-has_asks

@@ -5,7 +5,6 @@ use Rattle.octets.proofs.RangeLaws.{within-true}
 use Rattle.table.specs.Record.{decoded}
 use Rattle.table.specs.Table.{count_in, decoded_at}
 use Rattle.table.proofs.StoreLaws.{port-decoded}
-use borrow.Author.Rules.{rules}
 use Rattle.asked.proofs.falls.Goals as goal
 
 pub returns-then-n-lt1 : goal.returns-then-n-lt1

@@ -5,7 +5,6 @@ use borrow.Author.Tests.{ne_eqb}
 use Rattle.table.specs.Table.{count_in}
 use Rattle.asked.specs.Layer.{new_layer}
 use Rattle.asked.specs.Asked.{asked_size, has_asks}
-use borrow.Author.Rules.{rules}
 use Rattle.asked.proofs.has_asks.Goals as goal
 
 pub returns-then-table-eq0 : goal.returns-then-table-eq0

@@ -8,7 +8,6 @@ use Rattle.table.specs.Table.{count_in}
 use Rattle.asks.specs.Group.{group_size}
 use Rattle.asks.specs.Groups.{groups_in_range}
 use Rattle.asked.proofs.AskedLaws.{tail_is}
-use borrow.Author.Rules.{rules}
 use Rattle.asked.proofs.is_asked.Goals as goal
 
 pub overflow_mul-g : goal.overflow_mul-g

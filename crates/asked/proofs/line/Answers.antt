@@ -6,7 +6,6 @@ use mathlib.Core.List.{◌++◌}
 use native.Mathlib.Omega.{arith}
 use lib.ListN.{length, take, drop}
 use lib.Seq.{length-take-le}
-use borrow.Author.Tests.{not-true, not-false}
 use Rattle.octets.proofs.RangeLaws.{both, within-true}
 use Rattle.table.specs.Table.{count_in}
 use Rattle.table.specs.Layout.{place}

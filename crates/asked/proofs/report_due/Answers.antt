@@ -4,9 +4,7 @@ use mathlib.Core.Path.{sym, ◌∙◌}
 use native.Mathlib.Omega.{arith}
 use lib.ListN.{length}
 use lib.Seq.{length-take-le}
-use borrow.Author.Tests.{not-true, not-false}
 use Rattle.asked.specs.Report.{asked_due}
-use borrow.Author.Rules.{rules}
 use Rattle.asked.proofs.report_due.Goals as goal
 
 pub returns-then-not-has_asks : goal.returns-then-not-has_asks

@@ -6,7 +6,6 @@ use mathlib.Core.List.{◌++◌}
 use native.Mathlib.Omega.{arith}
 use lib.ListN.{length, take, drop}
 use lib.Seq.{length-take-le}
-use borrow.Author.Tests.{not-true, not-false}
 use Rattle.asks.specs.Groups.{all_begun}
 use Rattle.control.specs.Accepted.{accepted}
 use Rattle.control.specs.Call as call

@@ -1,7 +1,6 @@
 -- `table_size` meets its contract, by its tests of the count. Assumes nothing.
 use borrow.Author.Tests.{lt-leb, le-leb}
 use Rattle.table.specs.Layout.{most_ports}
-use borrow.Author.Rules.{rules}
 use Rattle.asked.proofs.table_size.Goals as goal
 
 pub returns-then-count-lt1 : goal.returns-then-count-lt1

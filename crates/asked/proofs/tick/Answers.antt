@@ -5,7 +5,6 @@ use mathlib.Core.List.{◌++◌}
 use native.Mathlib.Omega.{arith}
 use lib.ListN.{length, take, drop}
 use lib.Seq.{get_or-take, length-take-le}
-use borrow.Author.Tests.{not-true, not-false}
 use Rattle.control.specs.Accepted.{accepted}
 use Rattle.control.specs.Call as call
 use Rattle.asked.proofs.AskedLaws.{roomless, finished, new-front, old_tail, same_size}

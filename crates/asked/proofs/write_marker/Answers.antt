@@ -1,5 +1,4 @@
 -- `write_marker` meets its contract: the request in twelve octets, and the frame over the first of `out`. Assumes nothing.
-use borrow.Author.Rules.{rules}
 use Rattle.asked.proofs.write_marker.Goals as goal
 
 pub returns : goal.returns

@@ -6,7 +6,6 @@ use Rattle.octets.specs.Octets.{number_octets, long_octets}
 use Rattle.octets.proofs.Laws.{written, over-all}
 use Rattle.frame.specs.Block.{address_octets}
 use Rattle.asked.specs.Asked.{request_of}
-use borrow.Author.Rules.{rules}
 use Rattle.asked.proofs.write_request.Goals as goal
 
 pub returns : goal.returns

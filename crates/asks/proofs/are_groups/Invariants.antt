@@ -1,14 +1,8 @@
 -- `are_groups` meets its contract: the first i groups are in range; it ends early at one that is not. Assumes nothing.
-use Prim.Native.Nat.{◌≤◌, ◌<◌, ◌-◌}
-use mathlib.Core.Path.{◌≡◌, refl, sym, ap, ◌∙◌}
+use Prim.Native.Nat.{◌≤◌, ◌-◌}
+use mathlib.Core.Path.{◌≡◌}
 use mathlib.Core.Bool.{true}
-use native.Mathlib.Omega.{arith}
-use native.Mathlib.Numerals.{add-one}
-use borrow.Author.Tests.{not-true, not-false}
-use Rattle.octets.proofs.RangeLaws.{both_true}
-use Rattle.asks.specs.Group.{group_in_range}
 use Rattle.asks.specs.Groups.{groups_in_range}
-use Rattle.asks.proofs.GroupLaws.{groups-not}
 use Rattle.asks.proofs.are_groups.Given as goal
 
 abbrev pub invariant-loop-i : goal.invariant-loop-i

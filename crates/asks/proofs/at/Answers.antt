@@ -2,7 +2,6 @@
 use mathlib.Core.Path.{ap, ◌∙◌}
 use Rattle.asks.specs.Group.{group_of}
 use Rattle.asks.specs.Groups.{ask_at}
-use borrow.Author.Rules.{rules}
 use Rattle.asks.proofs.at.Goals as goal
 
 pub returns : goal.returns

@@ -1,12 +1,12 @@
 -- `begin_all` meets its contract: the loop has done the first i groups, and a turn does the next. Assumes nothing.
-use Prim.Native.Nat.{◌≤◌, ◌-◌, ◌*◌}
-use mathlib.Core.Path.{◌≡◌, ap, ◌∙◌}
+use Prim.Native.Nat.{◌*◌}
+use mathlib.Core.Path.{ap, ◌∙◌}
 use native.Mathlib.Omega.{arith}
 use native.Mathlib.Numerals.{add-one}
 use Rattle.octets.specs.Octets.{put_at}
 use Rattle.asks.specs.declared.ask.Ask.{Ask}
 use Rattle.asks.specs.Group.{group_size, group_octets}
-use Rattle.asks.proofs.GroupLaws.{done_to, fresh_at, done_first, turn-length, turn-fits, begin-turn, begin_end}
+use Rattle.asks.proofs.GroupLaws.{fresh_at, done_first, turn-fits, begin-turn, begin_end}
 use Rattle.asks.proofs.begin_all.Goals as goal
 
 pub loop-i-init : goal.loop-i-init

@@ -1,12 +1,7 @@
 -- `begin_all` meets its contract: the loop has done the first i groups, and a turn does the next. Assumes nothing.
-use Prim.Native.Nat.{◌≤◌, ◌-◌, ◌*◌}
-use mathlib.Core.Path.{◌≡◌, ap, ◌∙◌}
-use native.Mathlib.Omega.{arith}
-use native.Mathlib.Numerals.{add-one}
-use Rattle.octets.specs.Octets.{put_at}
-use Rattle.asks.specs.declared.ask.Ask.{Ask}
-use Rattle.asks.specs.Group.{group_size, group_octets}
-use Rattle.asks.proofs.GroupLaws.{done_to, fresh_at, done_first, turn-length, turn-fits, begin-turn, begin_end}
+use Prim.Native.Nat.{◌≤◌, ◌-◌}
+use mathlib.Core.Path.{◌≡◌}
+use Rattle.asks.proofs.GroupLaws.{done_to, fresh_at}
 use Rattle.asks.proofs.begin_all.Given as goal
 
 abbrev pub invariant-loop-i : goal.invariant-loop-i

@@ -1,9 +1,7 @@
 -- `fall_all` meets its contract: the loop has done the first i groups, and a turn does the next. Assumes nothing.
-use Prim.Native.Nat.{◌≤◌, ◌-◌}
 use native.Mathlib.Numerals.{add-one}
-use mathlib.Core.Path.{◌≡◌}
 use native.Mathlib.Omega.{arith}
-use Rattle.asks.proofs.GroupLaws.{done_to, fallen_at, done_first, turn-length, turn-fits, fall_turn, fall_end}
+use Rattle.asks.proofs.GroupLaws.{fallen_at, done_first, turn-fits, fall_turn, fall_end}
 use Rattle.asks.proofs.fall_all.Goals as goal
 
 pub loop-i-init : goal.loop-i-init

@@ -2,7 +2,6 @@
 use Prim.Native.Nat.{ℕ, ◌*◌}
 use mathlib.Core.Path.{sym, ap, ◌∙◌}
 use mathlib.Core.List.{List}
-use borrow.Author.Tests.{not-false}
 use Rattle.octets.specs.Octets.{put_at}
 use Rattle.octets.specs.Rows.{row_at}
 use Rattle.asks.specs.declared.ask.Ask.{Ask}
@@ -10,7 +9,6 @@ use Rattle.asks.specs.Ask.{ask_fallen}
 use Rattle.asks.specs.Group.{group_size, group_octets, group_of}
 use Rattle.asks.specs.Groups.{ask_at}
 use Rattle.octets.proofs.Laws.{put_back}
-use borrow.Author.Rules.{rules}
 use Rattle.asks.proofs.fall_one.Goals as goal
 
 pub returns-then-not-is_idle : goal.returns-then-not-is_idle

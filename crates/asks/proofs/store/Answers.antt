@@ -4,7 +4,6 @@ use mathlib.Core.Path.{ap}
 use Rattle.octets.proofs.Laws.{put-part}
 use Rattle.asks.specs.Group.{group_size, group_octets}
 use Rattle.asks.proofs.GroupLaws.{group-length}
-use borrow.Author.Rules.{rules}
 use Rattle.asks.proofs.store.Goals as goal
 
 pub returns : goal.returns

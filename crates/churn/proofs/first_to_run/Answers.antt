@@ -1,10 +1,8 @@
 -- `first_to_run` meets its contract: none is passed over where the machines begin anew. Assumes nothing.
-use Prim.Native.Nat.{ℕ}
 use mathlib.Core.Path.{refl, sym, ◌∙◌}
 use mathlib.Core.Bool.{true≢false}
 use native.Mathlib.Omega.{arith}
 use Rattle.churn.specs.Rest.{rest_to}
-use borrow.Author.Rules.{rules}
 use Rattle.churn.proofs.first_to_run.Goals as goal
 
 pub returns-then-begins : goal.returns-then-begins

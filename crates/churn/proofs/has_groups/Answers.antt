@@ -1,16 +1,13 @@
 -- `has_groups` meets its contract: the first i groups are in range; it ends early at one that is not. Assumes nothing.
-use Prim.Native.Nat.{◌≤◌, ◌<◌, ◌-◌}
+use Prim.Native.Nat.{◌<◌}
 use mathlib.Core.Path.{◌≡◌, refl, sym, ap, ◌∙◌}
-use mathlib.Core.Bool.{true}
 use native.Mathlib.Omega.{arith}
 use native.Mathlib.Numerals.{add-one}
-use borrow.Author.Tests.{not-true, not-false}
 use Rattle.octets.proofs.RangeLaws.{both_true}
 use Rattle.table.specs.Table.{count_in}
 use Rattle.churn.specs.Group.{group_in_range}
 use Rattle.churn.specs.Whole.{groups_in_range}
 use Rattle.churn.proofs.WholeLaws.{groups-not}
-use borrow.Author.Rules.{rules}
 use Rattle.churn.proofs.has_groups.Goals as goal
 
 pub bounds-table-0 : goal.bounds-table-0

@@ -1,16 +1,9 @@
 -- `has_groups` meets its contract: the first i groups are in range; it ends early at one that is not. Assumes nothing.
-use Prim.Native.Nat.{◌≤◌, ◌<◌, ◌-◌}
-use mathlib.Core.Path.{◌≡◌, refl, sym, ap, ◌∙◌}
+use Prim.Native.Nat.{◌≤◌, ◌-◌}
+use mathlib.Core.Path.{◌≡◌}
 use mathlib.Core.Bool.{true}
-use native.Mathlib.Omega.{arith}
-use native.Mathlib.Numerals.{add-one}
-use borrow.Author.Tests.{not-true, not-false}
-use Rattle.octets.proofs.RangeLaws.{both_true}
 use Rattle.table.specs.Table.{count_in}
-use Rattle.churn.specs.Group.{group_in_range}
 use Rattle.churn.specs.Whole.{groups_in_range}
-use Rattle.churn.proofs.WholeLaws.{groups-not}
-use borrow.Author.Rules.{rules}
 use Rattle.churn.proofs.has_groups.Given as goal
 
 abbrev pub invariant-loop-i : goal.invariant-loop-i

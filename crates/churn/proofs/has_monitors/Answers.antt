@@ -4,7 +4,6 @@ use lib.ListN.{length}
 use borrow.Author.Tests.{ne_eqb, eq-eqb}
 use Rattle.table.specs.Table.{count_in}
 use Rattle.churn.specs.Whole.{whole_size, has_monitors}
-use borrow.Author.Rules.{rules}
 use Rattle.churn.proofs.has_monitors.Goals as goal
 
 pub returns-then-table-eq0 : goal.returns-then-table-eq0

@@ -1,5 +1,4 @@
 -- `prepare` meets its contract: begun by a start, fallen by a tick, or as they are. Assumes nothing.
-use borrow.Author.Rules.{rules}
 use Rattle.churn.proofs.prepare.Goals as goal
 
 pub returns-in-Start : goal.returns-in-Start

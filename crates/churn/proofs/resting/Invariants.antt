@@ -1,14 +1,9 @@
 -- `resting` meets its contract: the first i ports rest; it ends early at one that does not. Assumes nothing.
-use Prim.Native.Nat.{◌≤◌, ◌<◌, ◌-◌}
-use mathlib.Core.Path.{◌≡◌, refl, sym, ◌∙◌}
+use Prim.Native.Nat.{◌≤◌, ◌-◌}
+use mathlib.Core.Path.{◌≡◌}
 use mathlib.Core.Bool.{true}
-use native.Mathlib.Omega.{arith}
-use native.Mathlib.Numerals.{add-one}
-use borrow.Author.Tests.{not-false}
-use Rattle.octets.proofs.RangeLaws.{both_true}
 use Rattle.table.specs.Table.{count_in}
 use Rattle.churn.specs.Rest.{rest_to}
-use borrow.Author.Rules.{rules}
 use Rattle.churn.proofs.resting.Given as goal
 
 abbrev pub invariant-loop-i : goal.invariant-loop-i

@@ -4,7 +4,6 @@ use Rattle.frame.specs.declared.state.PortState.{PortState}
 use Rattle.machine.specs.declared.states.Line.{Line}
 use Rattle.table.specs.Record.{decoded}
 use Rattle.churn.specs.Rest.{rests}
-use borrow.Author.Rules.{rules}
 use Rattle.churn.proofs.rests.Goals as goal
 
 pub returns-then-theirs : goal.returns-then-theirs

@@ -3,7 +3,6 @@ use mathlib.Core.Path.{sym}
 use native.Mathlib.Omega.{arith}
 use lib.Seq.{length-take-le}
 use Rattle.churn.proofs.WholeLaws.{base-port}
-use borrow.Author.Rules.{rules}
 use Rattle.churn.proofs.rests_at.Goals as goal
 
 pub slice_bounds-record_at-end : goal.slice_bounds-record_at-end

@@ -1,7 +1,6 @@
 -- `run_both` meets its contract: link and Synchronizations are those of the record. Assumes nothing.
 use Rattle.table.specs.Record.{decoded}
 use Rattle.churn.specs.Churn.{watching}
-use borrow.Author.Rules.{rules}
 use Rattle.churn.proofs.run_both.Goals as goal
 
 pub returns : goal.returns

@@ -1,14 +1,13 @@
 -- `watch_all` meets its contract: ports that rest are passed over, the loop has done the first i groups (`done`), and a turn does the next. Assumes nothing.
-use Prim.Native.Nat.{ℕ, ◌≤◌, ◌-◌}
-use mathlib.Core.Path.{◌≡◌, refl, sym, ap, ◌∙◌}
+use Prim.Native.Nat.{ℕ}
+use mathlib.Core.Path.{◌≡◌, refl, ap, ◌∙◌}
 use mathlib.Core.List.{List}
 use native.Mathlib.Omega.{arith}
-use borrow.Author.Rules.{rules}
 use Rattle.table.specs.Table.{count_in}
 use Rattle.octets.specs.Octets.{put_at}
 use Rattle.churn.specs.Group.{group_octets}
 use Rattle.churn.specs.Whole.{group_place, watched_at}
-use Rattle.churn.proofs.WholeLaws.{done, done-count, done-length, turn-size, turn, turns_end}
+use Rattle.churn.proofs.WholeLaws.{done-count, turn-size, turn, turns_end}
 use Rattle.churn.proofs.RestLaws.{run-begins}
 use Rattle.churn.proofs.watch_all.Goals as goal
 

@@ -1,8 +1,6 @@
 -- `watch_one` meets its contract: where the machines rest, the group that is there is what they make of it. Assumes nothing.
 use mathlib.Core.Path.{sym, ◌∙◌}
-use Rattle.octets.proofs.RangeLaws.{both}
 use Rattle.churn.proofs.RestLaws.{neither, rest-left}
-use borrow.Author.Rules.{rules}
 use Rattle.churn.proofs.watch_one.Goals as goal
 
 pub returns-else-begins-rests_at : goal.returns-else-begins-rests_at

@@ -1,7 +1,6 @@
 -- `control::configure` meets its contract: answers 1, 2 and 4, or the work of new settings. Assumes nothing.
 use mathlib.Core.Path.{◌≡◌, sym, ap, ◌∙◌}
 use Prim.Native.Nat.{ℕ}
-use borrow.Author.Tests.{not-true, not-false}
 use Rattle.table.specs.Table.{on_octets}
 use Rattle.work.specs.Work.{after_settings}
 use Rattle.control.specs.declared.answer.Answer.TheVariants.{Done, Refused}
@@ -10,7 +9,6 @@ use Rattle.control.specs.Answer.{with_default}
 use Rattle.control.specs.Call as call
 use Rattle.control.specs.After.{answer, effect}
 use Rattle.control.proofs.CallLaws.{found-refused, found-answers, found-table, found_inside, found-index, refused-table, done-table}
-use borrow.Author.Rules.{rules}
 use Rattle.control.proofs.configure.Goals as goal
 
 pub returns-then-not-is_lawful : goal.returns-then-not-is_lawful

@@ -8,7 +8,6 @@ use Rattle.control.specs.Answer.{with_room, due_answer}
 use Rattle.control.specs.Call as call
 use Rattle.control.specs.After.{answer, unless, effect, after, written_by, outgoing}
 use Rattle.control.proofs.CallLaws.{found-refused, found-answers, found-table, found_inside, found-index, refused-table, refused-buffer}
-use borrow.Author.Rules.{rules}
 use Rattle.control.proofs.fetch.Goals as goal
 
 pub fetch_at-requires : goal.fetch_at-requires

@@ -4,13 +4,12 @@ use mathlib.Core.Path.{◌≡◌, refl, sym, ap, ◌∙◌}
 use mathlib.Core.Bool.{false}
 use native.Mathlib.Omega.{arith}
 use lib.ListN.{length}
-use borrow.Author.Tests.{lt-ltb, le-ltb, not-true}
+use borrow.Author.Tests.{lt-ltb, le-ltb}
 use Rattle.frame.specs.Class.{frame_size}
 use Rattle.port.specs.declared.record.Port.{Port}
 use Rattle.port.specs.declared.transmit.Due.TheVariants.{Nothing}
 use Rattle.port.specs.Transmit.{due}
 use Rattle.table.specs.Table.{port_at}
-use borrow.Author.Rules.{rules}
 use Rattle.control.proofs.fetch_at.Goals as goal
 
 none-due : (p : Port) → p.ntt ≡ false → due p ≡ Nothing

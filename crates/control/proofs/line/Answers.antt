@@ -8,7 +8,6 @@ use Rattle.control.specs.declared.answer.Answer.TheVariants.{Done}
 use Rattle.control.specs.Call as call
 use Rattle.control.specs.After.{answer, effect}
 use Rattle.control.proofs.CallLaws.{found-refused, found-answers, found-table, found_inside, found-index, refused-table, done-table}
-use borrow.Author.Rules.{rules}
 use Rattle.control.proofs.line.Goals as goal
 
 pub set_line-requires : goal.set_line-requires

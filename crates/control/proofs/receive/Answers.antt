@@ -7,7 +7,6 @@ use Rattle.control.specs.Answer.{with_room, frame_answer}
 use Rattle.control.specs.Call as call
 use Rattle.control.specs.After.{answer, unless, after_frame, sent_for, effect, after, written_by, outgoing}
 use Rattle.control.proofs.CallLaws.{found-refused, found-answers, found-table, found_inside, found-index, refused-table, refused-buffer, frame-sent}
-use borrow.Author.Rules.{rules}
 use Rattle.control.proofs.receive.Goals as goal
 
 pub receive_at-requires : goal.receive_at-requires

@@ -11,7 +11,6 @@ use Rattle.table.proofs.TableLaws.{octets-back}
 use Rattle.work.specs.Work.{response_of, written_over}
 use Rattle.control.specs.Answer.{frame_answer}
 use Rattle.control.proofs.CallLaws.{lacpdu-whole, marker-whole}
-use borrow.Author.Rules.{rules}
 use Rattle.control.proofs.receive_at.Goals as goal
 
 pub returns-then-out-lt-FRAME : goal.returns-then-out-lt-FRAME

@@ -9,7 +9,6 @@ use Rattle.control.specs.declared.answer.Answer.TheVariants.{Done}
 use Rattle.control.specs.After.{answer}
 use Rattle.control.specs.Report.{aggregator_report}
 use Rattle.control.proofs.CallLaws.{found-refused, found-answers, found-table, found_within}
-use borrow.Author.Rules.{rules}
 use Rattle.control.proofs.report_aggregator.Goals as goal
 
 pub overflow_cast-n : goal.overflow_cast-n

@@ -1,11 +1,9 @@
 -- `control::report_due` meets its contract: answer 1 with no port, or the set. Assumes nothing.
 use mathlib.Core.Path.{◌≡◌, sym, ◌∙◌}
 use mathlib.Core.Bool.{true, false}
-use borrow.Author.Tests.{not-true, not-false}
 use Rattle.table.specs.Table.{table_in_range}
 use Rattle.control.specs.After.{answer}
 use Rattle.control.specs.Report.{due_report}
-use borrow.Author.Rules.{rules}
 use Rattle.control.proofs.report_due.Goals as goal
 
 pub returns-then-not-is_table : goal.returns-then-not-is_table

@@ -5,7 +5,6 @@ use Rattle.control.specs.declared.answer.Answer.TheVariants.{Done}
 use Rattle.control.specs.After.{answer}
 use Rattle.control.specs.Report.{port_report}
 use Rattle.control.proofs.CallLaws.{found-refused, found-answers, found-table, found_inside, found-index}
-use borrow.Author.Rules.{rules}
 use Rattle.control.proofs.report_port.Goals as goal
 
 pub look-requires : goal.look-requires

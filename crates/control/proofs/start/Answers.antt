@@ -1,7 +1,6 @@
 -- `control::start` meets its contract: answers 1 and 4, or a new table; no content of the memory is read. Assumes nothing.
 use mathlib.Core.Path.{◌≡◌, sym, ◌∙◌}
 use native.Mathlib.Omega.{arith}
-use borrow.Author.Tests.{not-true, not-false}
 use Rattle.octets.specs.Octets.{within}
 use Rattle.octets.proofs.RangeLaws.{both, within-true}
 use Rattle.table.specs.Layout.{most_ports}
@@ -10,7 +9,6 @@ use Rattle.control.specs.declared.answer.Reason.TheVariants as reason
 use Rattle.control.specs.Call as call
 use Rattle.control.specs.After.{answer, effect}
 use Rattle.control.proofs.CallLaws.{refused-table, done-table}
-use borrow.Author.Rules.{rules}
 use Rattle.control.proofs.start.Goals as goal
 
 pub returns-then-not-is_room : goal.returns-then-not-is_room

@@ -1,12 +1,10 @@
 -- `control::tick` meets its contract: answer 1, or the work of a tick. Assumes nothing.
 use mathlib.Core.Path.{◌≡◌, sym, ◌∙◌}
-use borrow.Author.Tests.{not-true, not-false}
 use Rattle.control.specs.declared.answer.Answer.TheVariants.{Done, Refused}
 use Rattle.control.specs.declared.answer.Reason.TheVariants as reason
 use Rattle.control.specs.Call as call
 use Rattle.control.specs.After.{answer, effect}
 use Rattle.control.proofs.CallLaws.{refused-table, done-table}
-use borrow.Author.Rules.{rules}
 use Rattle.control.proofs.tick.Goals as goal
 
 pub returns-then-not-is_table : goal.returns-then-not-is_table

@@ -1,5 +1,4 @@
 -- `counted_if` meets its contract, by its test. Assumes nothing.
-use borrow.Author.Rules.{rules}
 use Rattle.counters.proofs.counted_if.Goals as goal
 
 pub returns-then-counts : goal.returns-then-counts

@@ -3,7 +3,6 @@ use mathlib.Core.Path.{ap, ◌∙◌}
 use Rattle.control.specs.Answer.{answer_number}
 use Rattle.why.specs.Apart.{apart_number}
 use Rattle.reasons.specs.declared.ApartReport.{ApartReport}
-use borrow.Author.Rules.{rules}
 use Rattle.myrkosti.proofs.myrkosti_apart.Goals as goal
 
 pub returns : goal.returns

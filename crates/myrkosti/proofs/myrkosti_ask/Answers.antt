@@ -1,7 +1,6 @@
 -- `myrkosti_ask` meets its contract: `asked::ask`, and its answer's number. Assumes nothing.
 use mathlib.Core.Path.{ap, ◌∙◌}
 use Rattle.asked.specs.Ask.{said_number}
-use borrow.Author.Rules.{rules}
 use Rattle.myrkosti.proofs.myrkosti_ask.Goals as goal
 
 pub returns : goal.returns

@@ -1,7 +1,6 @@
 -- `myrkosti_back` meets its contract: `asked::back`, and its answer's number. Assumes nothing.
 use mathlib.Core.Path.{ap, ◌∙◌}
 use Rattle.control.specs.Answer.{answer_number}
-use borrow.Author.Rules.{rules}
 use Rattle.myrkosti.proofs.myrkosti_back.Goals as goal
 
 pub returns : goal.returns

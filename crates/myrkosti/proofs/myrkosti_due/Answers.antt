@@ -2,7 +2,6 @@
 use mathlib.Core.Path.{ap, ◌∙◌}
 use Rattle.control.specs.declared.answer.DueReport.{DueReport}
 use Rattle.control.specs.Answer.{answer_number}
-use borrow.Author.Rules.{rules}
 use Rattle.myrkosti.proofs.myrkosti_due.Goals as goal
 
 pub returns : goal.returns

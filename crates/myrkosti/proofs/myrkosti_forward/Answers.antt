@@ -1,7 +1,6 @@
 -- `myrkosti_forward` meets its contract: `asked::forward`, and its answer's number. Assumes nothing.
 use mathlib.Core.Path.{ap, ◌∙◌}
 use Rattle.control.specs.Answer.{answer_number}
-use borrow.Author.Rules.{rules}
 use Rattle.myrkosti.proofs.myrkosti_forward.Goals as goal
 
 pub returns : goal.returns

@@ -1,7 +1,6 @@
 -- `myrkosti_port` meets its contract: `asked::report_port`, and its answer's number. Assumes nothing.
 use mathlib.Core.Path.{ap, ◌∙◌}
 use Rattle.control.specs.Answer.{answer_number}
-use borrow.Author.Rules.{rules}
 use Rattle.myrkosti.proofs.myrkosti_port.Goals as goal
 
 pub returns : goal.returns

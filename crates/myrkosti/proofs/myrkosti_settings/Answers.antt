@@ -5,7 +5,6 @@ use Rattle.control.specs.Answer.{answer_number}
 use Rattle.control.specs.Call.{configure}
 use Rattle.asked.specs.Layer.{new_layer}
 use Rattle.asked.specs.Calls.{asked_answer, asked_after}
-use borrow.Author.Rules.{rules}
 use Rattle.myrkosti.proofs.myrkosti_settings.Goals as goal
 
 pub returns : goal.returns

@@ -4,7 +4,6 @@ use Rattle.control.specs.Answer.{answer_number}
 use Rattle.control.specs.Call.{Call, start}
 use Rattle.asked.specs.Layer.{new_layer}
 use Rattle.asked.specs.Calls.{asked_answer, asked_after}
-use borrow.Author.Rules.{rules}
 use Rattle.myrkosti.proofs.myrkosti_start.Goals as goal
 
 pub returns : goal.returns

@@ -3,7 +3,6 @@ use mathlib.Core.Path.{ap, ◌∙◌}
 use Rattle.control.specs.Answer.{answer_number}
 use Rattle.why.specs.Cause.{cause_number}
 use Rattle.reasons.specs.declared.WhyReport.{WhyReport}
-use borrow.Author.Rules.{rules}
 use Rattle.myrkosti.proofs.myrkosti_why.Goals as goal
 
 pub returns : goal.returns

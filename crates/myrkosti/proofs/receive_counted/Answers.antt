@@ -3,7 +3,6 @@ use mathlib.Core.Path.{ap, ◌∙◌}
 use Rattle.control.specs.declared.answer.Answer.{Answer}
 use Rattle.control.specs.Answer.{answer_number, length_sent}
 use Rattle.counters.specs.Counters.{received}
-use borrow.Author.Rules.{rules}
 use Rattle.myrkosti.proofs.receive_counted.Goals as goal
 
 pub returns : goal.returns

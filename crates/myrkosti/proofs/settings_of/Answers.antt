@@ -1,5 +1,4 @@
 -- `settings_of` meets its contract: address and block are read from their octets. Assumes nothing.
-use borrow.Author.Rules.{rules}
 use Rattle.myrkosti.proofs.settings_of.Goals as goal
 
 pub returns : goal.returns

@@ -1,5 +1,4 @@
 -- `octets::put_number` meets its contract: the two octets that it puts are those of the number. Assumes nothing.
-use borrow.Author.Rules.{rules}
 use Rattle.octets.proofs.put_number.Goals as goal
 
 pub returns : goal.returns

@@ -1,7 +1,6 @@
 -- `octets::word` meets its contract: each octet at its own weight. Assumes nothing.
 use native.Mathlib.Omega.{arith}
 use Rattle.octets.specs.Octets.{word}
-use borrow.Author.Rules.{rules}
 use Rattle.octets.proofs.word.Goals as goal
 
 pub returns : goal.returns

@@ -2,7 +2,6 @@
 use mathlib.Core.Path.{sym, subst}
 use Rattle.promises.specs.Asked.{NewAsked}
 use Rattle.promises.proofs.Demands.{made-ask}
-use borrow.Author.Rules.{rules}
 use Rattle.promises.proofs.ask.Goals as goal
 
 pub returns : goal.returns

@@ -4,7 +4,6 @@ use Rattle.control.specs.declared.answer.Answer.{Answer}
 use Rattle.control.specs.Accepted.{accepted}
 use Rattle.promises.specs.Asked.{OldAsked}
 use Rattle.promises.proofs.Demands.{made-back}
-use borrow.Author.Rules.{rules}
 use Rattle.promises.proofs.back.Goals as goal
 
 pub returns : goal.returns

@@ -4,7 +4,6 @@ use Rattle.control.specs.Call.{configure as call_configure}
 use Rattle.promises.specs.Asked.{NewAsked}
 use Rattle.promises.proofs.Demands.{made-call}
 use Rattle.promises.proofs.Typed.{settings_typed}
-use borrow.Author.Rules.{rules}
 use Rattle.promises.proofs.configure.Goals as goal
 
 pub returns : goal.returns

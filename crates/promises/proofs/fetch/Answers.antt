@@ -3,7 +3,6 @@ use mathlib.Core.Path.{sym, subst}
 use Rattle.control.specs.Call.{fetch as call_fetch}
 use Rattle.promises.specs.Asked.{NewAsked}
 use Rattle.promises.proofs.Demands.{made-call}
-use borrow.Author.Rules.{rules}
 use Rattle.promises.proofs.fetch.Goals as goal
 
 pub returns : goal.returns

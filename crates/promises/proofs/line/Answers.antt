@@ -3,7 +3,6 @@ use mathlib.Core.Path.{sym, subst}
 use Rattle.control.specs.Call.{line as call_line}
 use Rattle.promises.specs.Asked.{NewAsked}
 use Rattle.promises.proofs.Demands.{made-call}
-use borrow.Author.Rules.{rules}
 use Rattle.promises.proofs.line.Goals as goal
 
 pub returns : goal.returns

@@ -3,7 +3,6 @@ use mathlib.Core.Path.{sym, subst}
 use Rattle.control.specs.Call.{receive as call_receive}
 use Rattle.promises.specs.Asked.{NewAsked}
 use Rattle.promises.proofs.Demands.{made-call}
-use borrow.Author.Rules.{rules}
 use Rattle.promises.proofs.receive.Goals as goal
 
 pub returns : goal.returns

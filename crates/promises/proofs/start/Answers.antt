@@ -7,7 +7,6 @@ use Rattle.octets.proofs.RangeLaws.{both_true}
 use Rattle.control.specs.declared.answer.Answer.{Answer}
 use Rattle.control.specs.Accepted.{accepted}
 use Rattle.promises.proofs.Typed.{fit, settings_typed}
-use borrow.Author.Rules.{rules}
 use Rattle.promises.proofs.start.Goals as goal
 
 pub returns : goal.returns

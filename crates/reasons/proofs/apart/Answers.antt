@@ -1,10 +1,8 @@
 -- `apart` meets its contract: both ports are found, or the first that is not is refused as a report of it is. Assumes nothing.
 use mathlib.Core.Path.{sym, ap, ◌∙◌}
-use borrow.Author.Tests.{not-true, not-false}
 use Rattle.control.specs.Accepted.{accepted}
 use Rattle.reasons.specs.Reasons.{apart_at}
 use Rattle.reasons.proofs.FoundLaws.{found, apart-refused, apart-refused-then, apart-told}
-use borrow.Author.Rules.{rules}
 use Rattle.reasons.proofs.apart.Goals as goal
 
 pub returns-then-not-is_accepted : goal.returns-then-not-is_accepted

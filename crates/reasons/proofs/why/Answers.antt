@@ -1,10 +1,8 @@
 -- `why` meets its contract: its port is found, or refused as a report of it is. Assumes nothing.
 use mathlib.Core.Path.{sym, ap, ◌∙◌}
-use borrow.Author.Tests.{not-true, not-false}
 use Rattle.control.specs.Accepted.{accepted}
 use Rattle.reasons.specs.Reasons.{why_at}
 use Rattle.reasons.proofs.FoundLaws.{found, why-refused, why-told}
-use borrow.Author.Rules.{rules}
 use Rattle.reasons.proofs.why.Goals as goal
 
 pub returns-then-not-is_accepted : goal.returns-then-not-is_accepted

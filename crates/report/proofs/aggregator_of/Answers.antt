@@ -1,6 +1,5 @@
 -- `report::aggregator_of` meets its contract: the definition field by field, with what the three sets and the lowest port are ensured
 -- to be put in. Assumes nothing.
-use borrow.Author.Rules.{rules}
 use Rattle.report.specs.Sets.{sets_of}
 use Rattle.report.proofs.aggregator_of.Goals as goal
 

@@ -1,6 +1,5 @@
 -- `report::due_ports` meets its contract: the set of the ports that stand so. Assumes nothing.
 use Rattle.report.specs.Sets.{stands, due_of}
-use borrow.Author.Rules.{rules}
 use Rattle.report.proofs.due_ports.Goals as goal
 
 pub returns : goal.returns

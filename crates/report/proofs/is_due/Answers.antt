@@ -2,7 +2,6 @@
 use mathlib.Core.Path.{sym}
 use Rattle.port.proofs.TransmitLaws.{due-at_once}
 use Rattle.table.specs.Record.{decoded}
-use borrow.Author.Rules.{rules}
 use Rattle.report.proofs.is_due.Goals as goal
 
 pub returns : goal.returns

@@ -1,7 +1,6 @@
 -- `report::stands_to` meets its contract: one line of the definition for each variant, with what the callees ensure put in. Assumes nothing.
 use mathlib.Core.Path.{ap, ◌∙◌}
 use Rattle.port.specs.Transmit.{is_due}
-use borrow.Author.Rules.{rules}
 use Rattle.report.specs.Sets.{stands}
 use Rattle.report.proofs.stands_to.Goals as goal
 

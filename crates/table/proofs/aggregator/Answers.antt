@@ -3,7 +3,6 @@ use Rattle.table.specs.Record.{decoded}
 use Rattle.table.specs.Table.{decoded_at}
 use Rattle.table.proofs.StoreLaws.{port-decoded}
 use Rattle.table.proofs.TableLaws.{lies}
-use borrow.Author.Rules.{rules}
 use Rattle.table.proofs.aggregator.Goals as goal
 
 pub record_at-requires : goal.record_at-requires

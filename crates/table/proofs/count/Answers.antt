@@ -1,6 +1,5 @@
 -- `count` meets its contract: an octet fits. Assumes nothing.
 use native.Mathlib.Omega.{arith}
-use borrow.Author.Rules.{rules}
 use Rattle.table.proofs.TableLaws.{in_range}
 use Rattle.table.proofs.count.Goals as goal
 

@@ -1,13 +1,11 @@
 -- `fill` meets its contract: a header, a first record, and that one repeated (`filled_holds`). Assumes nothing.
-use Prim.Native.Nat.{◌+◌, ◌≤◌}
-use mathlib.Core.Path.{◌≡◌, sym, ap, ◌∙◌}
+use mathlib.Core.Path.{ap, ◌∙◌}
 use native.Mathlib.Omega.{arith}
 use lib.ListN.{length}
 use Rattle.octets.proofs.Laws.{length-put}
-use Rattle.table.specs.Layout.{header_octets, place, record_size}
+use Rattle.table.specs.Layout.{header_octets}
 use Rattle.table.proofs.StoreLaws.{stored-length}
 use Rattle.table.proofs.FillLaws.{room-is, filled_holds}
-use borrow.Author.Rules.{rules}
 use Rattle.table.proofs.fill.Goals as goal
 
 pub write_header-requires : goal.write_header-requires

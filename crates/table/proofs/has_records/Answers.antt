@@ -1,12 +1,9 @@
 -- `has_records` meets its contract. The loop's invariant: the first i records are in range; it ends early at one that is not.
 -- Assumes nothing.
-use Prim.Native.Nat.{◌≤◌, ◌-◌}
 use mathlib.Core.Path.{◌≡◌, refl, sym, ap, ◌∙◌}
-use mathlib.Core.Bool.{true}
 use native.Mathlib.Omega.{arith}
 use native.Mathlib.Numerals.{add-one}
 use borrow.Author.Rules.{rules}
-use borrow.Author.Tests.{not-true, not-false}
 use Rattle.octets.proofs.RangeLaws.{both_true}
 use Rattle.table.specs.Range.{record_in_range}
 use Rattle.table.specs.Table.{first_in_range}

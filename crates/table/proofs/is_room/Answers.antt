@@ -1,7 +1,6 @@
 -- `is_room` meets its contract: the count first, and then the size for it. Assumes nothing.
 use Rattle.table.specs.Layout.{most_ports}
 use borrow.Author.Tests.{lt-leb, le-leb}
-use borrow.Author.Rules.{rules}
 use Rattle.table.proofs.is_room.Goals as goal
 
 pub returns-then-count-lt1 : goal.returns-then-count-lt1

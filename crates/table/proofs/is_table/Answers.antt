@@ -3,10 +3,9 @@
 use mathlib.Core.Path.{◌≡◌, sym, ◌∙◌}
 use native.Mathlib.Omega.{arith}
 use lib.ListN.{length}
-use borrow.Author.Tests.{lt-leb, le-leb, ne_eqb, eq-eqb, not-true, not-false}
+use borrow.Author.Tests.{lt-leb, le-leb, ne_eqb, eq-eqb}
 use Rattle.table.specs.Layout.{header_size, table_size}
 use Rattle.table.specs.Table.{count_in, table_in_range}
-use borrow.Author.Rules.{rules}
 use Rattle.table.proofs.is_table.Goals as goal
 
 pub returns-then-table-lt-HEADER : goal.returns-then-table-lt-HEADER

@@ -2,7 +2,6 @@
 use Rattle.table.specs.Table.{decoded_at}
 use Rattle.table.proofs.StoreLaws.{port-decoded}
 use Rattle.table.proofs.TableLaws.{lies}
-use borrow.Author.Rules.{rules}
 use Rattle.table.proofs.keys.Goals as goal
 
 pub record_at-requires : goal.record_at-requires

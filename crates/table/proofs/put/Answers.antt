@@ -4,7 +4,6 @@ use Prim.Native.Nat.{◌+◌}
 use Rattle.octets.proofs.Laws.{put-part}
 use Rattle.table.specs.Layout.{place, record_size}
 use Rattle.table.specs.Record.{encoded}
-use borrow.Author.Rules.{rules}
 use Rattle.table.proofs.put.Goals as goal
 
 pub returns : goal.returns

@@ -1,17 +1,7 @@
 -- `table::repeat_first` meets its contract. The loop's invariant: what lies in front is as it was, and behind it every octet below j is the one that stands a record before it.
 -- Assumes nothing.
-use Prim.Native.Nat.{ℕ, ◌+◌, ◌-◌, ◌≤◌, ◌<◌}
-use mathlib.Core.Path.{◌≡◌, refl, sym, ap, ◌∙◌}
-use mathlib.Core.Logic.{◌≢◌}
-use mathlib.Core.Bool.{Bool, true, false}
-use mathlib.Core.List.{List}
+use mathlib.Core.Path.{refl}
 use native.Mathlib.Omega.{arith}
-use lib.Dec.{eqb}
-use lib.ListN.{length, get_or, set, length-set}
-use lib.Seq.{get_or-set_same, get_or-set_other}
-use borrow.Author.Tests.{eqb-true, eqb-false}
-use borrow.Author.Rules.{rules}
-use Rattle.table.specs.Layout.{record_size, place}
 use Rattle.table.proofs.repeat_first.Goals as goal
 use Rattle.table.proofs.repeat_first.Invariants.{begins, next, more}
 

@@ -1,7 +1,6 @@
 -- `store` meets its contract: what is written at the record's place is in range. Assumes nothing.
 use Rattle.table.proofs.TableLaws.{lies}
 use Rattle.table.proofs.LeavesLaws.{stored}
-use borrow.Author.Rules.{rules}
 use Rattle.table.proofs.store.Goals as goal
 
 pub put-requires : goal.put-requires

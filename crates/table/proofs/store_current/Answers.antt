@@ -3,7 +3,6 @@ use native.Mathlib.Omega.{arith}
 use Rattle.octets.specs.Octets.{number_octets}
 use Rattle.table.proofs.GroupLaws.{part-put, current-stored}
 use Rattle.table.proofs.TableLaws.{lies}
-use borrow.Author.Rules.{rules}
 use Rattle.table.proofs.store_current.Goals as goal
 
 pub place_of-at-requires : goal.place_of-at-requires

@@ -3,7 +3,6 @@ use native.Mathlib.Omega.{arith}
 use Rattle.table.specs.Record.{timers_octets}
 use Rattle.table.proofs.GroupLaws.{part-put, timers-stored}
 use Rattle.table.proofs.TableLaws.{lies}
-use borrow.Author.Rules.{rules}
 use Rattle.table.proofs.store_timers.Goals as goal
 
 pub place_of-at-requires : goal.place_of-at-requires

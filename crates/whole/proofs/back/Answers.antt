@@ -2,9 +2,7 @@
 use mathlib.Core.Path.{sym, ◌∙◌}
 use native.Mathlib.Omega.{arith}
 use lib.Seq.{length-take-le}
-use borrow.Author.Tests.{not-true, not-false}
 use Rattle.whole.proofs.MoveLaws.{back-refused, back-has, back-size, back_done}
-use borrow.Author.Rules.{rules}
 use Rattle.whole.proofs.back.Goals as goal
 
 pub returns-then-not-goes_back : goal.returns-then-not-goes_back

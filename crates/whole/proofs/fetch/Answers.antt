@@ -1,11 +1,9 @@
 -- `fetch` meets its contract: the base's fetch; no machine runs. Assumes nothing.
 use mathlib.Core.Path.{refl, sym, ◌∙◌}
 use lib.Seq.{length-take-le}
-use borrow.Author.Tests.{not-true, not-false}
 use Rattle.control.specs.Call as call
 use mathlib.Core.Bool.{false}
 use Rattle.whole.proofs.CallLaws.{roomless-out, finished-out}
-use borrow.Author.Rules.{rules}
 use Rattle.whole.proofs.fetch.Goals as goal
 
 pub returns-then-not-has_monitors : goal.returns-then-not-has_monitors

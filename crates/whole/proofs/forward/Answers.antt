@@ -1,9 +1,7 @@
 -- `forward` meets its contract: the source over the front of the target, and the machines begun. Assumes nothing.
 use mathlib.Core.Path.{sym, ◌∙◌}
 use native.Mathlib.Omega.{arith}
-use borrow.Author.Tests.{not-true, not-false}
 use Rattle.whole.proofs.MoveLaws.{forward-refused, source-size, target_size, put-fits, forward-done}
-use borrow.Author.Rules.{rules}
 use Rattle.whole.proofs.forward.Goals as goal
 
 pub returns-then-not-goes_forward : goal.returns-then-not-goes_forward

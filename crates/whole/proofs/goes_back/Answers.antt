@@ -1,9 +1,7 @@
 -- `goes_back_lem` meets its contract: each way out has the tests that led there. Assumes nothing.
 use mathlib.Core.Path.{sym, ◌∙◌}
 use lib.Seq.{length-take-le}
-use borrow.Author.Tests.{not-true, not-false}
 use Rattle.whole.proofs.MoveLaws.{back_no_table, back-by-size}
-use borrow.Author.Rules.{rules}
 use Rattle.whole.proofs.goes_back.Goals as goal
 
 pub returns-then-not-has_monitors : goal.returns-then-not-has_monitors

@@ -1,9 +1,7 @@
 -- `goes_forward` meets its contract: each way out has the tests that led there. Assumes nothing.
 use mathlib.Core.Path.{sym, ◌∙◌}
 use native.Mathlib.Omega.{arith}
-use borrow.Author.Tests.{not-true, not-false}
 use Rattle.table.proofs.TableLaws.{in_range}
-use borrow.Author.Rules.{rules}
 use Rattle.whole.proofs.goes_forward.Goals as goal
 
 pub returns-then-not-is_table : goal.returns-then-not-is_table

@@ -4,7 +4,6 @@ use native.Mathlib.Omega.{arith}
 use Rattle.octets.proofs.RangeLaws.{within-true}
 use Rattle.table.specs.Table.{count_in, decoded_at}
 use Rattle.table.proofs.StoreLaws.{port-decoded}
-use borrow.Author.Rules.{rules}
 use Rattle.whole.proofs.has_settings.Goals as goal
 
 pub returns-then-n-lt1 : goal.returns-then-n-lt1

@@ -1,7 +1,6 @@
 -- `is_room` meets its contract: the count first, and then the size for it. Assumes nothing.
 use borrow.Author.Tests.{lt-leb, le-leb}
 use Rattle.table.specs.Layout.{most_ports}
-use borrow.Author.Rules.{rules}
 use Rattle.whole.proofs.is_room.Goals as goal
 
 pub returns-then-count-lt1 : goal.returns-then-count-lt1

@@ -2,7 +2,6 @@
 use mathlib.Core.Path.{◌≡◌, refl, sym, ◌∙◌}
 use lib.ListN.{length, take}
 use lib.Seq.{length-take-le}
-use borrow.Author.Tests.{not-true, not-false}
 use Rattle.control.specs.Call as call
 use Rattle.whole.proofs.CallLaws.{roomless-out, finished-out, rejoined}
 use borrow.Author.Rules.{rules}

@@ -3,11 +3,9 @@ use Prim.Native.Nat.{ℕ}
 use mathlib.Core.Path.{sym, ap, ◌∙◌}
 use lib.ListN.{take}
 use lib.Seq.{length-take-le}
-use borrow.Author.Tests.{not-true, not-false}
 use Rattle.churn.specs.Whole.{base_of}
 use Rattle.control.specs.Report.{aggregator_report}
 use Rattle.whole.specs.Report.{whole_aggregator}
-use borrow.Author.Rules.{rules}
 use Rattle.whole.proofs.report_aggregator.Goals as goal
 
 pub returns-then-not-has_monitors : goal.returns-then-not-has_monitors

@@ -1,7 +1,6 @@
 -- `table_size` meets its contract: by whether the count is below 1, above 32 or between. Assumes nothing.
 use borrow.Author.Tests.{lt-leb, le-leb}
 use Rattle.table.specs.Layout.{most_ports}
-use borrow.Author.Rules.{rules}
 use Rattle.whole.proofs.table_size.Goals as goal
 
 pub returns-then-count-lt1 : goal.returns-then-count-lt1

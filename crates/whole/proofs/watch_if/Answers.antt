@@ -1,5 +1,4 @@
 -- `watch_if` meets its contract: the machines, or nothing. Assumes nothing.
-use borrow.Author.Rules.{rules}
 use Rattle.whole.proofs.watch_if.Goals as goal
 
 pub watch_all-requires : goal.watch_all-requires

@@ -3,7 +3,6 @@ use Rattle.octets.proofs.ListLaws.{sweep_map}
 use Rattle.port.specs.Transmit.{advanced}
 use Rattle.table.proofs.LeavesLaws.{then, said, made_of}
 use Rattle.work.specs.Work.{worked, after_tick}
-use borrow.Author.Rules.{rules}
 use Rattle.work.proofs.advance.Goals as goal
 
 pub returns : goal.returns

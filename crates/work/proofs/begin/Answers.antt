@@ -13,7 +13,6 @@ use Rattle.table.proofs.FillLaws.{room-is}
 use Rattle.table.proofs.LeavesLaws.{made_of, then, said}
 use Rattle.settings.proofs.RangeLaws.{started_typed}
 use Rattle.work.proofs.WorkLaws.{own_typed}
-use borrow.Author.Rules.{rules}
 use Rattle.work.proofs.begin.Goals as goal
 
 pub fill-requires : goal.fill-requires

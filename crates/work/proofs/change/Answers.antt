@@ -1,7 +1,6 @@
 -- `work::change` meets its contract: the record is stored, and the rest of the work done. Assumes nothing.
 use Rattle.table.proofs.LeavesLaws.{then, said, made_of}
 use Rattle.work.specs.Work.{worked, after_one}
-use borrow.Author.Rules.{rules}
 use Rattle.work.proofs.change.Goals as goal
 
 pub store-requires : goal.store-requires

@@ -9,7 +9,6 @@ use Rattle.table.proofs.TableLaws.{ranged-at, octets-back}
 use Rattle.settings.proofs.RangeLaws.{configured_typed}
 use Rattle.work.specs.Work.{after_settings}
 use Rattle.work.proofs.WorkLaws.{own_typed}
-use borrow.Author.Rules.{rules}
 use Rattle.work.proofs.configure.Goals as goal
 
 pub load-p-requires : goal.load-p-requires

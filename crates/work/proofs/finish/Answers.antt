@@ -4,7 +4,6 @@ use Rattle.port.specs.Periodic.{periodic_run}
 use Rattle.trunk.specs.Settled.{settled}
 use Rattle.table.proofs.LeavesLaws.{then, said}
 use Rattle.work.specs.Work.{worked}
-use borrow.Author.Rules.{rules}
 use Rattle.work.proofs.finish.Goals as goal
 
 pub returns : goal.returns

@@ -6,7 +6,6 @@ use Rattle.frame.specs.Block.{block_of}
 use Rattle.trunk.specs.Displaced.{displaced}
 use Rattle.table.proofs.LeavesLaws.{then, said, made_of}
 use Rattle.work.specs.Work.{worked, after_received}
-use borrow.Author.Rules.{rules}
 use Rattle.work.proofs.receive.Goals as goal
 
 pub receive_one-requires : goal.receive_one-requires

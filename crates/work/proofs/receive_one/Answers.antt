@@ -21,7 +21,6 @@ use Rattle.port.proofs.RangeLaws.{received-ranged, time-le}
 use Rattle.port.proofs.RepeatLaws.{repeats-is}
 use Rattle.table.proofs.LeavesLaws.{said}
 use Rattle.work.proofs.WorkLaws.{below-most}
-use borrow.Author.Rules.{rules}
 use Rattle.work.proofs.receive_one.Goals as goal
 
 pub read_header-ours-requires : goal.read_header-ours-requires

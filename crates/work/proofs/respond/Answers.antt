@@ -1,5 +1,4 @@
 -- `work::respond` meets its contract: the Response goes out with the port's own address. Assumes nothing.
-use borrow.Author.Rules.{rules}
 use Rattle.work.proofs.respond.Goals as goal
 
 pub returns : goal.returns

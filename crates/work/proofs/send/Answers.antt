@@ -5,7 +5,6 @@ use Rattle.work.specs.Work.{after_send}
 use Rattle.port.proofs.RangeLaws.{sent-ranged}
 use Rattle.table.proofs.LeavesLaws.{made_of}
 use Rattle.trunk.proofs.TableWork.{may_store, changed-at}
-use borrow.Author.Rules.{rules}
 use Rattle.work.proofs.send.Goals as goal
 
 pub store-requires : goal.store-requires

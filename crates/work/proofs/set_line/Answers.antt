@@ -7,7 +7,6 @@ use Rattle.port.proofs.RangeLaws.{lined-ranged}
 use Rattle.table.specs.Table.{count_in, port_at}
 use Rattle.table.proofs.TableLaws.{ranged-at, octets-back}
 use Rattle.work.specs.Work.{after_line}
-use borrow.Author.Rules.{rules}
 use Rattle.work.proofs.set_line.Goals as goal
 
 pub load-p-requires : goal.load-p-requires

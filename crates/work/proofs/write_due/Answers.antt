@@ -2,7 +2,6 @@
 -- is the port's. Assumes nothing.
 use Rattle.work.specs.Work.{lacpdu_of}
 use Rattle.work.proofs.WorkLaws.{below-most}
-use borrow.Author.Rules.{rules}
 use Rattle.work.proofs.write_due.Goals as goal
 
 pub read_header-ours-requires : goal.read_header-ours-requires

@@ -3,7 +3,6 @@ use mathlib.Core.Path.{sym}
 use native.Mathlib.Omega.{arith}
 use Rattle.asks.specs.Group.{group_in_range}
 use Rattle.asks.proofs.RestLaws.{unwaited-ranged}
-use borrow.Author.Rules.{rules}
 use Rattle.asks.proofs.group.is_group.Goals as goal
 
 pub returns-then-first_octets-eq0 : goal.returns-then-first_octets-eq0

@@ -4,7 +4,6 @@ use lib.Dec.{eqb, leb}
 use borrow.Author.Tests.{eqb-false, leb-true, not-true}
 use Rattle.octets.proofs.RangeLaws.{both}
 use Rattle.asks.proofs.RestLaws.{unwaited-falls}
-use borrow.Author.Rules.{rules}
 use Rattle.asks.proofs.group.is_idle.Goals as goal
 
 pub returns : goal.returns

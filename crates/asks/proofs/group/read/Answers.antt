@@ -1,6 +1,5 @@
 -- `read` meets its contract: each part of a group. Assumes nothing.
 use Rattle.asks.specs.Group.{group_of}
-use borrow.Author.Rules.{rules}
 use Rattle.asks.proofs.group.read.Goals as goal
 
 pub returns : goal.returns

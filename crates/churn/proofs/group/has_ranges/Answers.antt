@@ -1,6 +1,5 @@
 -- `has_ranges` meets its contract: its tests are those of the definition. Assumes nothing.
 use Rattle.churn.specs.Group.{group_in_range}
-use borrow.Author.Rules.{rules}
 use Rattle.churn.proofs.group.has_ranges.Goals as goal
 
 pub returns : goal.returns

@@ -1,6 +1,5 @@
 -- `is_fresh` meets its contract: its tests are those of the definition. Assumes nothing.
 use Rattle.churn.specs.Rest.{is_fresh}
-use borrow.Author.Rules.{rules}
 use Rattle.churn.proofs.group.is_fresh.Goals as goal
 
 pub returns : goal.returns

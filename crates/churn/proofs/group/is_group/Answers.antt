@@ -2,7 +2,6 @@
 use mathlib.Core.Path.{sym, ◌∙◌}
 use mathlib.Core.Bool.{true}
 use Rattle.churn.proofs.RestLaws.{still-ranged}
-use borrow.Author.Rules.{rules}
 use Rattle.churn.proofs.group.is_group.Goals as goal
 
 pub returns-then-is_still : goal.returns-then-is_still

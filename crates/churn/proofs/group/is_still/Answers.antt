@@ -1,6 +1,5 @@
 -- `is_still` meets its contract: its tests are those of the definition. Assumes nothing.
 use Rattle.churn.specs.Rest.{is_still}
-use borrow.Author.Rules.{rules}
 use Rattle.churn.proofs.group.is_still.Goals as goal
 
 pub returns : goal.returns

@@ -1,6 +1,5 @@
 -- `read` meets its contract: each part of a group. Assumes nothing.
 use Rattle.churn.specs.Group.{group_of}
-use borrow.Author.Rules.{rules}
 use Rattle.churn.proofs.group.read.Goals as goal
 
 pub returns : goal.returns

@@ -5,7 +5,6 @@ use native.Mathlib.Omega.{arith}
 use Rattle.octets.specs.Octets.{number_octets, long_octets}
 use Rattle.octets.proofs.Laws.{written, over-all}
 use Rattle.churn.specs.Group.{churn_code, group_octets}
-use borrow.Author.Rules.{rules}
 use Rattle.churn.proofs.group.write.Goals as goal
 
 pub returns : goal.returns

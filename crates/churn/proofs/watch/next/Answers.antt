@@ -1,5 +1,4 @@
 -- `next` meets its contract: by the link. Assumes nothing.
-use borrow.Author.Rules.{rules}
 use Rattle.churn.proofs.watch.next.Goals as goal
 
 pub returns-then-up : goal.returns-then-up

@@ -1,5 +1,4 @@
 -- `next_up` meets its contract: on each way out it gives what the definition gives, by the tests on the way. Assumes nothing.
-use borrow.Author.Rules.{rules}
 use Rattle.churn.proofs.watch.next_up.Goals as goal
 
 pub returns-then-sync-2 : goal.returns-then-sync-2

@@ -1,11 +1,9 @@
 -- `control::checks::find` meets its contract: answer 1, then answer 2, then the port's place. Assumes nothing.
 use mathlib.Core.Path.{sym, ◌∙◌}
 use native.Mathlib.Omega.{arith}
-use borrow.Author.Tests.{not-true, not-false}
 use Rattle.octets.proofs.RangeLaws.{within-true}
 use Rattle.table.specs.Table.{count_in}
 use Rattle.control.specs.Answer.{found}
-use borrow.Author.Rules.{rules}
 use Rattle.control.proofs.checks.find.Goals as goal
 
 pub returns-then-not-is_table : goal.returns-then-not-is_table

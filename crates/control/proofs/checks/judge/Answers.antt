@@ -1,7 +1,6 @@
 -- `control::checks::judge` meets its contract: on each way out it gives what the definition gives, by the tests on the way. Assumes nothing.
 use mathlib.Core.Path.{sym, ◌∙◌}
 use mathlib.Core.Bool.{◌||◌}
-use borrow.Author.Rules.{rules}
 use Rattle.control.proofs.checks.judge.Goals as goal
 
 pub returns-then-line : goal.returns-then-line

@@ -1,6 +1,5 @@
 -- `fetched` meets its contract: one counter, by the answer. Assumes nothing.
 use Rattle.counters.specs.Counters.{fetched}
-use borrow.Author.Rules.{rules}
 use Rattle.counters.proofs.Counters.fetched.Goals as goal
 
 pub returns : goal.returns

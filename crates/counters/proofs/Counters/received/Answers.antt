@@ -1,6 +1,5 @@
 -- `received` meets its contract: each counter, by the answer. Assumes nothing.
 use Rattle.counters.specs.Counters.{received}
-use borrow.Author.Rules.{rules}
 use Rattle.counters.proofs.Counters.received.Goals as goal
 
 pub returns : goal.returns

@@ -5,7 +5,6 @@ use native.Mathlib.Omega.{arith}
 use borrow.Author.Tests.{eq-eqb, ne_eqb}
 use Rattle.frame.specs.Class.{class_of}
 use Rattle.frame.proofs.ClassLaws.{foreign_clear, illegal_clear}
-use borrow.Author.Rules.{rules}
 use Rattle.frame.proofs.class.classify.Goals as goal
 
 pub returns-then-is_foreign : goal.returns-then-is_foreign

@@ -1,7 +1,6 @@
 -- Of line 8: the lengths by the subtype. Assumes nothing.
 use Rattle.frame.specs.Class.{wrong_length}
 use borrow.Author.Tests.{eq-eqb, ne_eqb}
-use borrow.Author.Rules.{rules}
 use Rattle.frame.proofs.class.has_wrong_length.Goals as goal
 
 pub returns-then-s-eq1 : goal.returns-then-s-eq1

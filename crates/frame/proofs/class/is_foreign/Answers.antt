@@ -1,7 +1,6 @@
 -- Line 6 of the frame tests: each return is one of its two cases. Assumes nothing.
 use Rattle.frame.specs.Class.{foreign}
 use borrow.Author.Tests.{lt-ltb, le-ltb}
-use borrow.Author.Rules.{rules}
 use Rattle.frame.proofs.class.is_foreign.Goals as goal
 
 pub returns-then-s-lt14 : goal.returns-then-s-lt14

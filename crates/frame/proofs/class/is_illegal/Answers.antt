@@ -1,7 +1,6 @@
 -- Line 8 of the frame tests: each return is the first of its cases that holds. Assumes nothing.
 use Rattle.frame.specs.Class.{illegal}
 use borrow.Author.Tests.{lt-ltb, le-ltb}
-use borrow.Author.Rules.{rules}
 use Rattle.frame.proofs.class.is_illegal.Goals as goal
 
 pub returns-then-s-lt15 : goal.returns-then-s-lt15

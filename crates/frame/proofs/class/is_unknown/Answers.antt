@@ -2,7 +2,6 @@
 use mathlib.Core.Path.{sym, ◌∙◌}
 use Rattle.frame.specs.Class.{unknown}
 use borrow.Author.Tests.{lt-ltb, le-ltb, eq-eqb, ne_eqb}
-use borrow.Author.Rules.{rules}
 use Rattle.frame.proofs.class.is_unknown.Goals as goal
 
 pub returns-then-number-ne-SLOW_TYPE : goal.returns-then-number-ne-SLOW_TYPE

@@ -8,7 +8,6 @@ use Rattle.octets.specs.Octets.{put_at, number_octets}
 use Rattle.octets.proofs.Laws.{written, put-part}
 use Rattle.frame.specs.Block.{block_octets}
 use Rattle.frame.specs.Wire.{opening, zeros}
-use borrow.Author.Rules.{rules}
 use Rattle.frame.proofs.wire.write_lacpdu.Goals as goal
 
 pub returns : goal.returns

@@ -8,7 +8,6 @@ use Rattle.frame.specs.Class.{frame_size}
 use Rattle.octets.specs.Octets.{put_at}
 use Rattle.octets.proofs.Laws.{written}
 use Rattle.frame.specs.Wire.{opening, zeros, marker_type_octet}
-use borrow.Author.Rules.{rules}
 use Rattle.frame.proofs.wire.write_marker.Goals as goal
 
 -- the request's length is known by its contract alone, so the place after it is counted and not computed

@@ -6,7 +6,6 @@ use Rattle.octets.proofs.Laws.{written, over-put}
 use Rattle.frame.specs.Block.{address_octets}
 use Rattle.frame.specs.Class.{slow_address, slow_type}
 use Rattle.frame.specs.Wire.{opening}
-use borrow.Author.Rules.{rules}
 use Rattle.frame.proofs.wire.write_opening.Goals as goal
 
 pub returns : goal.returns

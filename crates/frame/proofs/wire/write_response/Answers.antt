@@ -1,6 +1,5 @@
 -- `write_response` meets its contract: the Marker writer, given the Marker's request as a part of the received frame.
 -- Assumes nothing.
-use borrow.Author.Rules.{rules}
 use Rattle.frame.proofs.wire.write_response.Goals as goal
 
 pub returns : goal.returns

@@ -1,6 +1,5 @@
 -- `machine::ages::aged` meets its contract: on each way out it gives what the definition gives, by the tests on the way. Assumes nothing.
 use borrow.Author.Tests.{le-leb, lt-leb}
-use borrow.Author.Rules.{rules}
 use Rattle.machine.proofs.ages.aged.Goals as goal
 
 pub returns-then-a : goal.returns-then-a

@@ -1,5 +1,4 @@
 -- `machine::ages::fallen` meets its contract: on each way out it gives what the definition gives, by the tests on the way. Assumes nothing.
-use borrow.Author.Rules.{rules}
 use Rattle.machine.proofs.ages.fallen.Goals as goal
 
 pub returns-then-t-eq0 : goal.returns-then-t-eq0

@@ -1,6 +1,5 @@
 -- `machine::compare::in_sync` meets its contract: the definition, with what the callees ensure put in. Assumes nothing.
 use Rattle.machine.specs.Compare.{in_sync, maintained}
-use borrow.Author.Rules.{rules}
 use Rattle.machine.proofs.compare.in_sync.Goals as goal
 
 pub returns : goal.returns

@@ -1,6 +1,5 @@
 -- `machine::compare::same_party` meets its contract: the definition, with what the callees ensure put in. Assumes nothing.
 use Rattle.machine.specs.Compare.{same_party}
-use borrow.Author.Rules.{rules}
 use Rattle.machine.proofs.compare.same_party.Goals as goal
 
 pub returns : goal.returns

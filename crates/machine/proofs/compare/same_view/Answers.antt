@@ -1,6 +1,5 @@
 -- `machine::compare::same_view` meets its contract: the definition, with what the callees ensure put in. Assumes nothing.
 use Rattle.machine.specs.Compare.{same_view}
-use borrow.Author.Rules.{rules}
 use Rattle.machine.proofs.compare.same_view.Goals as goal
 
 pub returns : goal.returns

@@ -1,5 +1,4 @@
 -- `machine::periodic::next` meets its contract: on each way out it gives what the definition gives, by the tests on the way. Assumes nothing.
-use borrow.Author.Rules.{rules}
 use Rattle.machine.proofs.periodic.next.Goals as goal
 
 pub returns-then-quiet : goal.returns-then-quiet

@@ -1,5 +1,4 @@
 -- `machine::periodic::rests` meets its contract: state by state. Assumes nothing.
-use borrow.Author.Rules.{rules}
 use Rattle.machine.proofs.periodic.rests.Goals as goal
 
 pub returns-in-NoPeriodic : goal.returns-in-NoPeriodic

@@ -1,5 +1,4 @@
 -- `machine::periodic::time` meets its contract: on each way out it gives what the definition gives for the state. Assumes nothing.
-use borrow.Author.Rules.{rules}
 use Rattle.machine.proofs.periodic.time.Goals as goal
 
 pub returns-in-NoPeriodic : goal.returns-in-NoPeriodic

@@ -4,7 +4,6 @@ use mathlib.Core.List.{[], ◌∷◌}
 use native.Mathlib.Omega.{arith}
 use Rattle.octets.specs.Octets.{number_octets}
 use Rattle.octets.proofs.Laws.{puts-at}
-use borrow.Author.Rules.{rules}
 use Rattle.octets.proofs.longs.put_long.Goals as goal
 
 pub returns : goal.returns

@@ -4,7 +4,6 @@ use native.Mathlib.Omega.{arith}
 use lib.Count.{leading_le}
 use Rattle.octets.specs.Sets.{end_of}
 use Rattle.octets.proofs.SetLaws.{beyond_end}
-use borrow.Author.Rules.{rules}
 use Rattle.octets.proofs.sets.end.Goals as goal
 
 pub overflow_sub-result : goal.overflow_sub-result

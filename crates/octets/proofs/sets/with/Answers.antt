@@ -1,6 +1,5 @@
 -- `octets::sets::with` meets its contract: the number's own bit is set, and the others stay. Assumes nothing.
 use Rattle.octets.proofs.SetLaws.{with_member}
-use borrow.Author.Rules.{rules}
 use Rattle.octets.proofs.sets.with.Goals as goal
 
 pub returns : goal.returns

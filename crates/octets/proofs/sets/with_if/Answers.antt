@@ -1,5 +1,4 @@
 -- `octets::sets::with_if` meets its contract: with the number where it is to be in, and as it was where not. Assumes nothing.
-use borrow.Author.Rules.{rules}
 use Rattle.octets.proofs.sets.with_if.Goals as goal
 
 pub returns-then-is_in : goal.returns-then-is_in

@@ -1,6 +1,5 @@
 -- `settings::Settings::blank_port` meets its contract: the definition, with what the callees ensure put in. Assumes nothing.
 use Rattle.settings.specs.Settings.{blank}
-use borrow.Author.Rules.{rules}
 use Rattle.settings.proofs.Settings.blank_port.Goals as goal
 
 pub returns : goal.returns

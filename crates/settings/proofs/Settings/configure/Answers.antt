@@ -1,6 +1,5 @@
 -- `settings::Settings::configure` meets its contract: the definition, with what the callees ensure put in. Assumes nothing.
 use Rattle.settings.specs.Settings.{configured}
-use borrow.Author.Rules.{rules}
 use Rattle.settings.proofs.Settings.configure.Goals as goal
 
 pub returns : goal.returns

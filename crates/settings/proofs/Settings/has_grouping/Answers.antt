@@ -1,6 +1,5 @@
 -- `settings::Settings::has_grouping` meets its contract: the definition, with what the callees ensure put in. Assumes nothing.
 use Rattle.settings.specs.Settings.{same_grouping}
-use borrow.Author.Rules.{rules}
 use Rattle.settings.proofs.Settings.has_grouping.Goals as goal
 
 pub returns : goal.returns

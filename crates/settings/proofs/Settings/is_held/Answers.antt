@@ -1,6 +1,5 @@
 -- `settings::Settings::is_held` meets its contract: the definition, with what the callees ensure put in. Assumes nothing.
 use Rattle.settings.specs.Settings.{same_settings}
-use borrow.Author.Rules.{rules}
 use Rattle.settings.proofs.Settings.is_held.Goals as goal
 
 pub returns : goal.returns

@@ -1,6 +1,5 @@
 -- `settings::Settings::is_lawful` meets its contract: the definition, with what the callees ensure put in. Assumes nothing.
 use Rattle.settings.specs.Settings.{lawful}
-use borrow.Author.Rules.{rules}
 use Rattle.settings.proofs.Settings.is_lawful.Goals as goal
 
 pub returns : goal.returns

@@ -1,7 +1,6 @@
 -- `settings::Settings::regroup` meets its contract: on each way out it gives what the definition gives, by the tests on the way. Assumes nothing.
 use mathlib.Core.Path.{sym, ◌∙◌}
 use Rattle.settings.specs.Settings.{regrouped}
-use borrow.Author.Rules.{rules}
 use Rattle.settings.proofs.Settings.regroup.Goals as goal
 
 pub returns-then-has_grouping : goal.returns-then-has_grouping

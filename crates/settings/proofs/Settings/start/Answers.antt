@@ -1,6 +1,5 @@
 -- `settings::Settings::start` meets its contract: the definition, with what the callees ensure put in. Assumes nothing.
 use Rattle.settings.specs.Settings.{started}
-use borrow.Author.Rules.{rules}
 use Rattle.settings.proofs.Settings.start.Goals as goal
 
 pub returns : goal.returns

@@ -6,7 +6,6 @@ use Rattle.octets.specs.Octets.{number_octets}
 use Rattle.octets.proofs.Laws.{written, over-put}
 use Rattle.frame.specs.Block.{address_octets}
 use Rattle.table.specs.Layout.{header_octets}
-use borrow.Author.Rules.{rules}
 use Rattle.table.proofs.layout.write_header.Goals as goal
 
 pub returns : goal.returns

@@ -1,5 +1,4 @@
 -- `ages_in_range` meets its contract: the three ages, each by its own test. Assumes nothing.
-use borrow.Author.Rules.{rules}
 use Rattle.port.specs.Range.{ages_in_range}
 use Rattle.table.proofs.range.ages_in_range.Goals as goal
 

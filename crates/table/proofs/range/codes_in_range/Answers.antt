@@ -2,7 +2,6 @@
 use native.Mathlib.Omega.{arith}
 use Rattle.octets.specs.Octets.{Octets, word}
 use Rattle.table.proofs.CodesAtOnce.{codes-at_once}
-use borrow.Author.Rules.{rules}
 use Rattle.table.proofs.range.codes_in_range.Goals as goal
 
 pub overflow_add-result : goal.overflow_add-result

@@ -2,7 +2,6 @@
 use Rattle.port.specs.Range.{values_in_range}
 use Rattle.table.specs.Range.{record_in_range}
 use Rattle.table.specs.Record.{decoded}
-use borrow.Author.Rules.{rules}
 use Rattle.table.proofs.range.is_record.Goals as goal
 
 pub returns : goal.returns

@@ -1,6 +1,5 @@
 -- `keys_in` meets its contract: each thing is read at its own place. Assumes nothing.
 use Rattle.table.specs.Record.{decoded}
-use borrow.Author.Rules.{rules}
 use Rattle.table.proofs.record.keys_in.Goals as goal
 
 pub returns : goal.returns

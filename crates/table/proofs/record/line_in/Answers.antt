@@ -1,5 +1,4 @@
 -- `line_in` meets its contract: each flag is read at its own place. Assumes nothing.
-use borrow.Author.Rules.{rules}
 use Rattle.table.proofs.record.line_in.Goals as goal
 
 pub returns : goal.returns

@@ -4,7 +4,6 @@ use native.Mathlib.Omega.{arith}
 use lib.ListN.{drop}
 use lib.Seq.{get_or-take, get_or-drop}
 use Rattle.octets.specs.Octets.{joined}
-use borrow.Author.Rules.{rules}
 use Rattle.table.proofs.record.neighbour_in.Goals as goal
 
 pub returns : goal.returns

@@ -1,5 +1,4 @@
 -- `own_in` meets its contract: each field is read at its own place. Assumes nothing.
-use borrow.Author.Rules.{rules}
 use Rattle.table.proofs.record.own_in.Goals as goal
 
 pub returns : goal.returns

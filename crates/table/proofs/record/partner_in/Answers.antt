@@ -4,7 +4,6 @@ use native.Mathlib.Omega.{arith}
 use lib.ListN.{drop}
 use lib.Seq.{get_or-take, get_or-drop}
 use Rattle.frame.specs.State.{port_state_of}
-use borrow.Author.Rules.{rules}
 use Rattle.table.proofs.record.partner_in.Goals as goal
 
 pub returns : goal.returns

@@ -1,5 +1,4 @@
 -- `phase_in` meets its contract: each state is read at its own place. Assumes nothing.
-use borrow.Author.Rules.{rules}
 use Rattle.table.proofs.record.phase_in.Goals as goal
 
 pub returns : goal.returns

@@ -1,6 +1,5 @@
 -- `read_record` meets its contract: each group is read at its own place. Assumes nothing.
 use Rattle.table.specs.Record.{decoded}
-use borrow.Author.Rules.{rules}
 use Rattle.table.proofs.record.read_record.Goals as goal
 
 pub returns : goal.returns

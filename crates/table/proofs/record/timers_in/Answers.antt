@@ -1,5 +1,4 @@
 -- `timers_in` meets its contract: each timer is read at its own place. Assumes nothing.
-use borrow.Author.Rules.{rules}
 use Rattle.table.proofs.record.timers_in.Goals as goal
 
 pub returns : goal.returns

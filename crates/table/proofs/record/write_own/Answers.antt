@@ -6,7 +6,6 @@ use native.Mathlib.Omega.{arith}
 use Rattle.octets.specs.Octets.{put_at, number_octets}
 use Rattle.octets.proofs.Laws.{put-part, puts-at}
 use Rattle.frame.specs.Block.{address_octets, block_octets}
-use borrow.Author.Rules.{rules}
 use Rattle.table.proofs.record.write_own.Goals as goal
 
 pub returns : goal.returns

@@ -1,5 +1,4 @@
 -- `write_phase` meets its contract: the four octets are the codes of the four states. Assumes nothing.
-use borrow.Author.Rules.{rules}
 use Rattle.table.proofs.record.write_phase.Goals as goal
 
 pub returns : goal.returns

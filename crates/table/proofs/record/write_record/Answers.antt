@@ -7,7 +7,6 @@ use Rattle.octets.specs.Octets.{put_at}
 use Rattle.octets.proofs.Laws.{put-part, written, over-all}
 use Rattle.frame.specs.Block.{block_octets}
 use Rattle.table.specs.Record.{phase_octets, status_octets, timers_octets, ages_octets, own_octets, encoded}
-use borrow.Author.Rules.{rules}
 use Rattle.table.proofs.record.write_record.Goals as goal
 
 pub returns : goal.returns

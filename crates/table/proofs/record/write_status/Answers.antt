@@ -1,5 +1,4 @@
 -- `write_status` meets its contract: the five octets are those of the five fields. Assumes nothing.
-use borrow.Author.Rules.{rules}
 use Rattle.table.proofs.record.write_status.Goals as goal
 
 pub returns : goal.returns

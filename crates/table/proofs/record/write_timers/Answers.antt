@@ -1,5 +1,4 @@
 -- `write_timers` meets its contract: the octets are the high and low ones of the timers. Assumes nothing.
-use borrow.Author.Rules.{rules}
 use Rattle.table.proofs.record.write_timers.Goals as goal
 
 pub returns : goal.returns

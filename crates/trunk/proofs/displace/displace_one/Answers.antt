@@ -10,11 +10,10 @@ use Rattle.machine.specs.Receive.{is_disabled}
 use Rattle.port.specs.declared.record.Port.{Port}
 use Rattle.port.specs.Receive.{moved}
 use Rattle.table.specs.Table.{ports, port_at}
-use Rattle.table.proofs.LeavesLaws.{left_alone, said, stored}
+use Rattle.table.proofs.LeavesLaws.{left_alone, said}
 use Rattle.trunk.proofs.TableWork.{may_store, changed-at}
 use Rattle.trunk.specs.Displaced.{is_displaced, displaced_if}
 use Rattle.port.proofs.RangeLaws.{moved-ranged}
-use borrow.Author.Rules.{rules}
 use Rattle.trunk.proofs.displace.displace_one.Goals as goal
 
 moves : (r : ℕ) (a : Block) (i : ℕ) (p : Port) → not (eqb i r) && is_displaced a p ≡ true → displaced_if r a i p ≡ moved p

@@ -1,6 +1,5 @@
 -- `trunk::displace::is_displaced` meets its contract: the definition, with what the callees ensure put in. Assumes nothing.
 use Rattle.trunk.specs.Displaced.{is_displaced}
-use borrow.Author.Rules.{rules}
 use Rattle.trunk.proofs.displace.is_displaced.Goals as goal
 
 pub returns : goal.returns

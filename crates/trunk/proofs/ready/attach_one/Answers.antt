@@ -9,7 +9,6 @@ use Rattle.table.specs.Table.{ports, port_at}
 use Rattle.table.proofs.LeavesLaws.{left_alone, said}
 use Rattle.trunk.specs.Groups.{may_attach, attached_unless}
 use Rattle.trunk.proofs.TableWork.{may_store, changed-at}
-use borrow.Author.Rules.{rules}
 use Rattle.trunk.proofs.ready.attach_one.Goals as goal
 
 pub store-requires : goal.store-requires

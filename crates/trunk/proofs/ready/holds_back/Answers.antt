@@ -1,5 +1,4 @@
 -- `trunk::ready::holds_back` meets its contract: the definition, with what the callees ensure put in. Assumes nothing.
-use borrow.Author.Rules.{rules}
 use Rattle.trunk.proofs.ready.holds_back.Goals as goal
 
 pub returns : goal.returns

@@ -5,7 +5,6 @@ use native.Mathlib.Omega.{arith}
 use Rattle.machine.specs.Mux.{waits}
 use Rattle.table.specs.Table.{port_at}
 use Rattle.trunk.proofs.GroupSets.{holds-some}
-use borrow.Author.Rules.{rules}
 use Rattle.trunk.proofs.ready.may_attach.Goals as goal
 
 pub overflow_sub-aggregator : goal.overflow_sub-aggregator

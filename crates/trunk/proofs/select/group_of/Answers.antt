@@ -1,11 +1,10 @@
 -- `trunk::select::group_of` meets its contract: an individual port is alone; else port i, and then each later port by what is compared. Assumes nothing.
-use Prim.Native.Nat.{ℕ, ◌-◌, ◌≤◌, ◌<◌}
+use Prim.Native.Nat.{◌<◌}
 use mathlib.Core.Path.{◌≡◌, sym, ap, ◌∙◌}
 use mathlib.Core.Bool.{true}
 use mathlib.Core.List.{map}
 use native.Mathlib.Omega.{arith}
 use lib.ListN.{length, get_or, length-map}
-use Rattle.octets.specs.Sets.{member}
 use Rattle.port.specs.Compared.{Compared, compared}
 use Rattle.table.specs.Table.{count_in, ports, port_at}
 use Rattle.table.proofs.StoreLaws.{ports-length}
@@ -13,7 +12,7 @@ use Rattle.table.proofs.TableLaws.{in_range}
 use Rattle.trunk.specs.Selection.{individual, same_group, nobody, joins}
 use Rattle.trunk.proofs.SelectLaws.{joins_at}
 use Rattle.trunk.proofs.TableWork.{map-port_at}
-use Rattle.trunk.proofs.GroupSets.{so_far, group-begins, group-alone, group-more, group-ends}
+use Rattle.trunk.proofs.GroupSets.{group-begins, group-alone, group-more, group-ends}
 use Rattle.trunk.proofs.select.group_of.Goals as goal
 
 pub count-n-requires : goal.count-n-requires

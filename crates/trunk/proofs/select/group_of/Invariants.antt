@@ -1,19 +1,11 @@
 -- `trunk::select::group_of` meets its contract: an individual port is alone; else port i, and then each later port by what is compared. Assumes nothing.
 use Prim.Native.Nat.{ℕ, ◌-◌, ◌≤◌, ◌<◌}
-use mathlib.Core.Path.{◌≡◌, sym, ap, ◌∙◌}
-use mathlib.Core.Bool.{true}
+use mathlib.Core.Path.{◌≡◌}
 use mathlib.Core.List.{map}
-use native.Mathlib.Omega.{arith}
-use lib.ListN.{length, get_or, length-map}
 use Rattle.octets.specs.Sets.{member}
-use Rattle.port.specs.Compared.{Compared, compared}
-use Rattle.table.specs.Table.{count_in, ports, port_at}
-use Rattle.table.proofs.StoreLaws.{ports-length}
-use Rattle.table.proofs.TableLaws.{in_range}
-use Rattle.trunk.specs.Selection.{individual, same_group, nobody, joins}
-use Rattle.trunk.proofs.SelectLaws.{joins_at}
-use Rattle.trunk.proofs.TableWork.{map-port_at}
-use Rattle.trunk.proofs.GroupSets.{so_far, group-begins, group-alone, group-more, group-ends}
+use Rattle.port.specs.Compared.{compared}
+use Rattle.table.specs.Table.{ports}
+use Rattle.trunk.proofs.GroupSets.{so_far}
 use Rattle.trunk.proofs.select.group_of.Given as goal
 
 abbrev pub invariant-loop-j : goal.invariant-loop-j

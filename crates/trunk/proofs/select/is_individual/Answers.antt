@@ -1,6 +1,5 @@
 -- `trunk::select::is_individual` meets its contract: the definition, with what the callees ensure put in. Assumes nothing.
 use Rattle.trunk.specs.Selection.{individual}
-use borrow.Author.Rules.{rules}
 use Rattle.trunk.proofs.select.is_individual.Goals as goal
 
 pub returns : goal.returns

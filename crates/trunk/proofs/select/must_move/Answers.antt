@@ -1,6 +1,5 @@
 -- `trunk::select::must_move` meets its contract: the definition, with what the callees ensure put in. Assumes nothing.
 use Rattle.trunk.specs.Settled.{must_move}
-use borrow.Author.Rules.{rules}
 use Rattle.trunk.proofs.select.must_move.Goals as goal
 
 pub returns : goal.returns

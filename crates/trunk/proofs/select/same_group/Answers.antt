@@ -1,6 +1,5 @@
 -- `trunk::select::same_group` meets its contract: the definition, with what the callees ensure put in. Assumes nothing.
 use Rattle.trunk.specs.Selection.{same_group, same_keys}
-use borrow.Author.Rules.{rules}
 use Rattle.trunk.proofs.select.same_group.Goals as goal
 
 pub returns : goal.returns

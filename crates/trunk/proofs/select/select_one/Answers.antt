@@ -11,7 +11,6 @@ use Rattle.table.proofs.LeavesLaws.{left_alone, said}
 use Rattle.trunk.specs.Settled.{must_move, reselected}
 use Rattle.trunk.proofs.SelectLaws.{reselected-moves, reselected-unmoved}
 use Rattle.trunk.proofs.TableWork.{may_store, changed-at}
-use borrow.Author.Rules.{rules}
 use Rattle.trunk.proofs.select.select_one.Goals as goal
 
 pub must_move-requires : goal.must_move-requires

@@ -1,6 +1,5 @@
 -- `trunk::select::shares` meets its contract: where the neighbours' addresses end alike, by all that is compared; where not, they are not alike. Assumes nothing.
-use mathlib.Core.Path.{◌≡◌, refl, sym, ap, ◌∙◌}
-use mathlib.Core.Bool.{Bool, true, false}
+use mathlib.Core.Path.{◌≡◌, sym, ap, ◌∙◌}
 use Rattle.port.specs.declared.record.Port.{Port}
 use Rattle.port.specs.Compared.{Compared, compared}
 use Rattle.table.specs.Keys.{compared_by}
@@ -8,7 +7,6 @@ use Rattle.table.specs.Record.{decoded}
 use Rattle.table.specs.Table.{port_at}
 use Rattle.trunk.specs.Selection.{same_group}
 use Rattle.trunk.proofs.SelectLaws.{other_neighbour}
-use borrow.Author.Rules.{rules}
 use Rattle.trunk.proofs.select.shares.Goals as goal
 
 pub returns-then-neighbour_in-low : goal.returns-then-neighbour_in-low

@@ -5,7 +5,6 @@ use Rattle.table.specs.Table.{ports}
 use Rattle.trunk.specs.Settled.{selected_all, attached_all}
 use Rattle.trunk.proofs.StepLaws.{all-chosen}
 use Rattle.table.proofs.LeavesLaws.{then, said}
-use borrow.Author.Rules.{rules}
 use Rattle.trunk.proofs.settle.join_all.Goals as goal
 
 pub attach_all-requires : goal.attach_all-requires

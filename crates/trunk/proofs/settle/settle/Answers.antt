@@ -5,7 +5,6 @@ use Rattle.port.specs.declared.record.Port.{Port}
 use Rattle.trunk.specs.Settled.{muxed, settled}
 use Rattle.octets.proofs.ListLaws.{sweep_map}
 use Rattle.table.proofs.LeavesLaws.{then, said}
-use borrow.Author.Rules.{rules}
 use Rattle.trunk.proofs.settle.settle.Goals as goal
 
 pub returns : goal.returns

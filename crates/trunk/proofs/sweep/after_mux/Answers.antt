@@ -1,7 +1,6 @@
 -- `trunk::sweep::after_mux` meets its contract: the record is loaded, and the machine run on it. Assumes nothing.
 use mathlib.Core.Path.{ap, ◌∙◌}
 use Rattle.port.specs.Mux.{mux_run}
-use borrow.Author.Rules.{rules}
 use Rattle.trunk.proofs.sweep.after_mux.Goals as goal
 
 pub returns : goal.returns

@@ -2,7 +2,6 @@
 use Rattle.port.specs.Mux.{rests_mux, mux_choice}
 use Rattle.port.specs.Transmit.{is_settled, silent}
 use Rattle.table.specs.Record.{decoded}
-use borrow.Author.Rules.{rules}
 use Rattle.trunk.proofs.sweep.is_settled.Goals as goal
 
 pub returns : goal.returns

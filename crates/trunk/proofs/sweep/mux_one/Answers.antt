@@ -1,7 +1,6 @@
 -- `trunk::sweep::mux_one` meets its contract: what the machine made of the record has its NTT cleared and is stored, and stays in range; a settled one is left alone. Assumes nothing.
 use mathlib.Core.Path.{◌≡◌, refl, sym, ap, ◌∙◌}
 use mathlib.Core.Bool.{true}
-use borrow.Author.Tests.{not-false}
 use Rattle.port.specs.Transmit.{ntt_cleared, is_settled}
 use Rattle.port.proofs.GivesBack.{step_6_gives-back}
 use Rattle.table.specs.Table.{port_at}
@@ -9,7 +8,6 @@ use Rattle.table.proofs.LeavesLaws.{left_alone}
 use Rattle.trunk.specs.Settled.{muxed}
 use Rattle.trunk.proofs.RangeKept.{muxed-ranged}
 use Rattle.trunk.proofs.TableWork.{may_store, changed-at}
-use borrow.Author.Rules.{rules}
 use Rattle.trunk.proofs.sweep.mux_one.Goals as goal
 
 pub store-requires : goal.store-requires

@@ -1,8 +1,6 @@
 -- `trunk::sweep::pass_time` meets its contract: timers are written over those that were read, and then ages over those. Assumes nothing.
 use mathlib.Core.Path.{◌≡◌, ap, ◌∙◌}
 use lib.ListN.{set}
-use Rattle.machine.specs.declared.states.Ages.{Ages}
-use Rattle.machine.specs.declared.states.Timers.{Timers}
 use Rattle.machine.specs.Ages.{ages_ticked}
 use Rattle.machine.specs.Time.{timers_fallen}
 use Rattle.port.specs.declared.record.Port.{Port}
@@ -15,7 +13,6 @@ use Rattle.table.specs.Table.{count_in, ports, port_at}
 use Rattle.table.proofs.LeavesLaws.{said}
 use Rattle.table.proofs.TableLaws.{ranged-at}
 use Rattle.trunk.proofs.TableWork.{still, became_at, became_then}
-use borrow.Author.Rules.{rules}
 use Rattle.trunk.proofs.sweep.pass_time.Goals as goal
 
 pub store_timers-requires : goal.store_timers-requires

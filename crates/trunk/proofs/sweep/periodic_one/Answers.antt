@@ -1,14 +1,12 @@
 -- `trunk::sweep::periodic_one` meets its contract: the record is loaded, stepped and stored, and stays in range; where the machine rests it is left alone. Assumes nothing.
 use mathlib.Core.Path.{◌≡◌, sym, ap, ◌∙◌}
 use mathlib.Core.Bool.{true}
-use borrow.Author.Tests.{not-false}
 use Rattle.port.specs.Periodic.{periodic_run, rests_periodic}
 use Rattle.port.proofs.GivesBack.{periodic-gives-back}
 use Rattle.port.proofs.RangeLaws.{periodic-ranged}
 use Rattle.table.specs.Table.{port_at}
 use Rattle.table.proofs.LeavesLaws.{left_alone}
 use Rattle.trunk.proofs.TableWork.{may_store, changed-at}
-use borrow.Author.Rules.{rules}
 use Rattle.trunk.proofs.sweep.periodic_one.Goals as goal
 
 pub store-requires : goal.store-requires

@@ -1,7 +1,6 @@
 -- `trunk::sweep::rests_periodic` meets its contract: the definition, with what the callees ensure put in. Assumes nothing.
 use Rattle.port.specs.Periodic.{rests_periodic}
 use Rattle.table.specs.Record.{decoded}
-use borrow.Author.Rules.{rules}
 use Rattle.trunk.proofs.sweep.rests_periodic.Goals as goal
 
 pub returns : goal.returns

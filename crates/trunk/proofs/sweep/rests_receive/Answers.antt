@@ -1,7 +1,6 @@
 -- `trunk::sweep::rests_receive` meets its contract: the definition, with what the callees ensure put in. Assumes nothing.
 use Rattle.port.specs.Receive.{rests_receive, receive_choice}
 use Rattle.table.specs.Record.{decoded}
-use borrow.Author.Rules.{rules}
 use Rattle.trunk.proofs.sweep.rests_receive.Goals as goal
 
 pub returns : goal.returns

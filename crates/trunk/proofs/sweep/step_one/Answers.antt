@@ -1,5 +1,4 @@
 -- `trunk::sweep::step_one` meets its contract: by the step, what its function ensures. Assumes nothing.
-use borrow.Author.Rules.{rules}
 use Rattle.trunk.proofs.sweep.step_one.Goals as goal
 
 pub returns-in-Tick : goal.returns-in-Tick

@@ -1,13 +1,10 @@
 -- `trunk::sweep::sweep` meets its contract: the loop has done the first i records (`done_to`), and a turn does the next. Assumes nothing.
-use Prim.Native.Nat.{◌≤◌, ◌<◌, ◌-◌}
-use mathlib.Core.Path.{◌≡◌, sym, ap}
-use native.Mathlib.Omega.{arith}
+use Prim.Native.Nat.{◌≤◌, ◌-◌}
+use mathlib.Core.Path.{◌≡◌}
 use Rattle.table.specs.Table.{count_in, ports}
-use Rattle.table.proofs.TableLaws.{in_range}
 use Rattle.trunk.specs.Sweep.{stepped}
 use Rattle.table.specs.Leaves.{Leaves}
 use Rattle.octets.proofs.ListLaws.{done_to}
-use Rattle.trunk.proofs.TableWork.{loop_begins, loop_ends, in_count, next-is, turn}
 use Rattle.trunk.proofs.sweep.sweep.Given as goal
 
 abbrev pub invariant-loop-i : goal.invariant-loop-i

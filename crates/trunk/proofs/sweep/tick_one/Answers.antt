@@ -7,7 +7,6 @@ use Rattle.port.specs.Transmit.{ticked, advanced}
 use Rattle.table.specs.Table.{ports, port_at}
 use Rattle.table.proofs.LeavesLaws.{said}
 use Rattle.trunk.proofs.TableWork.{still, became_at, became_then}
-use borrow.Author.Rules.{rules}
 use Rattle.trunk.proofs.sweep.tick_one.Goals as goal
 
 pub receive_one-requires : goal.receive_one-requires

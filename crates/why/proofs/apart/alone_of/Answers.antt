@@ -1,5 +1,4 @@
 -- `why::apart::alone_of` meets its contract, field by field. Assumes nothing.
-use borrow.Author.Rules.{rules}
 use Rattle.why.proofs.apart.alone_of.Goals as goal
 
 pub returns : goal.returns

@@ -1,5 +1,4 @@
 -- `why::apart::apart_from` meets its contract, field by field. Assumes nothing.
-use borrow.Author.Rules.{rules}
 use Rattle.why.proofs.apart.apart_from.Goals as goal
 
 pub returns : goal.returns

@@ -13,7 +13,6 @@ use Rattle.table.specs.Table.{count_in, ports, port_at}
 use Rattle.table.proofs.StoreLaws.{ports-length, ports-at}
 use Rattle.trunk.specs.Selection.{nobody}
 use Rattle.why.specs.Apart.{apart_from, apart_of}
-use borrow.Author.Rules.{rules}
 use Rattle.why.proofs.apart.apart_of.Goals as goal
 
 -- what is compared of a port

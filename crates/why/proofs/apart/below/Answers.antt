@@ -1,6 +1,5 @@
 -- `why::apart::below` meets its contract: a number below 512 can be doubled and added to. Assumes nothing.
 use native.Mathlib.Omega.{arith}
-use borrow.Author.Rules.{rules}
 use Rattle.why.proofs.apart.below.Goals as goal
 
 pub returns-then-bit : goal.returns-then-bit

@@ -1,6 +1,5 @@
 -- `why::cause::cause_of` meets its contract: from the last cause to the first, each taken if it applies. Assumes nothing.
 use Rattle.why.specs.Cause.{first_of, cause_of}
-use borrow.Author.Rules.{rules}
 use Rattle.why.proofs.cause.cause_of.Goals as goal
 
 pub returns : goal.returns

@@ -1,5 +1,4 @@
 -- `why::cause::detail_of` meets its contract, cause by cause. Assumes nothing.
-use borrow.Author.Rules.{rules}
 use Rattle.why.proofs.cause.detail_of.Goals as goal
 
 pub returns-in-NoCause : goal.returns-in-NoCause

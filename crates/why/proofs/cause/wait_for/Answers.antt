@@ -9,7 +9,6 @@ use Rattle.machine.specs.Mux.{waits}
 use Rattle.table.specs.Table.{port_at}
 use Rattle.trunk.specs.Ready.{waits_for}
 use Rattle.why.specs.Cause.{wait_for}
-use borrow.Author.Rules.{rules}
 use Rattle.why.proofs.cause.wait_for.Goals as goal
 
 pub returns-then-held-k : goal.returns-then-held-k

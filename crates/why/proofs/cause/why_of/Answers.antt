@@ -7,7 +7,6 @@ use Rattle.trunk.specs.Ready.{held_back}
 use Rattle.why.specs.declared.cause.Hold.{Hold}
 use Rattle.why.specs.Cause.{cause_of, longest, detail, why_of}
 use Rattle.why.proofs.CauseLaws.{longest-holds}
-use borrow.Author.Rules.{rules}
 use Rattle.why.proofs.cause.why_of.Goals as goal
 
 pub returns : goal.returns

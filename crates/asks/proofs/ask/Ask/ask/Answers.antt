@@ -1,5 +1,4 @@
 -- `ask` meets its contract. Assumes nothing.
-use borrow.Author.Rules.{rules}
 use Rattle.asks.proofs.ask.Ask.ask.Goals as goal
 
 pub returns : goal.returns

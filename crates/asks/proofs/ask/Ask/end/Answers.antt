@@ -1,7 +1,6 @@
 -- `end` meets its contract, by its test. Assumes nothing.
 use mathlib.Core.Path.{sym, ◌∙◌}
 use Rattle.asks.specs.Ask.{ended}
-use borrow.Author.Rules.{rules}
 use Rattle.asks.proofs.ask.Ask.end.Goals as goal
 
 pub returns-then-is_awaiting : goal.returns-then-is_awaiting

@@ -5,7 +5,6 @@ use borrow.Author.Tests.{eq-eqb, ne_eqb}
 use Rattle.machine.specs.declared.states.Ticks.{Ticks}
 use Rattle.asks.specs.declared.ask.Outcome.TheVariants.{TimedOut}
 use Rattle.asks.specs.Ask.{asking, ended, ask_fallen}
-use borrow.Author.Rules.{rules}
 use Rattle.asks.proofs.ask.Ask.fall.Goals as goal
 
 pub returns-then-timer-eq0 : goal.returns-then-timer-eq0

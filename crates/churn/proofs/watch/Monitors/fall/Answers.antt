@@ -1,6 +1,5 @@
 -- `Monitors::fall` meets its contract: both timers fall. Assumes nothing.
 use Rattle.churn.specs.Churn.{monitors_fallen}
-use borrow.Author.Rules.{rules}
 use Rattle.churn.proofs.watch.Monitors.fall.Goals as goal
 
 pub returns : goal.returns

@@ -1,5 +1,4 @@
 -- `Watch::enter` meets its contract: the actions on entry of each state. Assumes nothing.
-use borrow.Author.Rules.{rules}
 use Rattle.churn.proofs.watch.Watch.enter.Goals as goal
 
 pub returns-in-NoChurn : goal.returns-in-NoChurn

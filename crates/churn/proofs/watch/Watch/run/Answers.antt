@@ -1,7 +1,6 @@
 -- `Watch::run` meets its contract: the transition that applies, and what it does. Assumes nothing.
 use mathlib.Core.Path.{sym, ◌∙◌}
 use Rattle.churn.specs.Churn.{watched}
-use borrow.Author.Rules.{rules}
 use Rattle.churn.proofs.watch.Watch.run.Goals as goal
 
 pub returns-in-Stay : goal.returns-in-Stay

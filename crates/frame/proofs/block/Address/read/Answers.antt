@@ -1,5 +1,4 @@
 -- `Address::read` meets its contract: three numbers, one after the other. Assumes nothing.
-use borrow.Author.Rules.{rules}
 use Rattle.frame.proofs.block.Address.read.Goals as goal
 
 pub returns : goal.returns

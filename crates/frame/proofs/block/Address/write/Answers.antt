@@ -1,5 +1,4 @@
 -- `Address::write` meets its contract: the six octets that it puts are those of the address. Assumes nothing.
-use borrow.Author.Rules.{rules}
 use Rattle.frame.proofs.block.Address.write.Goals as goal
 
 pub returns : goal.returns

@@ -1,5 +1,4 @@
 -- `Block::read` meets its contract: each field is read at its own place. Assumes nothing.
-use borrow.Author.Rules.{rules}
 use Rattle.frame.proofs.block.Block.read.Goals as goal
 
 pub returns : goal.returns

@@ -1,6 +1,5 @@
 -- `Block::write` meets its contract: six pieces, written one after the other from the front on, cover the 15 octets.
 -- Assumes nothing.
-use borrow.Author.Rules.{rules}
 use mathlib.Core.Path.{◌∙◌}
 use mathlib.Core.List.{[], ◌∷◌}
 use native.Mathlib.Omega.{arith}

@@ -1,5 +1,4 @@
 -- `machine::states::Line::same` meets its contract: the definition, with what the callees ensure put in. Assumes nothing.
-use borrow.Author.Rules.{rules}
 use Rattle.machine.proofs.states.Line.same.Goals as goal
 
 pub returns : goal.returns

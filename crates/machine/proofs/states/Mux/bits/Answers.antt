@@ -1,5 +1,4 @@
 -- `machine::states::Mux::bits` meets its contract: on each way out it gives what the definition gives, by the tests on the way. Assumes nothing.
-use borrow.Author.Rules.{rules}
 use Rattle.machine.proofs.states.Mux.bits.Goals as goal
 
 pub returns-in-Detached : goal.returns-in-Detached

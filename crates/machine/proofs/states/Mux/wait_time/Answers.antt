@@ -1,5 +1,4 @@
 -- `machine::states::Mux::wait_time` meets its contract: on each way out it gives what the definition gives for the state. Assumes nothing.
-use borrow.Author.Rules.{rules}
 use Rattle.machine.proofs.states.Mux.wait_time.Goals as goal
 
 pub returns-in-Detached : goal.returns-in-Detached

@@ -1,5 +1,4 @@
 -- `machine::states::Timers::tick` meets its contract: the definition, with what the callees ensure put in. Assumes nothing.
-use borrow.Author.Rules.{rules}
 use Rattle.machine.proofs.states.Timers.tick.Goals as goal
 
 pub returns : goal.returns

@@ -1,7 +1,6 @@
 -- `port::record::Port::attach` meets its contract: on each way out it gives what the definition gives, by the tests on the way. Assumes nothing.
 use mathlib.Core.Path.{sym, ◌∙◌}
 use Rattle.port.specs.Mux.{attached_if}
-use borrow.Author.Rules.{rules}
 use Rattle.port.proofs.record.Port.attach.Goals as goal
 
 pub returns-then-waits : goal.returns-then-waits

@@ -1,7 +1,6 @@
 -- `port::record::Port::clear_ntt` meets its contract: on each way out it gives what the definition gives, by the tests on the way. Assumes nothing.
 use mathlib.Core.Path.{sym, ◌∙◌}
 use Rattle.port.specs.Transmit.{ntt_cleared, silent}
-use borrow.Author.Rules.{rules}
 use Rattle.port.proofs.record.Port.clear_ntt.Goals as goal
 
 pub returns-then-is_silent : goal.returns-then-is_silent

@@ -1,6 +1,5 @@
 -- `port::record::Port::current` meets its contract: the definition, with what the callees ensure put in. Assumes nothing.
 use Rattle.port.specs.Receive.{current, pdu_recorded}
-use borrow.Author.Rules.{rules}
 use Rattle.port.proofs.record.Port.current.Goals as goal
 
 pub returns : goal.returns

@@ -1,6 +1,5 @@
 -- `port::record::Port::default_partner` meets its contract: the definition, with what the callees ensure put in. Assumes nothing.
 use Rattle.port.specs.Receive.{defaulted, update_default_selected}
-use borrow.Author.Rules.{rules}
 use Rattle.port.proofs.record.Port.default_partner.Goals as goal
 
 pub returns : goal.returns

@@ -1,7 +1,6 @@
 -- `port::record::Port::detach` meets its contract: state by state, the way that the definition goes (`detached_descends`). Assumes nothing.
 use Rattle.port.specs.Mux.{entered_all}
 use Rattle.port.proofs.MuxLaws.{detached_descends}
-use borrow.Author.Rules.{rules}
 use Rattle.port.proofs.record.Port.detach.Goals as goal
 
 pub returns-in-Detached : goal.returns-in-Detached

@@ -1,7 +1,6 @@
 -- `port::record::Port::due` meets its contract: on each way out it gives what the definition gives, by the tests on the way. Assumes nothing.
 use mathlib.Core.Path.{sym, ◌∙◌}
 use Rattle.port.specs.Transmit.{due}
-use borrow.Author.Rules.{rules}
 use Rattle.port.proofs.record.Port.due.Goals as goal
 
 pub returns-then-self : goal.returns-then-self

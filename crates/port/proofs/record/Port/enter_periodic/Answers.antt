@@ -1,5 +1,4 @@
 -- `port::record::Port::enter_periodic` meets its contract: the definition, with what the callees ensure put in. Assumes nothing.
-use borrow.Author.Rules.{rules}
 use Rattle.port.proofs.record.Port.enter_periodic.Goals as goal
 
 pub returns : goal.returns

@@ -1,5 +1,4 @@
 -- `port::record::Port::enter_receive` meets its contract: on each way out it gives what the definition gives, by the tests on the way. Assumes nothing.
-use borrow.Author.Rules.{rules}
 use Rattle.port.proofs.record.Port.enter_receive.Goals as goal
 
 pub returns-in-Initialize : goal.returns-in-Initialize

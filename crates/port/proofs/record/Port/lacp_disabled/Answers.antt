@@ -1,6 +1,5 @@
 -- `port::record::Port::lacp_disabled` meets its contract: the definition, with what the callees ensure put in. Assumes nothing.
 use Rattle.port.specs.Receive.{lacp_disabled}
-use borrow.Author.Rules.{rules}
 use Rattle.port.proofs.record.Port.lacp_disabled.Goals as goal
 
 pub returns : goal.returns

@@ -1,6 +1,5 @@
 -- `port::record::Port::moved_away` meets its contract: the definition, with what the callees ensure put in. Assumes nothing.
 use Rattle.port.specs.Receive.{moved}
-use borrow.Author.Rules.{rules}
 use Rattle.port.proofs.record.Port.moved_away.Goals as goal
 
 pub returns : goal.returns

@@ -1,6 +1,5 @@
 -- `port::record::Port::mux` meets its contract: the definition, with what the callees ensure put in. Assumes nothing.
 use Rattle.port.specs.Mux.{mux_run}
-use borrow.Author.Rules.{rules}
 use Rattle.port.proofs.record.Port.mux.Goals as goal
 
 pub returns : goal.returns

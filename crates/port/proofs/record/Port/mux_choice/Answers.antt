@@ -1,6 +1,5 @@
 -- `port::record::Port::mux_choice` meets its contract: the definition, with what the callees ensure put in. Assumes nothing.
 use Rattle.port.specs.Mux.{mux_choice}
-use borrow.Author.Rules.{rules}
 use Rattle.port.proofs.record.Port.mux_choice.Goals as goal
 
 pub returns : goal.returns

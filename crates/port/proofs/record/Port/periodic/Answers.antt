@@ -1,6 +1,5 @@
 -- `port::record::Port::periodic` meets its contract: the definition, with what the callees ensure put in. Assumes nothing.
 use Rattle.port.specs.Periodic.{periodic_run}
-use borrow.Author.Rules.{rules}
 use Rattle.port.proofs.record.Port.periodic.Goals as goal
 
 pub returns : goal.returns

@@ -1,7 +1,6 @@
 -- `port::record::Port::periodic_step` meets its contract: on each way out it gives what the definition gives, by the tests on the way. Assumes nothing.
 use mathlib.Core.Path.{sym, ◌∙◌}
 use Rattle.port.specs.Periodic.{periodic_step}
-use borrow.Author.Rules.{rules}
 use Rattle.port.proofs.record.Port.periodic_step.Goals as goal
 
 pub returns-in-Stay : goal.returns-in-Stay

@@ -1,6 +1,5 @@
 -- `port::record::Port::place` meets its contract: a detached port that is placed enters WAITING (`placed-is`). Assumes nothing.
 use Rattle.port.proofs.MuxLaws.{placed-is}
-use borrow.Author.Rules.{rules}
 use Rattle.port.proofs.record.Port.place.Goals as goal
 
 pub returns : goal.returns

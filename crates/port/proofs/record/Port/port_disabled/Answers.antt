@@ -1,6 +1,5 @@
 -- `port::record::Port::port_disabled` meets its contract: the definition, with what the callees ensure put in. Assumes nothing.
 use Rattle.port.specs.Receive.{port_disabled}
-use borrow.Author.Rules.{rules}
 use Rattle.port.proofs.record.Port.port_disabled.Goals as goal
 
 pub returns : goal.returns

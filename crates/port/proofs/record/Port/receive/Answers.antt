@@ -3,7 +3,6 @@ use mathlib.Core.Path.{◌≡◌, sym, ap, ◌∙◌}
 use Rattle.machine.specs.declared.receive.ReceiveStep.TheVariants.{Stay}
 use Rattle.port.specs.declared.record.Port.{Port}
 use Rattle.port.specs.Receive.{receive_choice, receive_step, receive_run}
-use borrow.Author.Rules.{rules}
 use Rattle.port.proofs.record.Port.receive.Goals as goal
 
 stays : (p : Port) → receive_choice p ≡ Stay → receive_step p ≡ p

@@ -8,7 +8,6 @@ use Rattle.frame.specs.declared.wire.Source.{Source}
 use Rattle.frame.specs.declared.wire.Source.TheVariants.{Default, Pdu}
 use Rattle.frame.specs.Block.{block_of}
 use Rattle.frame.specs.Wire.{applying}
-use borrow.Author.Rules.{rules}
 use Rattle.port.proofs.record.Port.record.Goals as goal
 
 -- what applies has 15 octets, if both have

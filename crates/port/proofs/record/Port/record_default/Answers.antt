@@ -1,7 +1,6 @@
 -- `record_default` meets its contract: the default block goes to its octets and back unchanged, whatever is lent beside it. Assumes nothing.
 use Rattle.frame.proofs.BlockLaws.{block_back}
 use Rattle.port.specs.Receive.{record_default}
-use borrow.Author.Rules.{rules}
 use Rattle.port.proofs.record.Port.record_default.Goals as goal
 
 pub returns : goal.returns

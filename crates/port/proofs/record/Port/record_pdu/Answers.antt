@@ -1,6 +1,5 @@
 -- `port::record::Port::record_pdu` meets its contract: the definition, with what the callees ensure put in. Assumes nothing.
 use Rattle.port.specs.Receive.{record_pdu}
-use borrow.Author.Rules.{rules}
 use Rattle.port.proofs.record.Port.record_pdu.Goals as goal
 
 pub returns : goal.returns

@@ -1,5 +1,4 @@
 -- `port::record::Port::repeats` meets its contract: the definition, with what the callees ensure put in. Assumes nothing.
-use borrow.Author.Rules.{rules}
 use Rattle.port.specs.Receive.{repeats}
 use Rattle.port.proofs.record.Port.repeats.Goals as goal
 

@@ -1,6 +1,5 @@
 -- `port::record::Port::sent` meets its contract: the definition, with what the callees ensure put in. Assumes nothing.
 use Rattle.port.specs.Transmit.{sent}
-use borrow.Author.Rules.{rules}
 use Rattle.port.proofs.record.Port.sent.Goals as goal
 
 pub returns : goal.returns

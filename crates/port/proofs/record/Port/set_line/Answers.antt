@@ -1,6 +1,5 @@
 -- `port::record::Port::set_line` meets its contract: the definition, with what the callees ensure put in. Assumes nothing.
 use Rattle.port.specs.Receive.{lined}
-use borrow.Author.Rules.{rules}
 use Rattle.port.proofs.record.Port.set_line.Goals as goal
 
 pub returns : goal.returns

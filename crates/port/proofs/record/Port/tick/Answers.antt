@@ -1,6 +1,5 @@
 -- `port::record::Port::tick` meets its contract: the definition, with what the callees ensure put in. Assumes nothing.
 use Rattle.port.specs.Transmit.{ticked}
-use borrow.Author.Rules.{rules}
 use Rattle.port.proofs.record.Port.tick.Goals as goal
 
 pub returns : goal.returns

@@ -1,7 +1,6 @@
 -- `port::record::Port::update_ntt` meets its contract: on each way out it gives what the definition gives, by the tests on the way. Assumes nothing.
 use mathlib.Core.Path.{sym, ◌∙◌}
 use Rattle.port.specs.Receive.{update_ntt}
-use borrow.Author.Rules.{rules}
 use Rattle.port.proofs.record.Port.update_ntt.Goals as goal
 
 pub returns-then-same_view : goal.returns-then-same_view

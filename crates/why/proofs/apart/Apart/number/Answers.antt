@@ -3,7 +3,6 @@ use Prim.Native.Nat.{◌<◌}
 use native.Mathlib.Omega.{arith}
 use Rattle.why.specs.Apart.{apart_number, bits_of}
 use Rattle.why.proofs.ApartLaws.{grows}
-use borrow.Author.Rules.{rules}
 use Rattle.why.proofs.apart.Apart.number.Goals as goal
 
 pub below-n-requires-2 : goal.below-n-requires-2
