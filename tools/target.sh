@@ -1,6 +1,6 @@
 #!/usr/bin/env bash
 # Programs for TARGET, which is x86_64-linux-gnu, aarch64-linux-gnu or riscv64-linux-gnu, and the machine at hand where it is not set. On a machine that is
-# another, Debian's cross compiler compiles them and an emulator runs them: Rattle's own for x86-64, otherwise Debian's; what is missing is installed here.
+# another, Debian's cross compiler compiles them and Debian's emulator runs them; what is missing is installed here.
 # Sourced in the repository's folder, this gives
 #   $archive                           the library: for x86-64 the proved archive itself, otherwise what tools/archive.sh makes of it, made here if need be
 #   compile SOURCE PROGRAM [WORDS..]   compiles a C program with the header and the library; WORDS are further words to the compiler
@@ -12,7 +12,7 @@ set -eu
 own=$(uname -m)-linux-gnu
 TARGET=${TARGET:-$own}
 case $TARGET in
-x86_64-linux-gnu) cross=x86-64-linux-gnu debian=amd64 emulator=/opt/rattle/on/$(uname -m)/toolchain/bin/qemu-x86_64 ;;
+x86_64-linux-gnu) cross=x86-64-linux-gnu debian=amd64 emulator=qemu-x86_64 ;;
 aarch64-linux-gnu) cross=$TARGET debian=arm64 emulator=qemu-aarch64 ;;
 riscv64-linux-gnu) cross=$TARGET debian=riscv64 emulator=qemu-riscv64 ;;
 *) echo "no programs for $TARGET: x86_64-linux-gnu, aarch64-linux-gnu or riscv64-linux-gnu" >&2 && exit 1 ;;
@@ -28,7 +28,7 @@ fi
 compiler=${tool}gcc
 proved=target/staticlib/libmyrkosti.a
 archive=$proved
-[ -f "$proved" ] || rt staticlib myrkosti
+[ -f "$proved" ] || tools/library.sh
 if [ "$TARGET" != x86_64-linux-gnu ]; then
     archive=target/$TARGET/libmyrkosti.a
     [ "$archive" -nt "$proved" ] || tools/archive.sh "$TARGET"

@@ -54,7 +54,7 @@ def same(proved, remade):
     if theirs.undefined() != ours.undefined():
         differing.append("what is asked for")
     if differing:
-        raise SystemExit(f"{proved} is of other code than this module (make it anew: rt staticlib myrkosti): {', '.join(differing)}")
+        raise SystemExit(f"{proved} is of other code than this module (make it anew: tools/library.sh): {', '.join(differing)}")
     functions = sum(name.startswith(".text.") for name in shown[0])
     octets = sum(section.size for section in theirs.in_memory().values())
     print(f"compiled for x86-64: all {functions} functions, {len(names(theirs))} of them for C, and all constants are the proved archive's, {octets:,} octets")

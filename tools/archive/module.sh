@@ -1,53 +1,34 @@
 #!/usr/bin/env bash
-# The library's module, to be compiled for any machine. The kit builds for x86-64 alone, so the module is caught on its way: `rt try` compiles a program
-# without its proofs and calls the kit's clang, and a stand-in for that clang keeps the module. The program is crates/myrkosti with an empty main.
-# Sourced in the repository's folder, this gives (each folder by its full path)
-#   catch_module CRATES WORK [ENTRIES]            WORK/library.ll: the module of the library of the folder CRATES, with the C functions of ENTRIES
-#                                                 behind it, which are those of tools/archive/entries.ll if none are named. Empties WORK
-#   compile_module TARGET WORK OBJECT [WORDS..]   compiles it for TARGET; WORDS are further words to the compiler
+# The library's module, to be compiled for any machine. The kit builds a static library for x86-64 alone, so its module is kept on its way to the kit's
+# compiler (tools/archive/kept.py). Sourced in the repository's folder, this gives
+#   as_text MODULE TEXT                           a module as text, without the words that name a machine
+#   unproved_module REPOSITORY WORK               WORK/library.ll: the module of the library of another folder, which need not prove. `rt try` compiles a
+#                                                 program without its proofs, and puts checks into it, as of each index. So the library in the folder
+#                                                 becomes a program there, which calls each function once, and the functions of its module are exported
+#   compile_module TARGET WORK OBJECT [WORDS..]   compiles WORK/library.ll for TARGET, with the words with which the kit has compiled the proved archive,
+#                                                 which is made here if need be (tools/library.sh); WORDS are further words to the compiler
 #   pack OBJECT ARCHIVE                           an archive of it
 set -eu
-rattle_home=${RATTLE_HOME:-$(dirname "$(dirname "$(readlink -f "$(command -v rt)")")")}
-rattle_tools=$rattle_home/on/$(uname -m)/toolchain/bin
+rattle_tools=$(dirname "$(dirname "$(readlink -f "$(command -v rt)")")")/toolchain/bin
 
-# Links in DIR to everything in FROM but NAME.
-links_but() { # NAME FROM DIR
-    mkdir -p "$3"
-    local file
-    for file in "$2"/*; do
-        [ "$(basename "$file")" = "$1" ] || ln -s "$file" "$3/"
-    done
+as_text() {
+    "$rattle_tools/clang" -S -emit-llvm -x ir "$1" -O0 -Xclang -disable-llvm-passes -Wno-override-module -o "$2"
+    sed -i -e '/^target /d' -e 's/ "target-cpu"="x86-64"//' "$2"
 }
 
-# The kit in DIR, with a clang that keeps the module in MODULE.
-kit_that_keeps() { # DIR MODULE
-    local on
-    on=on/$(uname -m)
-    links_but on "$rattle_home" "$1"
-    links_but toolchain "$rattle_home/$on" "$1/$on"
-    links_but bin "$rattle_home/$on/toolchain" "$1/$on/toolchain"
-    links_but clang "$rattle_tools" "$1/$on/toolchain/bin"
-    cat > "$1/$on/toolchain/bin/clang" << END
-#!/bin/sh
-case " \$* " in *" -O3 "*) cp module.bc "$2" ;; esac
-exec "$rattle_tools/clang" "\$@"
-END
-    chmod +x "$1/$on/toolchain/bin/clang"
-}
-
-catch_module() {
-    local crates=$1 work=$2 entries=${3:-tools/archive/entries.ll}
-    rm -rf "$work"
-    kit_that_keeps "$work/kit" "$work/module.bc"
-    links_but myrkosti "$crates" "$work/repository/crates"
-    mkdir -p "$work/repository/crates/myrkosti/src"
-    { cat "$crates/myrkosti/src/lib.rt"; printf '\nfn main()\n{\n}\n'; } > "$work/repository/crates/myrkosti/src/main.rt"
-    cp crates.txt "$work/repository/"
-    (cd "$work/repository" && RATTLE_HOME=$work/kit rt try myrkosti > "$work/try.log" 2>&1) || { cat "$work/try.log" >&2; return 1; }
-    # As text, without a main and the words that name a machine, and with the C functions behind it.
-    "$rattle_tools/clang" -S -emit-llvm -x ir "$work/module.bc" -O0 -Xclang -disable-llvm-passes -Wno-override-module -o "$work/module.ll"
-    sed -e 's/^define i32 @main(/define internal i32 @main(/' -e '/^target /d' -e 's/ "target-cpu"="x86-64"//' "$work/module.ll" > "$work/library.ll"
-    cat "$entries" >> "$work/library.ll"
+unproved_module() {
+    local library=$1/crates/myrkosti/src/lib.rt
+    sed -i 's/^myrkosti staticlib:/myrkosti:/' "$1/crates.txt"
+    python3 -B tools/archive/calls.py "$library" > "$1/crates/myrkosti/src/main.rt"
+    rm "$library"
+    rm -rf "$2"
+    mkdir -p "$2"
+    local kept=$PWD/tools/archive/kept.py into
+    into=$(cd "$2" && pwd)
+    (cd "$1/crates/myrkosti" && python3 -B "$kept" "$into" try < /dev/null > "$into/try.log" 2>&1) || { cat "$into/try.log" >&2; return 1; }
+    as_text "$2/module.bc" "$2/library.ll"
+    sed -i -e 's/^define i32 @main(/define internal i32 @main(/' -e 's/@"myrkosti::\(myrkosti_[a-z_]*\)"/@\1/g' \
+        -e '/^define internal noundef i32 @myrkosti_/{s/ internal noundef / noundef signext /;s/ zeroext//g}' "$2/library.ll"
 }
 
 # The clang's words for TARGET, in $machine. A freestanding program may run before anything is set up: then floating-point registers trap, and so
@@ -62,13 +43,28 @@ words_for() { # TARGET
     esac
 }
 
-# The other words are the kit's own for a static library. How memory is laid out is the machine's own, as this clang has it for a C program.
+# The words with which the kit's compiler has made the proved archive, in $words, but for those that name a machine or a file.
+words_of_kit() {
+    local given n
+    [ -f target/staticlib/libmyrkosti.a ] || tools/library.sh
+    mapfile -t given < target/staticlib/words
+    words=()
+    for ((n = 0; n < ${#given[@]}; n++)); do
+        case ${given[n]} in
+        --target=* | --sysroot=* | -march=* | -c | module.bc) ;;
+        -x | -o) n=$((n + 1)) ;;
+        *) words+=("${given[n]}") ;;
+        esac
+    done
+}
+
+# How memory is laid out is the machine's own, as this clang has it for a C program.
 compile_module() {
-    local machine
+    local machine words
     words_for "$1"
+    words_of_kit
     { "$rattle_tools/clang" "${machine[@]}" -S -emit-llvm -x c /dev/null -o - | grep '^target '; cat "$2/library.ll"; } > "$2/$1.ll"
-    "$rattle_tools/clang" "${machine[@]}" -O3 -fPIC -ffunction-sections -fdata-sections -Xclang -fmerge-functions -mllvm -mergefunc-use-aliases \
-        -mllvm -trap-unreachable -mllvm -no-trap-after-noreturn --no-default-config -Wno-override-module -c -x ir "$2/$1.ll" -o "$3" "${@:4}"
+    "$rattle_tools/clang" "${machine[@]}" "${words[@]}" -c -x ir "$2/$1.ll" -o "$3" "${@:4}"
 }
 
 pack() {

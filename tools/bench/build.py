@@ -11,7 +11,7 @@ WORK = ROOT / "target/bench"
 ARCHIVE = ROOT / "target/staticlib/libmyrkosti.a"
 X86_64 = platform.machine() == "x86_64"
 CROSS = "" if X86_64 else "x86_64-linux-gnu-"
-EMULATOR = [] if X86_64 else [f"/opt/rattle/on/{platform.machine()}/toolchain/bin/qemu-x86_64"]
+EMULATOR = [] if X86_64 else ["qemu-x86_64"]
 OWN = f"{platform.machine()}-linux-gnu"
 C = ["-O2", "-std=c11", "-Wall", "-Wextra", "-Wpedantic", "-Werror", "-I", "include", "-I", "tests/bench"]
 
