@@ -99,8 +99,8 @@ def lines_between(trace, begin, end):
 
 def stack_arguments(registers):
     """Octets of the arguments of each call that a caller puts on the stack: those for which there is no register, rounded up to 16."""
-    entries = re.findall(r"^define noundef signext i32 @myrkosti_(\w+)\((.*?)\)", (ROOT / "target/staticlib/library.ll").read_text(), re.M)
-    beyond = {call: max(0, len(arguments.split(",")) - registers) for call, arguments in entries}
+    declared = re.findall(r"^uint32_t myrkosti_(\w+)\((.*?)\);", (ROOT / "include/myrkosti.h").read_text(), re.M | re.S)
+    beyond = {call: max(0, len(arguments.split(",")) - registers) for call, arguments in declared}
     return {call: 16 * ((8 * count + 15) // 16) for call, count in beyond.items()}
 
 
