@@ -3,83 +3,70 @@
 use crate::{print, print_state};
 use frame::block::{Address, Block, PortId, SystemId};
 use frame::state::PortState;
-use libc::STDOUT_FILENO;
 use machine::states::{Line, Mux, Periodic, Receive, Selection};
 use port::record::Port;
 use settings::Settings;
+use std::io::{self, Write};
 
-fn print_receive(s: Receive) {
+fn print_receive(w: &mut impl Write, s: Receive) -> io::Result<()> {
     match s {
-        Receive::Initialize => print(b"INITIALIZE    "),
-        Receive::PortDisabled => print(b"PORT_DISABLED "),
-        Receive::Expired => print(b"EXPIRED       "),
-        Receive::LacpDisabled => print(b"LACP_DISABLED "),
-        Receive::Defaulted => print(b"DEFAULTED     "),
-        Receive::Current => print(b"CURRENT       "),
+        Receive::Initialize => print(w, b"INITIALIZE    "),
+        Receive::PortDisabled => print(w, b"PORT_DISABLED "),
+        Receive::Expired => print(w, b"EXPIRED       "),
+        Receive::LacpDisabled => print(w, b"LACP_DISABLED "),
+        Receive::Defaulted => print(w, b"DEFAULTED     "),
+        Receive::Current => print(w, b"CURRENT       "),
     }
 }
 
-fn print_periodic(s: Periodic) {
+fn print_periodic(w: &mut impl Write, s: Periodic) -> io::Result<()> {
     match s {
-        Periodic::NoPeriodic => print(b"NO_PERIODIC   "),
-        Periodic::FastPeriodic => print(b"FAST_PERIODIC "),
-        Periodic::SlowPeriodic => print(b"SLOW_PERIODIC "),
-        Periodic::PeriodicTx => print(b"PERIODIC_TX   "),
+        Periodic::NoPeriodic => print(w, b"NO_PERIODIC   "),
+        Periodic::FastPeriodic => print(w, b"FAST_PERIODIC "),
+        Periodic::SlowPeriodic => print(w, b"SLOW_PERIODIC "),
+        Periodic::PeriodicTx => print(w, b"PERIODIC_TX   "),
     }
 }
 
-fn print_mux(s: Mux) {
+fn print_mux(w: &mut impl Write, s: Mux) -> io::Result<()> {
     match s {
-        Mux::Detached => print(b"DETACHED      "),
-        Mux::Waiting => print(b"WAITING       "),
-        Mux::Attached => print(b"ATTACHED      "),
-        Mux::Collecting => print(b"COLLECTING    "),
-        Mux::Distributing => print(b"DISTRIBUTING  "),
+        Mux::Detached => print(w, b"DETACHED      "),
+        Mux::Waiting => print(w, b"WAITING       "),
+        Mux::Attached => print(w, b"ATTACHED      "),
+        Mux::Collecting => print(w, b"COLLECTING    "),
+        Mux::Distributing => print(w, b"DISTRIBUTING  "),
     }
 }
 
 // A number of ticks, three places wide, and two spaces.
-fn print_ticks(n: u16) {
-    if n < 100 {
-        print(b" ");
-    }
-    if n < 10 {
-        print(b" ");
-    }
-    io::print_decimal(STDOUT_FILENO, n as u64);
-    print(b"  ");
+fn print_ticks(w: &mut impl Write, n: u16) -> io::Result<()> {
+    write!(w, "{n:3}  ")
 }
 
 // The three machines with their timers, NTT, the actor's and the partner's state.
-pub(crate) fn print_machines(p: Port) {
+pub(crate) fn print_machines(w: &mut impl Write, p: Port) -> io::Result<()> {
     let h = p.phase;
-    let receive = h.receive;
-    print_receive(receive);
-    print_ticks(p.timers.current.0);
-    let periodic = h.periodic;
-    print_periodic(periodic);
-    print_ticks(p.timers.periodic.0);
-    let mux = h.mux;
-    print_mux(mux);
-    print_ticks(p.timers.wait.0);
+    print_receive(w, h.receive)?;
+    print_ticks(w, p.timers.current.0)?;
+    print_periodic(w, h.periodic)?;
+    print_ticks(w, p.timers.periodic.0)?;
+    print_mux(w, h.mux)?;
+    print_ticks(w, p.timers.wait.0)?;
     if p.ntt {
-        print(b"NTT  ")
+        print(w, b"NTT  ")?;
     } else {
-        print(b"-    ")
+        print(w, b"-    ")?;
     }
-    let actor = p.actor;
-    print_state(actor);
-    print(b"  ");
-    let partner = p.partner;
-    let state = partner.state;
-    print_state(state);
-    print(b"\n");
+    print_state(w, p.actor)?;
+    print(w, b"  ")?;
+    print_state(w, p.partner.state)?;
+    print(w, b"\n")
 }
 
 // One line: what happened, and the port after it.
-fn tell(event: &[u8], p: Port) {
-    print(event);
-    print_machines(p);
+fn tell(w: &mut impl Write, event: &[u8], p: Port) -> io::Result<()> {
+    print(w, event)?;
+    print_machines(w, p)
 }
 
 // Periodic machine and steps 3 to 6 for a port that shares its aggregator with no other.
@@ -99,10 +86,8 @@ fn last_steps(p: Port) -> Port {
 
 fn ticks(p: Port, n: u32) -> Port {
     let mut q = p;
-    let mut left = n;
-    while left > 0 {
+    for _ in 0..n {
         q = settle(q.tick().receive());
-        left -= 1;
     }
     q
 }
@@ -186,32 +171,35 @@ fn hear(p: Port) -> Port {
     settle(p.receive_lacpdu(system(9), 1, a, &actor, &partner))
 }
 
-pub fn print_story() {
-    print(b"one port, active, long timeout, aggregatable, default partner block all zeros\n");
+pub fn print_story(w: &mut impl Write) -> io::Result<()> {
+    print(
+        w,
+        b"one port, active, long timeout, aggregatable, default partner block all zeros\n",
+    )?;
     let a = settle(settings().start());
-    tell(b"start                   ", a);
+    tell(w, b"start                   ", a)?;
     let b = line(a, true, true);
-    tell(b"link up                 ", b);
+    tell(w, b"link up                 ", b)?;
     let c = b.sent();
-    tell(b"an LACPDU is fetched    ", c);
+    tell(w, b"an LACPDU is fetched    ", c)?;
     let d = ticks(c, 10);
-    tell(b"10 ticks                ", d);
+    tell(w, b"10 ticks                ", d)?;
     let e = ticks(d.sent(), 10);
-    tell(b"fetched, 10 ticks       ", e);
+    tell(w, b"fetched, 10 ticks       ", e)?;
     let f = ticks(e.sent(), 10);
-    tell(b"fetched, 10 ticks       ", f);
+    tell(w, b"fetched, 10 ticks       ", f)?;
     let g = hear(f.sent());
-    tell(b"fetched, partner heard  ", g);
+    tell(w, b"fetched, partner heard  ", g)?;
     let h = ticks(g, 20);
-    tell(b"20 ticks                ", h);
+    tell(w, b"20 ticks                ", h)?;
     let i = ticks(h.sent(), 879);
-    tell(b"fetched, 879 ticks      ", i);
+    tell(w, b"fetched, 879 ticks      ", i)?;
     let j = ticks(i, 1);
-    tell(b"1 tick                  ", j);
+    tell(w, b"1 tick                  ", j)?;
     let k = ticks(j, 30);
-    tell(b"30 ticks                ", k);
+    tell(w, b"30 ticks                ", k)?;
     let l = line(k, true, false);
-    tell(b"half duplex             ", l);
+    tell(w, b"half duplex             ", l)?;
     let m = line(l, true, true);
-    tell(b"full duplex             ", m);
+    tell(w, b"full duplex             ", m)
 }
