@@ -2,7 +2,7 @@
 -- middle, the test for equal octets, and the round trip of a two-octet number. Lists of octets are in `OctetLists.antt`. Assumes nothing.
 use Prim.Native.Nat.{ℕ, zero, suc, ◌+◌, ◌-◌, ◌≤◌, ◌<◌}
 use mathlib.Core.Path.{◌≡◌, refl, sym, ap, ◌∙◌}
-use mathlib.Core.Bool.{true, and-eq-true_iff, false≢true}
+use mathlib.Core.Bool.{Bool, true, false, and-eq-true_iff, false≢true}
 use mathlib.Core.List.{List, [], ◌∷◌, ◌++◌, append_assoc, append-nil}
 use native.Mathlib.Omega.{arith}
 use native.Mathlib.Nat.{zero-add}
@@ -10,12 +10,20 @@ use native.Mathlib.Numerals.{add-one}
 use lib.ListN.{length, take, drop, get_or, length-drop, length-append, take-append-drop, drop_of_length-le}
 use lib.Seq.{take_all, take-length, length-take-le, take-append-le, drop-append-le, take-append-add, drop-append-add, drop-drop, take_at, drop_at, drop-cons}
 use lib.Dec.{eqb}
-use lib.Pointwise.{pointwise}
 use borrow.Author.Tests.{eqb-true, eq-eqb}
-use borrow.Rule.Slice.PartMut.{put_mid, Post-is}
+use borrow.Rule.Slice.PartMut.{put_mid, mid_of, Post-is}
 use Rattle.octets.specs.Octets.{put_at, fitted, same_octets, high, low, joined}
 
 -- ---- writing over lent parts
+
+-- a part from `at` to the end comes back with s at its front: that is s written at `at`
+pub put_front : (at : ℕ) (s d : List ℕ) → at ≤ length d
+    → put_mid at (length d - at) d (take (length s) s ++ drop (length s) (mid_of at (length d - at) d)) ≡ put_at at s d
+unfolding put_at
+put_front at s d h =
+    let all : take (length d - at) (drop at d) ≡ drop at d = take_all (length d - at) (drop at d) (simp length-drop (omega arith)) in
+    let none : drop (length d - at) (drop at d) ≡ [] = drop_of_length-le (drop at d) {i = length d - at} (simp length-drop (omega arith)) in
+    simp (all, none, take-length, drop-drop, append-nil)
 
 -- a part from n to e comes back as s: that is s written at n
 pub put-part : (n e : ℕ) (s d : List ℕ) → n + length s ≡ e → put_mid n (e - n) d s ≡ put_at n s d
@@ -29,11 +37,12 @@ pub fitted-whole : (s d : List ℕ) → length s ≤ length d → take (length s
 unfolding fitted
 fitted-whole s d h = rw (take_all (length d) s h, take-length)
 
-pub fitted-front : (s d : List ℕ) → length d ≤ length s → take (length d) s ≡ fitted s d
+pub fitted-front : (s d : List ℕ) → length d ≤ length s
+    → take (length (take (length d) s)) (take (length d) s) ++ drop (length (take (length d) s)) d ≡ fitted s d
 unfolding fitted
 fitted-front s d h =
-    let none = drop_of_length-le d {i = length s} h in
-    rw (none, append-nil)
+    let none = drop_of_length-le d {i = length (take (length d) s)} (rw (length-take-le (length d) s h) (omega arith)) in
+    rw (take-length, none, drop_of_length-le d {i = length s} h)
 
 -- d with p over its front
 abbrev pub over : List ℕ → List ℕ → List ℕ
@@ -172,13 +181,14 @@ same_true (x ∷ xs) (y ∷ ys) e =
     let tl : xs ≡ ys = same_true xs ys both.1 in
     cc
 
--- the test of lists by the library's `==` is the same
-pub pointwise-octets : (a b : List ℕ) → pointwise eqb a b ≡ same_octets a b
-unfolding same_octets
-pointwise-octets [] [] = refl
-pointwise-octets [] (y ∷ b) = refl
-pointwise-octets (x ∷ a) [] = refl
-pointwise-octets (x ∷ a) (y ∷ b) = rw (pointwise-octets a b)
+-- an answer that is true exactly for equal lists is the test
+pub same-tested : (a b : List ℕ) (r : Bool) → (r ≡ true → a ≡ b) → (a ≡ b → r ≡ true) → r ≡ same_octets a b
+same-tested a b true to from = rw (to refl, same_refl b)
+same-tested a b false to from = tested (same_octets a b) (λ e. from (same_true a b e))
+  where
+    tested : (t : Bool) → (t ≡ true → false ≡ true) → false ≡ t
+    tested true no_way = no_way refl
+    tested false no_way = refl
 
 -- ---- two-octet numbers
 

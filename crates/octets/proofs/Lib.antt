@@ -1,4 +1,5 @@
 pub mod Laws
+pub mod CopyLaws
 pub mod ListLaws
 pub mod OctetLists
 pub mod RangeLaws
