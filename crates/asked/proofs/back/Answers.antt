@@ -29,10 +29,10 @@ bounds-new-0 c =
     omega (arith, long)
 
 pub place_of-b-requires : goal.place_of-b-requires
-place_of-b-requires c = omega (arith, c.shared_slice_known-2-1.given 0)
+place_of-b-requires c = omega (arith, c.type_inv.new 0)
 
 pub whole_size-f-requires : goal.whole_size-f-requires
-whole_size-f-requires c = omega (arith, c.shared_slice_known-2-1.given 0)
+whole_size-f-requires c = omega (arith, c.type_inv.new 0)
 
 pub returns-then-old-b : goal.returns-then-old-b
 returns-then-old-b c =

@@ -28,13 +28,13 @@ bounds-old-0 c =
     omega (arith, long)
 
 pub place_of-b-requires : goal.place_of-b-requires
-place_of-b-requires c = omega (arith, c.shared_slice_known-2-1.given 0)
+place_of-b-requires c = omega (arith, c.type_inv.old 0)
 
 pub whole_size-f-requires : goal.whole_size-f-requires
-whole_size-f-requires c = omega (arith, c.shared_slice_known-2-1.given 0)
+whole_size-f-requires c = omega (arith, c.type_inv.old 0)
 
 pub overflow_add-f : goal.overflow_add-f
-overflow_add-f c = let is = c.whole_size-f.ensures in omega (arith, is, c.shared_slice_known-2-1.given 0)
+overflow_add-f c = let is = c.whole_size-f.ensures in omega (arith, is, c.type_inv.old 0)
 
 pub returns-then-new-f : goal.returns-then-new-f
 returns-then-new-f c =

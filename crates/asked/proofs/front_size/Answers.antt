@@ -8,7 +8,7 @@ pub bounds-table-0 : goal.bounds-table-0
 bounds-table-0 c = let size = asked-size new_layer _ c.requires in omega (arith, size)
 
 pub whole_size-requires : goal.whole_size-requires
-whole_size-requires c = omega (arith, c.shared_slice_known-2-1.given 0)
+whole_size-requires c = omega (arith, c.type_inv.table 0)
 
 pub returns : goal.returns
 returns c =

@@ -14,7 +14,7 @@ returns-then-table-eq0 c =
     rw (ne_eqb (length t) (asked_size new_layer (count_in t)) (λ e. omega (arith, c.if-table-eq0.true, e)))
 
 pub whole_size-requires : goal.whole_size-requires
-whole_size-requires c = omega (arith, c.shared_slice_known-2-1.given 0)
+whole_size-requires c = omega (arith, c.type_inv.table 0)
 
 pub returns : goal.returns
 unfolding has_asks

@@ -11,7 +11,7 @@ use Rattle.asked.proofs.AskedLaws.{tail_is}
 use Rattle.asked.proofs.is_asked.Goals as goal
 
 pub overflow_mul-g : goal.overflow_mul-g
-overflow_mul-g c = omega (arith, c.shared_slice_known-2-1.given 0)
+overflow_mul-g c = omega (arith, c.type_inv.table 0)
 
 pub returns-then-table-g : goal.returns-then-table-g
 returns-then-table-g c =

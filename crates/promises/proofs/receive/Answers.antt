@@ -11,4 +11,4 @@ returns c =
     let a = start.args in
     subst NewAsked (sym c.receive.ensures.1)
     (made-call a.table.now start.requires (call_receive a.n a.frame.now a.out.now)
-    (λ j. (c.shared_slice_known-1.given j).fits, λ j. (c.slice_known-2-1.given j).fits))
+    (λ j. (c.type_inv.frame j).fits, λ j. (c.slice_known-2-1.given j).fits))

@@ -17,10 +17,10 @@ unfolding table_in_range
 returns-then-not-within c = rw (le-leb header_size _ c.if-table-lt-HEADER.false, sym c.within.ensures ∙ c.if-not-within.true)
 
 pub overflow_cast-count : goal.overflow_cast-count
-overflow_cast-count c = omega (arith, c.shared_slice_known-2-1.given 0)
+overflow_cast-count c = omega (arith, c.type_inv.table 0)
 
 pub place_of-requires : goal.place_of-requires
-place_of-requires c = omega (arith, c.shared_slice_known-2-1.given 0)
+place_of-requires c = omega (arith, c.type_inv.table 0)
 
 pub returns-then-table-place_of : goal.returns-then-table-place_of
 unfolding table_in_range

@@ -17,5 +17,5 @@ returns c =
     let at = c.requires in (
       ap decoded told.0 ∙ sym (port-decoded _ _ at.1),
       told.1,
-      told.0 ∙ record_is _ _ at (λ j. (c.shared_slice_known-1.given j).fits),
+      told.0 ∙ record_is _ _ at (λ j. (c.type_inv.table j).fits),
     )

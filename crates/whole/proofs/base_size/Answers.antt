@@ -7,7 +7,7 @@ pub bounds-table-0 : goal.bounds-table-0
 bounds-table-0 c = let size = whole-size _ c.requires in omega (arith, size)
 
 pub place_of-requires : goal.place_of-requires
-place_of-requires c = omega (arith, c.shared_slice_known-2-1.given 0)
+place_of-requires c = omega (arith, c.type_inv.table 0)
 
 pub returns : goal.returns
 returns c =

@@ -14,7 +14,7 @@ bounds-old-0 c =
     omega (arith, h)
 
 pub whole_size-requires : goal.whole_size-requires
-whole_size-requires c = omega (arith, c.shared_slice_known-3-1.given 0)
+whole_size-requires c = omega (arith, c.type_inv.old 0)
 
 pub returns : goal.returns
 returns c = rw (sym c.is_table.ensures ∙ c.if-not-is_table.false, c.whole_size.ensures)

@@ -10,4 +10,4 @@ unfolding after_tick
 returns c =
     let ticked = said (sweep_map advanced 0 _) c.sweep.ensures in
     let finished = c.finish.ensures in
-    made_of (said (λ i. worked (ticked.header i) (ticked.records i)) (then ticked finished)) (λ j. (c.slice_known-3-1.given j).fits)
+    made_of (said (λ i. worked (ticked.header i) (ticked.records i)) (then ticked finished)) (λ j. (c.type_inv.table j).fits)

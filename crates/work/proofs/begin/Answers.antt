@@ -31,5 +31,5 @@ returns c =
     let first = c.join_all.ensures in
     let second = said (sweep_map muxed 0 _) c.sweep.ensures in
     let both = said (ap (λ (l : List Port). map muxed l) first.records) (then first second) in
-    made_of both (λ j. (c.slice_known-4-1.given j).fits)
+    made_of both (λ j. (c.type_inv.table j).fits)
     ∙ (λ j. table_octets (laid.0 j) (settled (laid.0 j) ((laid.2 ∙ ap (replicate a.header.count) c.start.ensures) j)))

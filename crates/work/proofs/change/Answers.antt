@@ -14,4 +14,4 @@ unfolding after_one
 returns c =
     let put = c.store.ensures in
     let finished = c.finish.ensures in
-    made_of (said (λ i. worked (put.header i) (put.records i)) (then put finished)) (λ j. (c.slice_known-3-1.given j).fits)
+    made_of (said (λ i. worked (put.header i) (put.records i)) (then put finished)) (λ j. (c.type_inv.table j).fits)

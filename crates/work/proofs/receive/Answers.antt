@@ -25,4 +25,4 @@ returns c =
     made_of
     (said (λ j. worked ((second.header ∙ first.header) j) ((second.records ∙ (λ k. displaced i (a k) (first.records k))) j))
     (then (then first second) third))
-    (λ j. (c.slice_known-4-1.given j).fits)
+    (λ j. (c.type_inv.table j).fits)

@@ -66,7 +66,7 @@ store-requires c =
     may_store (received (header_of t).system (a.i + 1) (block_of (actor_part l)) (block_of (partner_part l))) t a.i e.0
     (λ j. (c.slice_known-1.given j).fits)
     (λ p. received-ranged (count_in t) (header_of t).system (a.i + 1) (block_of (actor_part l)) (block_of (partner_part l)) p
-    (part-fits 18 33 l (λ j. (c.shared_slice_known-1.given j).fits)))
+    (part-fits 18 33 l (λ j. (c.type_inv.frame j).fits)))
     e.1
     (rw (c.receive_lacpdu-q.ensures, c.partner-2.ensures.0, c.actor.ensures.0, c.number_of-number.ensures, c.read_header-ours.ensures))
 

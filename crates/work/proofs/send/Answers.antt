@@ -19,4 +19,4 @@ returns c =
     let a = c.args in
     let e = c.requires in
     let put = changed-at sent a.table.now a.i e.1 c.sent.ensures c.store.ensures in
-    (made_of put (λ j. (c.slice_known-4-1.given j).fits), c.write_due.ensures)
+    (made_of put (λ j. (c.type_inv.table j).fits), c.write_due.ensures)

@@ -7,7 +7,7 @@ use Rattle.asks.proofs.group.is_group.Goals as goal
 
 pub returns-then-first_octets-eq0 : goal.returns-then-first_octets-eq0
 returns-then-first_octets-eq0 c =
-    sym (unwaited-ranged c.args.s.now (λ j. (c.shared_slice_known-1.given j).fits) (let is = c.first_octets.ensures in let none = c.if-first_octets-eq0.true in omega (arith, is, none)))
+    sym (unwaited-ranged c.args.s.now (λ j. (c.type_inv.s j).fits) (let is = c.first_octets.ensures in let none = c.if-first_octets-eq0.true in omega (arith, is, none)))
 
 pub returns : goal.returns
 unfolding group_in_range

@@ -12,4 +12,4 @@ returns c e =
     let r = c.first_octets-w.result in
     let is = c.first_octets-w.ensures in
     let h = both (leb r 4) (not (eqb r 1)) e in
-    unwaited-falls s (λ j. (c.shared_slice_known-1.given j).fits) c.requires (rw (← is) (leb-true r 4 h.0)) (rw (← is) (eqb-false r 1 (not-true (eqb r 1) h.1)))
+    unwaited-falls s (λ j. (c.type_inv.s j).fits) c.requires (rw (← is) (leb-true r 4 h.0)) (rw (← is) (eqb-false r 1 (not-true (eqb r 1) h.1)))

