@@ -8,7 +8,8 @@ Three things are laid beside one another, each as trees of words, so that bracke
   contracts     of every function: its signature, and each clause under the renaming that the definitions gave. The older form of a clause is
                 rewritten first: `now (x .entry)` is `x.now` of a & and `x.old` of a &mut, `now (x .exit)` is `x.new`, and the λ binds the result
 
-It prints the renaming with --names, what differs, and counts."""
+It prints what differs, words that are spelled otherwise in more than their joints (a number that became another would be one), the whole renaming with
+--names, and counts. It does not look at imports, fields of types, values of constants and bodies of functions. Its status says nothing."""
 import collections
 import glob
 import os
@@ -216,12 +217,15 @@ def main(argv):
             back[y].add(x)
     split = [f"{x} has become {', '.join(ys)}" for x, ys in renamed.items() if len(ys) > 1]
     joined = [f"{', '.join(sorted(xs))} have become {y}" for y, xs in back.items() if len(xs) > 1]
-    for line in other + others + unlike + split + joined:
+    letters = lambda word: re.sub(r"[-_·◌]", "", word).lower()
+    apart = [f"{x} has become {y}" for x, ys in renamed.items() for y in ys if len(ys) == 1 and letters(x) != letters(y)]
+    for line in other + others + unlike + split + joined + apart:
         print(line)
     if "--names" in argv:
         print("\n".join(sorted(f"{x} {y}" for x, ys in renamed.items() for y in ys if x != y)))
     print(f"definitions: {files} files, {len(other)} with another tree; laws: {laws} files, {len(others)} with another tree; "
-          f"contracts: {functions_} functions, {clauses} clauses, {len(unlike)} otherwise; {len(split)} words of which two have become; {len(joined)} words that two have become")
+          f"contracts: {functions_} functions, {clauses} clauses, {len(unlike)} otherwise; {len(split)} words of which two have become; {len(joined)} words that two have become; "
+          f"{len(apart)} words spelled otherwise")
     return 0
 
 
