@@ -78,7 +78,7 @@ unfolding map_from
 sweep_map {A} {B} g i [] = refl
 sweep_map {A} {B} g i (x ∷ xs) = ap (λ (l : List B). g x ∷ l) (sweep_map g (i + 1) xs)
 
--- ---- a loop that has done the first i elements stands at `doneTo f i xs`; one more turn is a `set`
+-- ---- a loop that has done the first i elements stands at `done_to f i xs`; one more turn is a `set`
 
 -- f at the indices below i, and nothing from there on
 abbrev pub below : {A : Type 0} → (ℕ → A → A) → ℕ → ℕ → A → A
