@@ -7,10 +7,9 @@ use lib.ListN.{length, take}
 use lib.Dec.{ltb}
 use borrow.Author.Tests.{ltb-false}
 use Rattle.octets.specs.Octets.{same_octets}
-use Rattle.frame.specs.declared.class.Class.{Class}
-use Rattle.frame.specs.declared.class.Class.TheVariants.{Lacpdu, Marker, Response, Refused}
+use Rattle.std.specs.Prelude.{Ok, Err}
 use Rattle.frame.specs.declared.class.Refusal.TheVariants.{Foreign, Unknown, Illegal}
-use Rattle.frame.specs.Class.{foreign, unknown, illegal, no_subtype, odd_subtype, short, wrong_length, wrong_marker_type, class_of, kind_of, slow_address, frame_size}
+use Rattle.frame.specs.Class.{Class, foreign, unknown, illegal, no_subtype, odd_subtype, short, wrong_length, wrong_marker_type, class_of, kind_of, slow_address, frame_size}
 
 left_clear : (a b : Bool) → a || b ≡ false → a ≡ false
 left_clear true b e = e
@@ -34,16 +33,14 @@ illegal_clear l e =
 
 -- a frame that is not refused has 124 octets or more, so that its blocks are there
 abbrev pub passes : Class → Bool
-passes Lacpdu = true
-passes Marker = true
-passes Response = true
-passes (Refused r) = false
+passes (Ok k) = true
+passes (Err r) = false
 
 pub passed-whole : (l : List ℕ) → passes (class_of l) ≡ true → frame_size ≤ length l
 unfolding class_of
 passed-whole l h = go (foreign l) (unknown l) (illegal l) refl h
   where
-    go : (f u i : Bool) → illegal l ≡ i → passes (cond f (Refused Foreign) (cond u (Refused Unknown) (cond i (Refused Illegal) (kind_of l)))) ≡ true → frame_size ≤ length l
+    go : (f u i : Bool) → illegal l ≡ i → passes (cond f (Err Foreign) (cond u (Err Unknown) (cond i (Err Illegal) (Ok (kind_of l))))) ≡ true → frame_size ≤ length l
     go true u i e h = absurd (false≢true h)
     go false true i e h = absurd (false≢true h)
     go false false true e h = absurd (false≢true h)

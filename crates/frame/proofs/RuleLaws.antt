@@ -10,11 +10,11 @@ use lib.ListN.{length, take, drop, get_or, replicate, length-append, length-take
 use lib.Seq.{take_all, take-take, length-take-le, get_or-take, take_at, drop_at}
 use lib.Dec.{eqb, ltb}
 use borrow.Author.Tests.{ltb-true, ltb-false, lt-ltb, le-ltb, le-leb, lt-leb, eqb-true, eqb-false, ne_eqb, not-false}
+use Rattle.std.specs.Prelude.{Ok, Err}
 use Rattle.octets.specs.Octets.{Octets, same_octets, number_at}
 use Rattle.octets.proofs.Laws.{same_true}
 use Rattle.octets.proofs.RangeLaws.{both}
-use Rattle.frame.specs.declared.class.Class.{Class}
-use Rattle.frame.specs.declared.class.Class.TheVariants.{Lacpdu, Marker, Response, Refused}
+use Rattle.frame.specs.declared.class.Kind.TheVariants.{Lacpdu, Marker, Response}
 use Rattle.frame.specs.declared.class.Refusal.TheVariants.{Foreign, Unknown, Illegal}
 use Rattle.frame.specs.declared.block.Address.{Address}
 use Rattle.frame.specs.declared.block.Block.{Block}
@@ -23,7 +23,7 @@ use Rattle.frame.specs.declared.wire.MarkerType.TheVariants as wire
 use Rattle.frame.specs.declared.wire.TensOfMicroseconds.{TensOfMicroseconds}
 use Rattle.frame.specs.State.{state_octet}
 use Rattle.frame.specs.Block.{block_octets}
-use Rattle.frame.specs.Class.{class_of, foreign, unknown, illegal, wrong_length, wrong_marker_type, kind_of, slow_address, slow_type}
+use Rattle.frame.specs.Class.{Class, class_of, foreign, unknown, illegal, wrong_length, wrong_marker_type, kind_of, slow_address, slow_type}
 use Rattle.frame.specs.Wire.{actor_part, partner_part, request_part, lacpdu, marker, marker_type_octet, response}
 use Rattle.frame.proofs.ClassLaws.{foreign_clear, right_clear}
 
@@ -54,18 +54,18 @@ pub record Lengths (l : List ℕ) : Type 0 where
 
 -- the ways to each class: R5.1, R5.2, R5.3, and R5.6 for what passes
 pub data Told (l : List ℕ) : Class → Type 0 where
-  not-addressed : (Addressed l → ⊥) → Told l (Refused Foreign)
-  other-type : Addressed l → (Slow l → ⊥) → Told l (Refused Unknown)
-  other-subtype : Slow l → 15 ≤ length l → 3 ≤ get_or l 14 0 → get_or l 14 0 ≤ 10 → Told l (Refused Unknown)
-  no_subtype_lem : Slow l → length l < 15 → Told l (Refused Illegal)
-  odd_subtype_lem : Slow l → 15 ≤ length l → (get_or l 14 0 ≡ 0) ⊎ (10 < get_or l 14 0) → Told l (Refused Illegal)
-  short : Slow l → 15 ≤ length l → (get_or l 14 0 ≡ 1) ⊎ (get_or l 14 0 ≡ 2) → length l < 124 → Told l (Refused Illegal)
-  wrong_lengths : Full l 1 → (Lengths l → ⊥) → Told l (Refused Illegal)
-  wrong_length_lem : Full l 2 → (get_or l 17 0 ≡ 16 → ⊥) → Told l (Refused Illegal)
-  wrong_type : Full l 2 → (get_or l 16 0 ≡ 1 → ⊥) → (get_or l 16 0 ≡ 2 → ⊥) → Told l (Refused Illegal)
-  is-lacpdu : Full l 1 → Lengths l → Told l Lacpdu
-  is-marker : Full l 2 → get_or l 16 0 ≡ 1 → get_or l 17 0 ≡ 16 → Told l Marker
-  is-response : Full l 2 → get_or l 16 0 ≡ 2 → get_or l 17 0 ≡ 16 → Told l Response
+  not-addressed : (Addressed l → ⊥) → Told l (Err Foreign)
+  other-type : Addressed l → (Slow l → ⊥) → Told l (Err Unknown)
+  other-subtype : Slow l → 15 ≤ length l → 3 ≤ get_or l 14 0 → get_or l 14 0 ≤ 10 → Told l (Err Unknown)
+  no_subtype_lem : Slow l → length l < 15 → Told l (Err Illegal)
+  odd_subtype_lem : Slow l → 15 ≤ length l → (get_or l 14 0 ≡ 0) ⊎ (10 < get_or l 14 0) → Told l (Err Illegal)
+  short : Slow l → 15 ≤ length l → (get_or l 14 0 ≡ 1) ⊎ (get_or l 14 0 ≡ 2) → length l < 124 → Told l (Err Illegal)
+  wrong_lengths : Full l 1 → (Lengths l → ⊥) → Told l (Err Illegal)
+  wrong_length_lem : Full l 2 → (get_or l 17 0 ≡ 16 → ⊥) → Told l (Err Illegal)
+  wrong_type : Full l 2 → (get_or l 16 0 ≡ 1 → ⊥) → (get_or l 16 0 ≡ 2 → ⊥) → Told l (Err Illegal)
+  is-lacpdu : Full l 1 → Lengths l → Told l (Ok Lacpdu)
+  is-marker : Full l 2 → get_or l 16 0 ≡ 1 → get_or l 17 0 ≡ 16 → Told l (Ok Marker)
+  is-response : Full l 2 → get_or l 16 0 ≡ 2 → get_or l 17 0 ≡ 16 → Told l (Ok Response)
 
 -- ---- tests and what they say
 
@@ -130,7 +130,7 @@ module _ (l : List ℕ) where
   small_known : Slow l → {n : ℕ} → n < 3 → get_or l 14 0 ≡ n → unknown l ≡ false
   small_known s h e = slow_known s (inr (inl (rw e h)))
 
-  refused : Slow l → unknown l ≡ false → illegal l ≡ true → class_of l ≡ Refused Illegal
+  refused : Slow l → unknown l ≡ false → illegal l ≡ true → class_of l ≡ Err Illegal
   unfolding class_of
   refused s u e = rw (addressed_clear s.addressed, u, e)
 
@@ -139,10 +139,10 @@ module _ (l : List ℕ) where
   full-illegal {n} p h f =
       rw (le-ltb (length l) 15 (omega (arith, f.whole)), le-ltb (length l) 124 f.whole, f.subtype, ne_eqb n 0 (λ e. omega arith), lt-leb 11 n (omega arith))
 
-  full-refused : {n : ℕ} → 0 < n → n < 3 → Full l n → wrong_length l || wrong_marker_type l ≡ true → class_of l ≡ Refused Illegal
+  full-refused : {n : ℕ} → 0 < n → n < 3 → Full l n → wrong_length l || wrong_marker_type l ≡ true → class_of l ≡ Err Illegal
   full-refused p h f e = refused f.slow (small_known f.slow h f.subtype) (full-illegal p h f ∙ e)
 
-  full-passed : {n : ℕ} → 0 < n → n < 3 → Full l n → wrong_length l || wrong_marker_type l ≡ false → class_of l ≡ kind_of l
+  full-passed : {n : ℕ} → 0 < n → n < 3 → Full l n → wrong_length l || wrong_marker_type l ≡ false → class_of l ≡ Ok (kind_of l)
   unfolding class_of
   full-passed p h f e = rw (addressed_clear f.slow.addressed, small_known f.slow h f.subtype, full-illegal p h f ∙ e)
 

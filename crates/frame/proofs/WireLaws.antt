@@ -9,16 +9,16 @@ use lib.ListN.{length, length-append}
 use lib.Seq.{take_at}
 use lib.Dec.{ltb}
 use borrow.Author.Tests.{le-ltb}
+use Rattle.std.specs.Prelude.{Ok}
 use Rattle.octets.specs.Octets.{same_octets}
 use Rattle.frame.specs.declared.block.Address.{Address}
 use Rattle.frame.specs.declared.block.Block.{Block}
-use Rattle.frame.specs.declared.class.Class.{Class}
-use Rattle.frame.specs.declared.class.Class.TheVariants as class
+use Rattle.frame.specs.declared.class.Kind.TheVariants as kind
 use Rattle.frame.specs.declared.wire.MarkerType.{MarkerType}
 use Rattle.frame.specs.declared.wire.MarkerType.TheVariants.{Marker, Response}
 use Rattle.frame.specs.declared.wire.TensOfMicroseconds.{TensOfMicroseconds}
 use Rattle.frame.specs.Block.{block_of, block_octets}
-use Rattle.frame.specs.Class.{class_of, foreign, unknown, illegal, wrong_length, wrong_marker_type, frame_size}
+use Rattle.frame.specs.Class.{Class, class_of, foreign, unknown, illegal, wrong_length, wrong_marker_type, frame_size}
 use Rattle.frame.specs.Wire.{actor_part, partner_part, request_part, lacpdu, marker, zeros}
 use Rattle.frame.proofs.BlockLaws.{block_back}
 
@@ -41,15 +41,15 @@ module _ (source : Address) (actor partner : Block) (delay : TensOfMicroseconds)
   partner-back = ap block_of partner-octets ∙ block_back partner
 
   -- a written LACPDU passes the frame tests as an LACPDU
-  pub lacpdu-passes : class_of sent ≡ class.Lacpdu
+  pub lacpdu-passes : class_of sent ≡ Ok kind.Lacpdu
   unfolding class_of foreign unknown illegal wrong_length wrong_marker_type same_octets
   lacpdu-passes =
       let long : (n : ℕ) → n ≤ frame_size → ltb (length sent) n ≡ false = λ n h. le-ltb (length sent) n (omega arith) in
       rw (long 14 (omega arith), long 15 (omega arith), long frame_size (omega arith))
 
 abbrev class_of_type : MarkerType → Class
-class_of_type Marker = class.Marker
-class_of_type Response = class.Response
+class_of_type Marker = Ok kind.Marker
+class_of_type Response = Ok kind.Response
 
 module _ (source : Address) (request rest : List ℕ) (twelve : length request ≡ 12) where
   -- a Marker PDU gives back its request

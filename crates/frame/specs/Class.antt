@@ -1,10 +1,10 @@
 -- The frame tests (R5): answers 6, 7 and 8, in this order, and what a frame is that passes them.
-use Rattle.std.specs.Prelude.{ℕ, Bool, cond, not, ◌&&◌, ◌||◌, List, [], ◌∷◌, length, take, get_or, eqb, leb, ltb}
+use Rattle.std.specs.Prelude.{ℕ, Bool, cond, not, ◌&&◌, ◌||◌, List, [], ◌∷◌, length, take, get_or, eqb, leb, ltb, Result, Ok, Err}
 use Rattle.octets.specs.Octets.{same_octets, number_at}
 use Rattle.frame.specs.declared.class.Refusal.{Refusal}
 use Rattle.frame.specs.declared.class.Refusal.TheVariants.{Foreign, Unknown, Illegal}
-use Rattle.frame.specs.declared.class.Class.{Class}
-use Rattle.frame.specs.declared.class.Class.TheVariants.{Lacpdu, Marker, Response, Refused}
+use Rattle.frame.specs.declared.class.Kind.{Kind}
+use Rattle.frame.specs.declared.class.Kind.TheVariants.{Lacpdu, Marker, Response}
 
 -- the answer number of each refusal
 abbrev pub refusal_number : Refusal → ℕ
@@ -58,8 +58,12 @@ unfoldable pub illegal : List ℕ → Bool
 illegal l = no_subtype l || odd_subtype l || short l || wrong_length l || wrong_marker_type l
 
 -- what a frame is that none of the three refuses (R5.6)
-abbrev pub kind_of : List ℕ → Class
+abbrev pub kind_of : List ℕ → Kind
 kind_of l = cond (eqb (octet l 14) 1) Lacpdu (cond (eqb (octet l 16) 1) Marker Response)
 
+-- what a frame is, or why it is refused
+abbrev pub Class : Type 0
+Class = Result Kind Refusal
+
 unfoldable pub class_of : List ℕ → Class
-class_of l = cond (foreign l) (Refused Foreign) (cond (unknown l) (Refused Unknown) (cond (illegal l) (Refused Illegal) (kind_of l)))
+class_of l = cond (foreign l) (Err Foreign) (cond (unknown l) (Err Unknown) (cond (illegal l) (Err Illegal) (Ok (kind_of l))))

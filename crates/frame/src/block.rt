@@ -6,26 +6,26 @@ ghost use Rattle.frame.specs.Block.{address_at, address_octets, block_of, block_
 use crate::state::PortState;
 
 // Six octets, two at a time.
-#[derive(Clone, Copy)]
+#[derive(Clone, Copy, PartialEq, Eq)]
 pub struct Address {
     pub high: u16,
     pub middle: u16,
     pub low: u16,
 }
 
-#[derive(Clone, Copy)]
+#[derive(Clone, Copy, PartialEq, Eq)]
 pub struct SystemId {
     pub priority: u16,
     pub address: Address,
 }
 
-#[derive(Clone, Copy)]
+#[derive(Clone, Copy, PartialEq, Eq)]
 pub struct PortId {
     pub priority: u16,
     pub number: u16,
 }
 
-#[derive(Clone, Copy)]
+#[derive(Clone, Copy, PartialEq, Eq)]
 pub struct Block {
     pub system: SystemId,
     pub key: u16,

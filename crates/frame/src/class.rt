@@ -3,7 +3,7 @@ ghost use Rattle.std.specs.Prelude.{◌≡◌, ◌≤◌, length};
 ghost use Rattle.frame.specs.Class.{refusal_number, class_of, foreign, unknown, wrong_length, wrong_marker_type, illegal, frame_size};
 
 // Why the frame tests refuse a frame; the definition `refusal_number` gives the answer number of each.
-#[derive(Clone, Copy)]
+#[derive(Clone, Copy, PartialEq, Eq)]
 pub enum Refusal {
     // Too short for a header, or not to the Slow Protocols address.
     Foreign,
@@ -13,12 +13,12 @@ pub enum Refusal {
     Illegal,
 }
 
-impl Refusal {
-    // The answer number.
-    pub fn number(self) -> u8
-        ensures { result ≡ refusal_number self }
-    {
-        match self {
+// The answer number.
+impl From<Refusal> for u8 {
+    ghost from_gives = { λ refusal n. n ≡ refusal_number refusal };
+
+    fn from(refusal: Refusal) -> u8 {
+        match refusal {
             Refusal::Foreign => 6,
             Refusal::Unknown => 7,
             Refusal::Illegal => 8,
@@ -26,12 +26,12 @@ impl Refusal {
     }
 }
 
-#[derive(Clone, Copy)]
-pub enum Class {
+// What a frame is that the tests pass.
+#[derive(Clone, Copy, PartialEq, Eq)]
+pub enum Kind {
     Lacpdu,
     Marker,
     Response,
-    Refused(Refusal),
 }
 
 // The octets of an LACPDU, a Marker or a Response.
@@ -100,24 +100,24 @@ fn is_illegal(s: &[u8]) -> bool
     has_wrong_length(s) | has_wrong_marker_type(s)
 }
 
-// What a received frame is. Octets after 124 are not looked at.
-pub fn classify(s: &[u8]) -> Class
+// What a received frame is, or why it is refused. Octets after 124 are not looked at.
+pub fn classify(s: &[u8]) -> Result<Kind, Refusal>
     ensures { result ≡ class_of s.now }
 {
     if is_foreign(s) {
-        return Class::Refused(Refusal::Foreign);
+        return Err(Refusal::Foreign);
     }
     if is_unknown(s) {
-        return Class::Refused(Refusal::Unknown);
+        return Err(Refusal::Unknown);
     }
     if is_illegal(s) {
-        return Class::Refused(Refusal::Illegal);
+        return Err(Refusal::Illegal);
     }
     if s[14] == 1 {
-        return Class::Lacpdu;
+        return Ok(Kind::Lacpdu);
     }
     if s[16] == 1 {
-        return Class::Marker;
+        return Ok(Kind::Marker);
     }
-    Class::Response
+    Ok(Kind::Response)
 }

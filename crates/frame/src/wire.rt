@@ -8,18 +8,18 @@ use crate::block::{Address, Block};
 use crate::class::{DESTINATION, SLOW_TYPE};
 
 // CollectorMaxDelay counts tens of microseconds (43.2.3.1.1), and is never a number of ticks.
-#[derive(Clone, Copy)]
+#[derive(Clone, Copy, PartialEq, Eq)]
 pub struct TensOfMicroseconds(pub u16);
 
 // The type octet of a Marker PDU.
-#[derive(Clone, Copy)]
+#[derive(Clone, Copy, PartialEq, Eq)]
 pub enum MarkerType {
     Marker,
     Response,
 }
 
 // Which block gets recorded: recordPDU takes the frame's, recordDefault the default one (43.4.9).
-#[derive(Clone, Copy)]
+#[derive(Clone, Copy, PartialEq, Eq)]
 pub enum Source {
     Default,
     Pdu,
