@@ -21,7 +21,7 @@ pub enum Role {
 }
 
 // The ports of an aggregator as sets, bit 0 the first port, with how many distribute and the lowest that does (from 1; 0 for none).
-#[derive(Clone, Copy)]
+#[derive(Clone, Copy, Default, PartialEq, Eq)]
 pub struct Sets {
     pub holding: u32,
     pub attached: u32,
