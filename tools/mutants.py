@@ -283,9 +283,9 @@ MUTANTS = [
         ("trunk/specs/Settled.antt", "|| not (eqb p.aggregator k)", "|| not (eqb p.aggregator p.aggregator)"),
         ("trunk/src/select.rt", "is_unselected(s) | !(held == k)", "is_unselected(s) | !(held == held)"))),
     Mutant("2 distributing is earned", "DISTRIBUTING without a partner that collects", ("distributing-earned",), "machine::mux::next", (
-        ("machine/specs/Mux.antt", "mux_next Distributing Selected ready true false = Enter Collecting", "mux_next Distributing Selected ready true false = Stay"),
-        ("machine/src/mux.rt", "                    return MuxStep::Enter(Mux::Collecting);\n                }\n                MuxStep::Enter(Mux::Collecting)",
-         "                    return MuxStep::Stay;\n                }\n                MuxStep::Enter(Mux::Collecting)"))),
+        ("machine/specs/Mux.antt", "mux_next Distributing Selected ready true false = Some Collecting", "mux_next Distributing Selected ready true false = None"),
+        ("machine/src/mux.rt", "(Mux::Distributing, Selection::Selected, _, true, false) => Some(Mux::Collecting)",
+         "(Mux::Distributing, Selection::Selected, _, true, false) => None"))),
     Mutant("2 distributing is earned", "a port without a link whose partner is in sync", ("distributing-earned",), "port::record::Port::port_disabled", (
         ("port/specs/Receive.antt", "port_disabled p = with_receive (with_current (with_partner_state p (with_synchronization p.partner.state false)) (ticks 0)) PortDisabled",
          "port_disabled p = with_receive (with_current (with_partner_state p (with_synchronization p.partner.state true)) (ticks 0)) PortDisabled"),
@@ -299,9 +299,9 @@ MUTANTS = [
         ("trunk/src/select.rt", "(c.key == d.key)", "(c.key == c.key)"))),
     Mutant("3 locality", "SLOW_PERIODIC that never rests, so that each call moves every port's pace", ("locality-received", "locality-fallen"),
            "machine::periodic::next", (
-        ("machine/specs/Periodic.antt", "periodic_next SlowPeriodic false false false = Stay", "periodic_next SlowPeriodic false false false = Enter NoPeriodic"),
-        ("machine/src/periodic.rt", "            PeriodicStep::Stay\n        }\n        Periodic::PeriodicTx",
-         "            PeriodicStep::Enter(Periodic::NoPeriodic)\n        }\n        Periodic::PeriodicTx"))),
+        ("machine/specs/Periodic.antt", "periodic_next SlowPeriodic false false false = None", "periodic_next SlowPeriodic false false false = Some NoPeriodic"),
+        ("machine/src/periodic.rt", "(Periodic::SlowPeriodic, false, false, false) => None",
+         "(Periodic::SlowPeriodic, false, false, false) => Some(Periodic::NoPeriodic)"))),
     Mutant("3 locality", "a port displaced though its partner has not moved", ("locality-received",), "", (
         ("trunk/specs/Displaced.antt", "displaced_if r a i p = cond (not (eqb i r) && is_displaced a p) (moved p) p",
          "displaced_if r a i p = cond (not (eqb i r) && not (is_displaced a p)) (moved p) p"),)),
@@ -311,8 +311,9 @@ MUTANTS = [
     Mutant("3 a group's own timers", "a Ready that another group's timer holds back", ("distributing",), "", (
         ("trunk/specs/Ready.antt", "waits_for k p = eqb p.aggregator k &&", "waits_for k p = eqb p.aggregator p.aggregator &&"),)),
     Mutant("4 at rest", "PERIODIC_TX that leads to NO_PERIODIC", ("at_rest",), "machine::periodic::next", (
-        ("machine/specs/Periodic.antt", "periodic_next PeriodicTx false out true = Enter FastPeriodic", "periodic_next PeriodicTx false out true = Enter NoPeriodic"),
-        ("machine/src/periodic.rt", "                return PeriodicStep::Enter(Periodic::FastPeriodic);", "                return PeriodicStep::Enter(Periodic::NoPeriodic);"))),
+        ("machine/specs/Periodic.antt", "periodic_next PeriodicTx false out true = Some FastPeriodic", "periodic_next PeriodicTx false out true = Some NoPeriodic"),
+        ("machine/src/periodic.rt", "(Periodic::PeriodicTx, false, _, true) => Some(Periodic::FastPeriodic)",
+         "(Periodic::PeriodicTx, false, _, true) => Some(Periodic::NoPeriodic)"))),
     Mutant("4 at rest", "one step of the mux", ("at_rest",), "", (
         ("port/specs/Mux.antt", "mux_run p = mux_step false (mux_step false p)", "mux_run p = mux_step false p"),)),
     Mutant("5 read-back", "the two blocks exchanged", ("read_back",), "work::write_due", (
@@ -361,8 +362,9 @@ MUTANTS = [
         ("machine/specs/States.antt", "silent_on l passive = not l.full || (l.up && passive)", "silent_on l passive = l.full && (l.up && passive)"),
         ("machine/src/states.rt", "!self.full | (self.up & passive)", "self.full & (self.up & passive)"))),
     Mutant("10 distributing is given", "a mux that never distributes", ("distributing", "carrying-trunk"), "machine::mux::next", (
-        ("machine/specs/Mux.antt", "mux_next Collecting Selected ready true true = Enter Distributing", "mux_next Collecting Selected ready true true = Stay"),
-        ("machine/src/mux.rt", "                        return MuxStep::Enter(Mux::Distributing);", "                        return MuxStep::Stay;"))),
+        ("machine/specs/Mux.antt", "mux_next Collecting Selected ready true true = Some Distributing", "mux_next Collecting Selected ready true true = None"),
+        ("machine/src/mux.rt", "(Mux::Collecting, Selection::Selected, _, true, true) => Some(Mux::Distributing)",
+         "(Mux::Collecting, Selection::Selected, _, true, true) => None"))),
     Mutant("11 waiting for someone", "Ready while a timer runs, and no longer when none does", ("waiting",), "", (
         ("trunk/specs/Ready.antt", "ready k ps = has_waiting k ps && not (held_back k ps)", "ready k ps = has_waiting k ps && held_back k ps"),)),
     Mutant("13 one aggregator", "a port that goes over without being detached", ("thinner",), "", (
@@ -395,9 +397,9 @@ MUTANTS = [
         ("machine/specs/States.antt", "silent_on l passive = not l.full || (l.up && passive)", "silent_on l passive = not l.full || (passive && passive)"),
         ("machine/src/states.rt", "!self.full | (self.up & passive)", "!self.full | (passive & passive)"))),
     Mutant("law the order of periodicNext", "in FAST_PERIODIC a timer that ran out is not looked at", ("out-second",), "machine::periodic::next", (
-        ("machine/specs/Periodic.antt", "periodic_next FastPeriodic false true short = Enter PeriodicTx", "periodic_next FastPeriodic false true short = Stay"),
-        ("machine/src/periodic.rt", "        Periodic::FastPeriodic => {\n            if out {\n                return PeriodicStep::Enter(Periodic::PeriodicTx);",
-         "        Periodic::FastPeriodic => {\n            if out {\n                return PeriodicStep::Stay;"))),
+        ("machine/specs/Periodic.antt", "periodic_next FastPeriodic false true short = Some PeriodicTx", "periodic_next FastPeriodic false true short = None"),
+        ("machine/src/periodic.rt", "(Periodic::FastPeriodic, false, true, _) => Some(Periodic::PeriodicTx)",
+         "(Periodic::FastPeriodic, false, true, _) => None"))),
     Mutant("law what a frame is", "the Slow Protocols of type 88-08", ("slow-true", "true-slow"), "frame::class::is_unknown", (
         ("frame/specs/Class.antt", "slow_type = 0x8809", "slow_type = 0x8808"),
         ("frame/src/class.rt", "SLOW_TYPE: u16 = 0x8809", "SLOW_TYPE: u16 = 0x8808"))),

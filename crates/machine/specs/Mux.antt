@@ -1,11 +1,9 @@
 -- The transitions of the Mux machine, independent control (43.4.15, figure 43-13). A second kind of control is a second `mux_next`.
-use Rattle.std.specs.Prelude.{Bool, true, false}
+use Rattle.std.specs.Prelude.{Bool, true, false, Option, Some, None}
 use Rattle.machine.specs.declared.states.Mux.{Mux}
 use Rattle.machine.specs.declared.states.Mux.TheVariants.{Detached, Waiting, Attached, Collecting, Distributing}
 use Rattle.machine.specs.declared.states.Selection.{Selection}
 use Rattle.machine.specs.declared.states.Selection.TheVariants.{Unselected, Selected}
-use Rattle.machine.specs.declared.mux.MuxStep.{MuxStep}
-use Rattle.machine.specs.declared.mux.MuxStep.TheVariants.{Stay, Enter}
 use Rattle.frame.specs.declared.state.PortState.{PortState}
 use Rattle.machine.specs.Bits.{with_synchronization, with_collecting, with_distributing}
 use Rattle.machine.specs.declared.states.Ticks.{Ticks}
@@ -45,29 +43,24 @@ abbrev pub is_unselected : Selection → Bool
 is_unselected Unselected = true
 is_unselected Selected = false
 
--- the transitions, by Selected, Ready, and the partner's Synchronization and Collecting
-abbrev pub mux_next : Mux → Selection → Bool → Bool → Bool → MuxStep
-mux_next Detached Unselected ready sync coll = Stay
-mux_next Detached Selected ready sync coll = Enter Waiting
-mux_next Waiting Unselected ready sync coll = Enter Detached
-mux_next Waiting Selected true sync coll = Enter Attached
-mux_next Waiting Selected false sync coll = Stay
-mux_next Attached Unselected ready sync coll = Enter Detached
-mux_next Attached Selected ready true coll = Enter Collecting
-mux_next Attached Selected ready false coll = Stay
-mux_next Collecting Unselected ready sync coll = Enter Attached
-mux_next Collecting Selected ready true true = Enter Distributing
-mux_next Collecting Selected ready true false = Stay
-mux_next Collecting Selected ready false coll = Enter Attached
-mux_next Distributing Unselected ready sync coll = Enter Collecting
-mux_next Distributing Selected ready true true = Stay
-mux_next Distributing Selected ready true false = Enter Collecting
-mux_next Distributing Selected ready false coll = Enter Collecting
-
--- no transition applies
-abbrev pub mux_stays : MuxStep → Bool
-mux_stays Stay = true
-mux_stays (Enter m) = false
+-- the transition that applies, if any, by Selected, Ready, and the partner's Synchronization and Collecting
+abbrev pub mux_next : Mux → Selection → Bool → Bool → Bool → Option Mux
+mux_next Detached Unselected ready sync coll = None
+mux_next Detached Selected ready sync coll = Some Waiting
+mux_next Waiting Unselected ready sync coll = Some Detached
+mux_next Waiting Selected true sync coll = Some Attached
+mux_next Waiting Selected false sync coll = None
+mux_next Attached Unselected ready sync coll = Some Detached
+mux_next Attached Selected ready true coll = Some Collecting
+mux_next Attached Selected ready false coll = None
+mux_next Collecting Unselected ready sync coll = Some Attached
+mux_next Collecting Selected ready true true = Some Distributing
+mux_next Collecting Selected ready true false = None
+mux_next Collecting Selected ready false coll = Some Attached
+mux_next Distributing Unselected ready sync coll = Some Collecting
+mux_next Distributing Selected ready true true = None
+mux_next Distributing Selected ready true false = Some Collecting
+mux_next Distributing Selected ready false coll = Some Collecting
 
 -- the actions on entry: the actor's bits, whether NTT is set (DISTRIBUTING sets none), and the wait timer, which belongs to WAITING
 -- alone (0 stops it)

@@ -1,71 +1,36 @@
 // The transitions of the Mux machine, independent control (figure 43-13), and what its states mean to others.
 ghost use Rattle.std.specs.Prelude.{◌≡◌};
-ghost use Rattle.machine.specs.Mux.{waits, is_attached, collects, distributes, is_unselected, mux_next, mux_stays};
+ghost use Rattle.machine.specs.Mux.{waits, is_attached, collects, distributes, is_unselected, mux_next};
 
 use crate::states::{Mux, Selection};
 
-#[derive(Clone, Copy)]
-pub enum MuxStep {
-    Stay,
-    Enter(Mux),
-}
-
-// Which transition applies, by Selected, Ready, and the partner's Synchronization and Collecting.
-pub fn next(state: Mux, selected: Selection, ready: bool, sync: bool, coll: bool) -> MuxStep
+// Which transition applies, if any, by Selected, Ready, and the partner's Synchronization and Collecting.
+pub fn next(
+    state: Mux,
+    selected: Selection,
+    ready: bool,
+    sync: bool,
+    coll: bool,
+) -> Option<Mux>
     ensures { result ≡ mux_next state selected ready sync coll }
 {
-    match selected {
-        Selection::Unselected => match state {
-            Mux::Detached => MuxStep::Stay,
-            Mux::Waiting => MuxStep::Enter(Mux::Detached),
-            Mux::Attached => MuxStep::Enter(Mux::Detached),
-            Mux::Collecting => MuxStep::Enter(Mux::Attached),
-            Mux::Distributing => MuxStep::Enter(Mux::Collecting),
-        },
-        Selection::Selected => match state {
-            Mux::Detached => MuxStep::Enter(Mux::Waiting),
-            Mux::Waiting => {
-                if ready {
-                    return MuxStep::Enter(Mux::Attached);
-                }
-                MuxStep::Stay
-            }
-            Mux::Attached => {
-                if sync {
-                    return MuxStep::Enter(Mux::Collecting);
-                }
-                MuxStep::Stay
-            }
-            Mux::Collecting => {
-                if sync {
-                    if coll {
-                        return MuxStep::Enter(Mux::Distributing);
-                    }
-                    return MuxStep::Stay;
-                }
-                MuxStep::Enter(Mux::Attached)
-            }
-            Mux::Distributing => {
-                if sync {
-                    if coll {
-                        return MuxStep::Stay;
-                    }
-                    return MuxStep::Enter(Mux::Collecting);
-                }
-                MuxStep::Enter(Mux::Collecting)
-            }
-        },
-    }
-}
-
-impl MuxStep {
-    pub fn stays(self) -> bool
-        ensures { result ≡ mux_stays self }
-    {
-        match self {
-            MuxStep::Stay => true,
-            MuxStep::Enter(_) => false,
-        }
+    match (state, selected, ready, sync, coll) {
+        (Mux::Detached, Selection::Unselected, _, _, _) => None,
+        (Mux::Detached, Selection::Selected, _, _, _) => Some(Mux::Waiting),
+        (Mux::Waiting, Selection::Unselected, _, _, _) => Some(Mux::Detached),
+        (Mux::Waiting, Selection::Selected, true, _, _) => Some(Mux::Attached),
+        (Mux::Waiting, Selection::Selected, false, _, _) => None,
+        (Mux::Attached, Selection::Unselected, _, _, _) => Some(Mux::Detached),
+        (Mux::Attached, Selection::Selected, _, true, _) => Some(Mux::Collecting),
+        (Mux::Attached, Selection::Selected, _, false, _) => None,
+        (Mux::Collecting, Selection::Unselected, _, _, _) => Some(Mux::Attached),
+        (Mux::Collecting, Selection::Selected, _, true, true) => Some(Mux::Distributing),
+        (Mux::Collecting, Selection::Selected, _, true, false) => None,
+        (Mux::Collecting, Selection::Selected, _, false, _) => Some(Mux::Attached),
+        (Mux::Distributing, Selection::Unselected, _, _, _) => Some(Mux::Collecting),
+        (Mux::Distributing, Selection::Selected, _, true, true) => None,
+        (Mux::Distributing, Selection::Selected, _, true, false) => Some(Mux::Collecting),
+        (Mux::Distributing, Selection::Selected, _, false, _) => Some(Mux::Collecting),
     }
 }
 

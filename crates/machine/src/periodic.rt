@@ -8,45 +8,21 @@ pub const FAST_PERIODIC_TIME: Ticks = Ticks(10);
 
 pub const SLOW_PERIODIC_TIME: Ticks = Ticks(300);
 
-#[derive(Clone, Copy)]
-pub enum PeriodicStep {
-    Stay,
-    Enter(Periodic),
-}
-
-// Which transition applies: NO_PERIODIC from anywhere, then a timer that ran out, then the partner's Timeout.
-pub fn next(state: Periodic, quiet: bool, out: bool, short: bool) -> PeriodicStep
+// Which transition applies, if any: NO_PERIODIC from anywhere, then a timer that ran out, then the partner's Timeout.
+pub fn next(state: Periodic, quiet: bool, out: bool, short: bool) -> Option<Periodic>
     ensures { result ≡ periodic_next state quiet out short }
 {
-    if quiet {
-        return PeriodicStep::Enter(Periodic::NoPeriodic);
-    }
-    match state {
-        Periodic::NoPeriodic => PeriodicStep::Enter(Periodic::FastPeriodic),
-        Periodic::FastPeriodic => {
-            if out {
-                return PeriodicStep::Enter(Periodic::PeriodicTx);
-            }
-            if short {
-                return PeriodicStep::Stay;
-            }
-            PeriodicStep::Enter(Periodic::SlowPeriodic)
-        }
-        Periodic::SlowPeriodic => {
-            if out {
-                return PeriodicStep::Enter(Periodic::PeriodicTx);
-            }
-            if short {
-                return PeriodicStep::Enter(Periodic::PeriodicTx);
-            }
-            PeriodicStep::Stay
-        }
-        Periodic::PeriodicTx => {
-            if short {
-                return PeriodicStep::Enter(Periodic::FastPeriodic);
-            }
-            PeriodicStep::Enter(Periodic::SlowPeriodic)
-        }
+    match (state, quiet, out, short) {
+        (_, true, _, _) => Some(Periodic::NoPeriodic),
+        (Periodic::NoPeriodic, false, _, _) => Some(Periodic::FastPeriodic),
+        (Periodic::FastPeriodic, false, true, _) => Some(Periodic::PeriodicTx),
+        (Periodic::FastPeriodic, false, false, true) => None,
+        (Periodic::FastPeriodic, false, false, false) => Some(Periodic::SlowPeriodic),
+        (Periodic::SlowPeriodic, false, true, _) => Some(Periodic::PeriodicTx),
+        (Periodic::SlowPeriodic, false, false, true) => Some(Periodic::PeriodicTx),
+        (Periodic::SlowPeriodic, false, false, false) => None,
+        (Periodic::PeriodicTx, false, _, true) => Some(Periodic::FastPeriodic),
+        (Periodic::PeriodicTx, false, _, false) => Some(Periodic::SlowPeriodic),
     }
 }
 

@@ -1,6 +1,6 @@
 // The transitions of the Receive machine (figure 43-10) but for those with an LACPDU.
 ghost use Rattle.std.specs.Prelude.{◌≡◌};
-ghost use Rattle.machine.specs.Receive.{is_disabled, is_current, receive_next, receive_stays};
+ghost use Rattle.machine.specs.Receive.{is_disabled, is_current, receive_next};
 ghost use Rattle.machine.specs.Time.{timeout_time};
 
 use crate::states::{Receive, Ticks};
@@ -8,12 +8,6 @@ use crate::states::{Receive, Ticks};
 pub const SHORT_TIMEOUT_TIME: Ticks = Ticks(30);
 
 pub const LONG_TIMEOUT_TIME: Ticks = Ticks(900);
-
-#[derive(Clone, Copy)]
-pub enum ReceiveStep {
-    Stay,
-    Enter(Receive),
-}
 
 // What a state means to others.
 pub fn is_disabled(s: Receive) -> bool
@@ -42,62 +36,25 @@ pub fn is_current(s: Receive) -> bool
     }
 }
 
-// Which transition applies without an LACPDU.
-pub fn next(state: Receive, up: bool, full: bool, out: bool) -> ReceiveStep
+// Which transition applies without an LACPDU, if any.
+pub fn next(state: Receive, up: bool, full: bool, out: bool) -> Option<Receive>
     ensures { result ≡ receive_next state up full out }
 {
-    match state {
-        Receive::Initialize => ReceiveStep::Enter(Receive::PortDisabled),
-        Receive::PortDisabled => {
-            if up {
-                if full {
-                    return ReceiveStep::Enter(Receive::Expired);
-                }
-                return ReceiveStep::Enter(Receive::LacpDisabled);
-            }
-            ReceiveStep::Stay
-        }
-        Receive::Expired => {
-            if up {
-                if out {
-                    return ReceiveStep::Enter(Receive::Defaulted);
-                }
-                return ReceiveStep::Stay;
-            }
-            ReceiveStep::Enter(Receive::PortDisabled)
-        }
-        Receive::LacpDisabled => {
-            if up {
-                return ReceiveStep::Stay;
-            }
-            ReceiveStep::Enter(Receive::PortDisabled)
-        }
-        Receive::Defaulted => {
-            if up {
-                return ReceiveStep::Stay;
-            }
-            ReceiveStep::Enter(Receive::PortDisabled)
-        }
-        Receive::Current => {
-            if up {
-                if out {
-                    return ReceiveStep::Enter(Receive::Expired);
-                }
-                return ReceiveStep::Stay;
-            }
-            ReceiveStep::Enter(Receive::PortDisabled)
-        }
-    }
-}
-
-impl ReceiveStep {
-    pub fn stays(self) -> bool
-        ensures { result ≡ receive_stays self }
-    {
-        match self {
-            ReceiveStep::Stay => true,
-            ReceiveStep::Enter(_) => false,
-        }
+    match (state, up, full, out) {
+        (Receive::Initialize, _, _, _) => Some(Receive::PortDisabled),
+        (Receive::PortDisabled, false, _, _) => None,
+        (Receive::PortDisabled, true, true, _) => Some(Receive::Expired),
+        (Receive::PortDisabled, true, false, _) => Some(Receive::LacpDisabled),
+        (Receive::Expired, false, _, _) => Some(Receive::PortDisabled),
+        (Receive::Expired, true, _, true) => Some(Receive::Defaulted),
+        (Receive::Expired, true, _, false) => None,
+        (Receive::LacpDisabled, false, _, _) => Some(Receive::PortDisabled),
+        (Receive::LacpDisabled, true, _, _) => None,
+        (Receive::Defaulted, false, _, _) => Some(Receive::PortDisabled),
+        (Receive::Defaulted, true, _, _) => None,
+        (Receive::Current, false, _, _) => Some(Receive::PortDisabled),
+        (Receive::Current, true, _, true) => Some(Receive::Expired),
+        (Receive::Current, true, _, false) => None,
     }
 }
 

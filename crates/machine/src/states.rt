@@ -5,7 +5,7 @@ ghost use Rattle.machine.specs.States.{phase_receive, phase_periodic, phase_mux,
 use crate::compare::alike;
 
 // The states of 43.4.12. The constant beside a refusal is the first of each enum.
-#[derive(Clone, Copy)]
+#[derive(Clone, Copy, PartialEq, Eq)]
 pub enum Receive {
     Initialize,
     PortDisabled,
@@ -16,7 +16,7 @@ pub enum Receive {
 }
 
 // The states of 43.4.13.
-#[derive(Clone, Copy)]
+#[derive(Clone, Copy, PartialEq, Eq)]
 pub enum Periodic {
     NoPeriodic,
     FastPeriodic,
@@ -25,7 +25,7 @@ pub enum Periodic {
 }
 
 // The states of 43.4.15, independent control.
-#[derive(Clone, Copy)]
+#[derive(Clone, Copy, PartialEq, Eq)]
 pub enum Mux {
     Detached,
     Waiting,
@@ -35,17 +35,17 @@ pub enum Mux {
 }
 
 // The variable Selected of 43.4.8.
-#[derive(Clone, Copy)]
+#[derive(Clone, Copy, PartialEq, Eq)]
 pub enum Selection {
     Unselected,
     Selected,
 }
 
 // A time in ticks, ten to the second; a CollectorMaxDelay is another type.
-#[derive(Clone, Copy)]
+#[derive(Clone, Copy, PartialEq, Eq)]
 pub struct Ticks(pub u16);
 
-#[derive(Clone, Copy)]
+#[derive(Clone, Copy, PartialEq, Eq)]
 pub struct Phase {
     pub receive: Receive,
     pub periodic: Periodic,
@@ -54,14 +54,14 @@ pub struct Phase {
 }
 
 // Link up, and full duplex.
-#[derive(Clone, Copy)]
+#[derive(Clone, Copy, PartialEq, Eq)]
 pub struct Line {
     pub up: bool,
     pub full: bool,
 }
 
 // The three timers; each stands at 0 in a state that has no use for it (R3.13).
-#[derive(Clone, Copy)]
+#[derive(Clone, Copy, PartialEq, Eq)]
 pub struct Timers {
     pub current: Ticks,
     pub periodic: Ticks,
@@ -69,7 +69,7 @@ pub struct Timers {
 }
 
 // How many ticks ago up to three LACPDUs were sent, NO_SEND where there is none.
-#[derive(Clone, Copy)]
+#[derive(Clone, Copy, PartialEq, Eq)]
 pub struct Ages {
     pub first: u8,
     pub second: u8,

@@ -3,6 +3,7 @@
 use mathlib.Core.Path.{◌≡◌, refl, sym, ap, ◌∙◌}
 use mathlib.Core.Bool.{Bool, true, false, cond, not, ◌&&◌, false≢true}
 use borrow.Author.Tests.{not-true}
+use Rattle.std.specs.Prelude.{Option, Some, None, is_none}
 use Rattle.octets.proofs.RangeLaws.{both, both_true}
 use Rattle.machine.specs.declared.states.Receive.{Receive}
 use Rattle.machine.specs.declared.states.Receive.TheVariants.{Initialize, PortDisabled, Expired, LacpDisabled, Defaulted, Current}
@@ -10,12 +11,8 @@ use Rattle.machine.specs.declared.states.Mux.{Mux}
 use Rattle.machine.specs.declared.states.Mux.TheVariants.{Detached, Waiting, Attached, Collecting, Distributing}
 use Rattle.machine.specs.declared.states.Selection.{Selection}
 use Rattle.machine.specs.declared.states.Selection.TheVariants.{Unselected, Selected}
-use Rattle.machine.specs.declared.mux.MuxStep.{MuxStep}
-use Rattle.machine.specs.declared.mux.MuxStep.TheVariants as mux
-use Rattle.machine.specs.declared.receive.ReceiveStep.{ReceiveStep}
-use Rattle.machine.specs.declared.receive.ReceiveStep.TheVariants as receive
-use Rattle.machine.specs.Mux.{mux_next, mux_stays}
-use Rattle.machine.specs.Receive.{receive_next, receive_stays}
+use Rattle.machine.specs.Mux.{mux_next}
+use Rattle.machine.specs.Receive.{receive_next}
 use Rattle.machine.specs.Time.{ran_out}
 use Rattle.port.specs.declared.record.Port.{Port}
 use Rattle.port.specs.Record.{with_ntt}
@@ -30,17 +27,17 @@ use Rattle.port.proofs.TransmitLaws.{cleared_idle, cleared_keeps}
 
 -- ---- the receive machine
 
-receive_stay : (k : ReceiveStep) → receive_stays k ≡ true → k ≡ receive.Stay
-receive_stay receive.Stay e = refl
-receive_stay (receive.Enter s) e = absurd (false≢true e)
+none-is : {A : Type 0} (k : Option A) → is_none k ≡ true → k ≡ None
+none-is None e = refl
+none-is (Some s) e = absurd (false≢true e)
 
 pub receive-gives-back : (p : Port) → rests_receive p ≡ true → receive_run p ≡ p
 unfolding rests_receive
-receive-gives-back p e = run-stays p (receive_stay (receive_choice p) e)
+receive-gives-back p e = run-stays p (none-is (receive_choice p) e)
 
 -- a state that is entered is another
 receive_other : (s : Receive) (up full out : Bool) (p : Port) → p.phase.receive ≡ s → receive_taken (receive_next s up full out) p ≡ p
-    → receive_stays (receive_next s up full out) ≡ true
+    → is_none (receive_next s up full out) ≡ true
 unfolding initialized port_disabled expired lacp_disabled defaulted
 receive_other Initialize up full out p h e = let x : PortDisabled ≡ Initialize = ap (λ (q : Port). q.phase.receive) e ∙ h in cc
 receive_other PortDisabled false full out p h e = refl
@@ -74,18 +71,14 @@ periodic-given_back p e = rests_calm p (ap periodic_step (sym e) ∙ periodic-re
 
 -- ---- the mux machine, and step 6
 
-mux_stay : (k : MuxStep) → mux_stays k ≡ true → k ≡ mux.Stay
-mux_stay mux.Stay e = refl
-mux_stay (mux.Enter m) e = absurd (false≢true e)
-
 mux-gives-back : (p : Port) → rests_mux p ≡ true → mux_run p ≡ p
 unfolding rests_mux mux_run mux_step
-mux-gives-back p e = let stays = mux_stay (mux_choice false p) e in rw (stays, stays)
+mux-gives-back p e = let stays = none-is (mux_choice false p) e in rw (stays, stays)
 
 -- the state in which a step ends, and two
-landing : MuxStep → Mux → Mux
-landing mux.Stay m = m
-landing (mux.Enter n) m = n
+landing : Option Mux → Mux → Mux
+landing None m = m
+landing (Some n) m = n
 
 lands : Mux → Selection → Bool → Bool → Mux
 lands m s sync coll = landing (mux_next (landing (mux_next m s false sync coll) m) s false sync coll) (landing (mux_next m s false sync coll) m)
@@ -97,10 +90,10 @@ record Looked (p q : Port) (m : Mux) : Type 0 where
   synchronization : q.partner.state.synchronization ≡ p.partner.state.synchronization
   collecting : q.partner.state.collecting ≡ p.partner.state.collecting
 
-taken-lands : (k : MuxStep) (p : Port) → Looked p (mux_taken k p) (landing k p.phase.mux)
+taken-lands : (k : Option Mux) (p : Port) → Looked p (mux_taken k p) (landing k p.phase.mux)
 unfolding landing
-taken-lands mux.Stay p = record { state = refl; selected = refl; synchronization = refl; collecting = refl }
-taken-lands (mux.Enter m) p = record { state = refl; selected = refl; synchronization = refl; collecting = refl }
+taken-lands None p = record { state = refl; selected = refl; synchronization = refl; collecting = refl }
+taken-lands (Some m) p = record { state = refl; selected = refl; synchronization = refl; collecting = refl }
 
 run-lands : (p : Port) → (mux_run p).phase.mux ≡ lands p.phase.mux p.phase.selected p.partner.state.synchronization p.partner.state.collecting
 unfolding mux_run mux_step mux_choice lands
@@ -111,7 +104,7 @@ run-lands p =
     (taken-lands (mux_choice false q) q).state ∙ rw (h.state, h.selected, h.synchronization, h.collecting)
 
 -- where a transition applies, that is another than the state in which it began
-mux-other : (m : Mux) (s : Selection) (sync coll : Bool) → lands m s sync coll ≡ m → mux_stays (mux_next m s false sync coll) ≡ true
+mux-other : (m : Mux) (s : Selection) (sync coll : Bool) → lands m s sync coll ≡ m → is_none (mux_next m s false sync coll) ≡ true
 unfolding lands landing
 mux-other Detached Unselected sync coll e = refl
 mux-other Detached Selected sync coll e = let x : Waiting ≡ Detached = e in cc

@@ -4,12 +4,11 @@
 use Prim.Native.Nat.{ℕ}
 use mathlib.Core.Path.{◌≡◌, refl, ap, ◌∙◌}
 use mathlib.Core.Bool.{Bool, true, false, cond}
+use Rattle.std.specs.Prelude.{Option, Some, None}
 use Rattle.machine.specs.declared.states.Mux.{Mux}
 use Rattle.machine.specs.declared.states.Mux.TheVariants.{Detached, Waiting, Attached, Collecting, Distributing}
 use Rattle.machine.specs.declared.states.Selection.{Selection}
 use Rattle.machine.specs.declared.states.Selection.TheVariants.{Unselected, Selected}
-use Rattle.machine.specs.declared.mux.MuxStep.{MuxStep}
-use Rattle.machine.specs.declared.mux.MuxStep.TheVariants.{Stay, Enter}
 use Rattle.machine.specs.States.{ticks}
 use Rattle.machine.specs.Mux.{mux_next, waits, is_attached, collects, distributes}
 use Rattle.machine.specs.Bits.{with_synchronization, with_collecting, with_distributing}
@@ -36,12 +35,12 @@ enters : {p : Port} {m : Mux} {s : Selection} {sync coll : Bool} (n : Mux) → S
 enters n h = record { state = refl; selected = h.selected; synchronization = h.synchronization; collecting = h.collecting }
 
 -- a step without Ready that enters a state, and one that stays
-moves : {p : Port} {m : Mux} {s : Selection} {sync coll : Bool} (n : Mux) → Seen p m s sync coll → mux_next m s false sync coll ≡ Enter n
+moves : {p : Port} {m : Mux} {s : Selection} {sync coll : Bool} (n : Mux) → Seen p m s sync coll → mux_next m s false sync coll ≡ Some n
     → mux_step false p ≡ mux_entered n p
-moves {p} n h e = step false h ∙ ap (λ (k : MuxStep). mux_taken k p) e
+moves {p} n h e = step false h ∙ ap (λ (k : Option Mux). mux_taken k p) e
 
-stays : {p : Port} {m : Mux} {s : Selection} {sync coll : Bool} → Seen p m s sync coll → mux_next m s false sync coll ≡ Stay → mux_step false p ≡ p
-stays {p} h e = step false h ∙ ap (λ (k : MuxStep). mux_taken k p) e
+stays : {p : Port} {m : Mux} {s : Selection} {sync coll : Bool} → Seen p m s sync coll → mux_next m s false sync coll ≡ None → mux_step false p ≡ p
+stays {p} h e = step false h ∙ ap (λ (k : Option Mux). mux_taken k p) e
 
 -- ---- rest
 
@@ -92,13 +91,13 @@ abbrev pub beside_mux : Port → Port
 beside_mux p =
     with_mux (with_wait (with_ntt (with_actor p (with_synchronization (with_collecting (with_distributing p.actor false) false) false)) false) (ticks 0)) Detached
 
-taken-keeps : (k : MuxStep) (p : Port) → beside_mux (mux_taken k p) ≡ beside_mux p
-taken-keeps Stay p = refl
-taken-keeps (Enter Detached) p = refl
-taken-keeps (Enter Waiting) p = refl
-taken-keeps (Enter Attached) p = refl
-taken-keeps (Enter Collecting) p = refl
-taken-keeps (Enter Distributing) p = refl
+taken-keeps : (k : Option Mux) (p : Port) → beside_mux (mux_taken k p) ≡ beside_mux p
+taken-keeps None p = refl
+taken-keeps (Some Detached) p = refl
+taken-keeps (Some Waiting) p = refl
+taken-keeps (Some Attached) p = refl
+taken-keeps (Some Collecting) p = refl
+taken-keeps (Some Distributing) p = refl
 
 pub mux_step-keeps : (ready : Bool) (p : Port) → beside_mux (mux_step ready p) ≡ beside_mux p
 unfolding mux_step

@@ -2,10 +2,9 @@
 -- what the transitions look at: the state, whether the machine is to be quiet, the timer, the partner's Timeout. Assumes nothing.
 use mathlib.Core.Path.{◌≡◌, refl, ap, ◌∙◌}
 use mathlib.Core.Bool.{Bool, true, false}
+use Rattle.std.specs.Prelude.{Option, Some, None}
 use Rattle.machine.specs.declared.states.Periodic.{Periodic}
 use Rattle.machine.specs.declared.states.Periodic.TheVariants.{NoPeriodic, FastPeriodic, SlowPeriodic, PeriodicTx}
-use Rattle.machine.specs.declared.periodic.PeriodicStep.{PeriodicStep}
-use Rattle.machine.specs.declared.periodic.PeriodicStep.TheVariants.{Stay, Enter}
 use Rattle.machine.specs.Periodic.{periodic_next, periodic_time}
 use Rattle.machine.specs.States.{ticks}
 use Rattle.machine.specs.Time.{ran_out}
@@ -29,11 +28,11 @@ enters : {p : Port} {s : Periodic} {q out short : Bool} (t : Periodic) → Seen 
 enters t h = record { state = refl; silence = h.silence; timer = refl; partner = h.partner }
 
 -- a step that enters a state, and one that stays
-moves : {p : Port} {s : Periodic} {q out short : Bool} (t : Periodic) → Seen p s q out short → periodic_next s q out short ≡ Enter t → periodic_step p ≡ periodic_entered t p
-moves {p} t h e = step h ∙ ap (λ (k : PeriodicStep). periodic_taken k p) e
+moves : {p : Port} {s : Periodic} {q out short : Bool} (t : Periodic) → Seen p s q out short → periodic_next s q out short ≡ Some t → periodic_step p ≡ periodic_entered t p
+moves {p} t h e = step h ∙ ap (λ (k : Option Periodic). periodic_taken k p) e
 
-stays : {p : Port} {s : Periodic} {q out short : Bool} → Seen p s q out short → periodic_next s q out short ≡ Stay → periodic_step p ≡ p
-stays {p} h e = step h ∙ ap (λ (k : PeriodicStep). periodic_taken k p) e
+stays : {p : Port} {s : Periodic} {q out short : Bool} → Seen p s q out short → periodic_next s q out short ≡ None → periodic_step p ≡ p
+stays {p} h e = step h ∙ ap (λ (k : Option Periodic). periodic_taken k p) e
 
 -- two steps from p by way of x to y, at which the machine stays
 resting : (p x y : Port) → periodic_step p ≡ x → periodic_step x ≡ y → periodic_step y ≡ y → periodic_step (periodic_run p) ≡ periodic_run p
@@ -48,7 +47,7 @@ slow : {p : Port} {s : Periodic} {out : Bool} → Seen p s false out false → p
 slow h = stays (enters SlowPeriodic h) refl
 
 -- by way of PERIODIC_TX
-by_tx : {p : Port} {s : Periodic} {out : Bool} (short : Bool) → Seen p s false out short → periodic_next s false out short ≡ Enter PeriodicTx → periodic_step (periodic_run p) ≡ periodic_run p
+by_tx : {p : Port} {s : Periodic} {out : Bool} (short : Bool) → Seen p s false out short → periodic_next s false out short ≡ Some PeriodicTx → periodic_step (periodic_run p) ≡ periodic_run p
 by_tx {p} true h e =
     let x = enters PeriodicTx h in
     resting p (periodic_entered PeriodicTx p) (periodic_entered FastPeriodic (periodic_entered PeriodicTx p)) (moves PeriodicTx h e) (moves FastPeriodic x refl) (fast x)
@@ -96,9 +95,9 @@ periodic-idle p e = ap periodic_step e ∙ e
 abbrev pub beside_periodic : Port → Port
 beside_periodic p = with_ntt (with_periodic_timer (with_periodic p NoPeriodic) (ticks 0)) false
 
-taken-keeps : (k : PeriodicStep) (p : Port) → beside_periodic (periodic_taken k p) ≡ beside_periodic p
-taken-keeps Stay p = refl
-taken-keeps (Enter s) p = refl
+taken-keeps : (k : Option Periodic) (p : Port) → beside_periodic (periodic_taken k p) ≡ beside_periodic p
+taken-keeps None p = refl
+taken-keeps (Some s) p = refl
 
 step_keeps : (p : Port) → beside_periodic (periodic_step p) ≡ beside_periodic p
 unfolding periodic_step

@@ -6,11 +6,13 @@ use mathlib.Core.Bool.{Bool, true, false, cond, ◌&&◌, ◌||◌}
 use native.Mathlib.Omega.{arith}
 use lib.Dec.{leb, ltb, eqb}
 use borrow.Author.Tests.{leb-true, leb-false, le-leb, ltb-true, lt-ltb, eqb-true}
+use Rattle.std.specs.Prelude.{Option, Some, None}
 use Rattle.octets.specs.Octets.{within, fits}
 use Rattle.octets.proofs.RangeLaws.{both, both_true}
 use Rattle.frame.specs.declared.block.Block.{Block}
 use Rattle.frame.specs.declared.block.SystemId.{SystemId}
 use Rattle.frame.specs.Block.{address_fits, block_fits}
+use Rattle.machine.specs.declared.states.Receive.{Receive}
 use Rattle.machine.specs.declared.states.Receive.TheVariants.{Initialize, PortDisabled, Expired, LacpDisabled, Defaulted, Current}
 use Rattle.machine.specs.declared.states.Periodic.{Periodic}
 use Rattle.machine.specs.declared.states.Periodic.TheVariants.{NoPeriodic, FastPeriodic, SlowPeriodic, PeriodicTx}
@@ -22,12 +24,6 @@ use Rattle.machine.specs.declared.states.Line.{Line}
 use Rattle.machine.specs.declared.states.Ticks.{Ticks}
 use Rattle.machine.specs.declared.states.Timers.{Timers}
 use Rattle.machine.specs.declared.states.Ages.{Ages}
-use Rattle.machine.specs.declared.mux.MuxStep.{MuxStep}
-use Rattle.machine.specs.declared.mux.MuxStep.TheVariants.{Stay, Enter}
-use Rattle.machine.specs.declared.periodic.PeriodicStep.{PeriodicStep}
-use Rattle.machine.specs.declared.periodic.PeriodicStep.TheVariants as periodic
-use Rattle.machine.specs.declared.receive.ReceiveStep.{ReceiveStep}
-use Rattle.machine.specs.declared.receive.ReceiveStep.TheVariants as receive
 use Rattle.machine.specs.Ages.{forgotten_age, no_send, ages, aged, ages_ticked, sent_ages}
 use Rattle.machine.specs.Compare.{same_party, same_view}
 use Rattle.machine.specs.Mux.{waits, wait_time}
@@ -178,9 +174,9 @@ module _ (count : ℕ) where
 
   -- ---- the mux machine
 
-  taken-ranged : (k : MuxStep) (p : Port) → port_in_range count p ≡ true → port_in_range count (mux_taken k p) ≡ true
-  taken-ranged Stay p e = e
-  taken-ranged (Enter m) p e =
+  taken-ranged : (k : Option Mux) (p : Port) → port_in_range count p ≡ true → port_in_range count (mux_taken k p) ≡ true
+  taken-ranged None p e = e
+  taken-ranged (Some m) p e =
       let r = ranged count p e in
       ranged-is count (mux_entered m p) (record {
         aggregator = r.aggregator;
@@ -252,9 +248,9 @@ module _ (count : ℕ) where
 
   -- ---- the periodic machine
 
-  periodic_taken-ranged : (k : PeriodicStep) (p : Port) → port_in_range count p ≡ true → port_in_range count (periodic_taken k p) ≡ true
-  periodic_taken-ranged periodic.Stay p e = e
-  periodic_taken-ranged (periodic.Enter s) p e =
+  periodic_taken-ranged : (k : Option Periodic) (p : Port) → port_in_range count p ≡ true → port_in_range count (periodic_taken k p) ≡ true
+  periodic_taken-ranged None p e = e
+  periodic_taken-ranged (Some s) p e =
       let r = ranged count p e in
       ranged-is count (periodic_entered s p) (record {
         aggregator = r.aggregator;
@@ -350,14 +346,14 @@ module _ (count : ℕ) where
         partner = r.partner;
       })
 
-  receive-taken : (k : ReceiveStep) (p : Port) → port_in_range count p ≡ true → port_in_range count (receive_taken k p) ≡ true
-  receive-taken receive.Stay p e = e
-  receive-taken (receive.Enter Initialize) p e = initialized-ranged p e
-  receive-taken (receive.Enter PortDisabled) p e = disabled_ranged p e
-  receive-taken (receive.Enter Expired) p e = expired-ranged p e
-  receive-taken (receive.Enter LacpDisabled) p e = off_ranged p e
-  receive-taken (receive.Enter Defaulted) p e = defaulted-ranged p e
-  receive-taken (receive.Enter Current) p e = e
+  receive-taken : (k : Option Receive) (p : Port) → port_in_range count p ≡ true → port_in_range count (receive_taken k p) ≡ true
+  receive-taken None p e = e
+  receive-taken (Some Initialize) p e = initialized-ranged p e
+  receive-taken (Some PortDisabled) p e = disabled_ranged p e
+  receive-taken (Some Expired) p e = expired-ranged p e
+  receive-taken (Some LacpDisabled) p e = off_ranged p e
+  receive-taken (Some Defaulted) p e = defaulted-ranged p e
+  receive-taken (Some Current) p e = e
 
   pub receive-ranged : (p : Port) → port_in_range count p ≡ true → port_in_range count (receive_run p) ≡ true
   unfolding receive_run receive_step

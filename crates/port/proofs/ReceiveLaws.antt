@@ -4,12 +4,11 @@ use Prim.Native.Nat.{ℕ}
 use mathlib.Core.Path.{◌≡◌, refl, ap, ◌∙◌}
 use mathlib.Core.Bool.{Bool, true, false, cond}
 use native.Mathlib.Omega.{arith}
+use Rattle.std.specs.Prelude.{Option, Some, None}
 use Rattle.frame.specs.declared.block.Block.{Block}
 use Rattle.machine.specs.declared.states.Receive.{Receive}
 use Rattle.machine.specs.declared.states.Receive.TheVariants.{Initialize, PortDisabled, Expired, LacpDisabled, Defaulted, Current}
 use Rattle.machine.specs.declared.states.Selection.TheVariants.{Unselected, Selected}
-use Rattle.machine.specs.declared.receive.ReceiveStep.{ReceiveStep}
-use Rattle.machine.specs.declared.receive.ReceiveStep.TheVariants.{Stay, Enter}
 use Rattle.machine.specs.Receive.{receive_next}
 use Rattle.machine.specs.States.{ticks}
 use Rattle.machine.specs.Time.{ran_out}
@@ -36,11 +35,11 @@ step : {p : Port} {s : Receive} {up full out : Bool} → Seen p s up full out �
 unfolding receive_step receive_choice
 step h = rw (h.state, h.link, h.duplex, h.timer)
 
-moves : {p : Port} {s : Receive} {up full out : Bool} (n : Receive) → Seen p s up full out → receive_next s up full out ≡ Enter n → receive_step p ≡ receive_entered n p
-moves {p} n h e = step h ∙ ap (λ (k : ReceiveStep). receive_taken k p) e
+moves : {p : Port} {s : Receive} {up full out : Bool} (n : Receive) → Seen p s up full out → receive_next s up full out ≡ Some n → receive_step p ≡ receive_entered n p
+moves {p} n h e = step h ∙ ap (λ (k : Option Receive). receive_taken k p) e
 
-stays : {p : Port} {s : Receive} {up full out : Bool} → Seen p s up full out → receive_next s up full out ≡ Stay → receive_step p ≡ p
-stays {p} h e = step h ∙ ap (λ (k : ReceiveStep). receive_taken k p) e
+stays : {p : Port} {s : Receive} {up full out : Bool} → Seen p s up full out → receive_next s up full out ≡ None → receive_step p ≡ p
+stays {p} h e = step h ∙ ap (λ (k : Option Receive). receive_taken k p) e
 
 -- what is seen after entering a state
 in_disabled : {p : Port} {s : Receive} {up full out : Bool} → Seen p s up full out → Seen (port_disabled p) PortDisabled up full true
@@ -76,7 +75,7 @@ one : (p x : Port) → receive_step p ≡ x → receive_step x ≡ x → receive
 one p x a b = resting p x x a b b
 
 -- a link that is down
-falls : {p : Port} {s : Receive} {full out : Bool} → Seen p s false full out → receive_next s false full out ≡ Enter PortDisabled → receive_step (receive_run p) ≡ receive_run p
+falls : {p : Port} {s : Receive} {full out : Bool} → Seen p s false full out → receive_next s false full out ≡ Some PortDisabled → receive_step (receive_run p) ≡ receive_run p
 falls {p} h e = one p (port_disabled p) (moves PortDisabled h e) (stays (in_disabled h) refl)
 
 at_rest : {p : Port} (s : Receive) (up full out : Bool) → Seen p s up full out → receive_step (receive_run p) ≡ receive_run p
@@ -111,18 +110,18 @@ unfolding receive_run
 receive-idle p e = ap receive_step e ∙ e
 
 -- a step, and a run of one step, by what the machine chooses
-pub step_stays : (p : Port) → receive_choice p ≡ Stay → receive_step p ≡ p
+pub step_stays : (p : Port) → receive_choice p ≡ None → receive_step p ≡ p
 unfolding receive_step
 step_stays p e = rw e
 
-step-enters : (p : Port) (r : Receive) → receive_choice p ≡ Enter r → receive_step p ≡ receive_entered r p
+step-enters : (p : Port) (r : Receive) → receive_choice p ≡ Some r → receive_step p ≡ receive_entered r p
 unfolding receive_step
 step-enters p r e = rw e
 
-pub run-stays : (p : Port) → receive_choice p ≡ Stay → receive_run p ≡ p
+pub run-stays : (p : Port) → receive_choice p ≡ None → receive_run p ≡ p
 run-stays p e = receive-idle p (step_stays p e)
 
-pub run_enters : (p : Port) (r : Receive) → receive_choice p ≡ Enter r → receive_choice (receive_entered r p) ≡ Stay → receive_run p ≡ receive_entered r p
+pub run_enters : (p : Port) (r : Receive) → receive_choice p ≡ Some r → receive_choice (receive_entered r p) ≡ None → receive_run p ≡ receive_entered r p
 unfolding receive_run
 run_enters p r e f = ap receive_step (step-enters p r e) ∙ step_stays (receive_entered r p) f
 

@@ -4,6 +4,7 @@ use Prim.Native.Nat.{ℕ}
 use mathlib.Core.Path.{◌≡◌, refl, sym, ap, ◌∙◌, subst}
 use mathlib.Core.Bool.{Bool, true, false, cond, not, ◌&&◌, ◌||◌, true≢false, false≢true}
 use borrow.Author.Tests.{not-true}
+use Rattle.std.specs.Prelude.{Option, Some, None}
 use Rattle.octets.proofs.RangeLaws.{both_true}
 use Rattle.frame.specs.declared.block.Block.{Block}
 use Rattle.frame.specs.declared.block.SystemId.{SystemId}
@@ -14,8 +15,6 @@ use Rattle.machine.specs.declared.states.Periodic.{Periodic}
 use Rattle.machine.specs.declared.states.Ticks.{Ticks}
 use Rattle.machine.specs.declared.states.Receive.{Receive}
 use Rattle.machine.specs.declared.states.Receive.TheVariants.{Initialize, PortDisabled, Expired, LacpDisabled, Defaulted, Current}
-use Rattle.machine.specs.declared.receive.ReceiveStep.{ReceiveStep}
-use Rattle.machine.specs.declared.receive.ReceiveStep.TheVariants.{Stay, Enter}
 use Rattle.machine.specs.Ages.{ages_ticked}
 use Rattle.machine.specs.Compare.{same_party, same_view}
 use Rattle.machine.specs.Receive.{is_disabled, receive_next}
@@ -55,9 +54,9 @@ entered-aside LacpDisabled p = unfold lacp_disabled record_default in refl
 entered-aside Defaulted p = unfold defaulted update_default_selected update_selected in default-aside (same_party p.own.default p.partner) p
 entered-aside Current p = refl
 
-taken_aside : (k : ReceiveStep) (p : Port) → aside (receive_taken k p) ≡ aside p
-taken_aside Stay p = refl
-taken_aside (Enter s) p = entered-aside s p
+taken_aside : (k : Option Receive) (p : Port) → aside (receive_taken k p) ≡ aside p
+taken_aside None p = refl
+taken_aside (Some s) p = entered-aside s p
 
 run-aside : (p : Port) → aside (receive_run p) ≡ aside p
 unfolding receive_run receive_step
@@ -146,7 +145,7 @@ step_is p s up full out a b c d = rw (a, b, c, d)
 -- at rest as it is
 here : (p : Port) (s : Receive) (up full out : Bool) → p.phase.receive ≡ s → p.line.up ≡ up → p.line.full ≡ full → ran_out p.timers.current ≡ out
     → goes_with (record { up = up; full = full }) s ≡ true → (is_unheard s ≡ true → p.partner.state.synchronization ≡ false)
-    → receive_next s up full out ≡ Stay → CurrentTimed p → ReceiveRests (receive_part (receive_run p))
+    → receive_next s up full out ≡ None → CurrentTimed p → ReceiveRests (receive_part (receive_run p))
 here p s up full out a b c d g u n t =
     let r : ReceiveRests (receive_part p) = record { state = rw (a, b, c) g; unheard = λ e. u (ap is_unheard (sym a) ∙ e); stays = rw (a, b, c, d) n; timed = t } in
     entered p p (stays-idle p r) r
@@ -320,9 +319,9 @@ entered-line LacpDisabled p = unfold lacp_disabled record_default in refl
 entered-line Defaulted p = defaulted-line p
 entered-line Current p = refl
 
-taken-line : (k : ReceiveStep) (p : Port) → (receive_taken k p).line ≡ p.line
-taken-line Stay p = refl
-taken-line (Enter s) p = entered-line s p
+taken-line : (k : Option Receive) (p : Port) → (receive_taken k p).line ≡ p.line
+taken-line None p = refl
+taken-line (Some s) p = entered-line s p
 
 pub run-line : (p : Port) → (receive_run p).line ≡ p.line
 unfolding receive_run receive_step

@@ -3,13 +3,13 @@
 use mathlib.Core.Path.{◌≡◌, refl, sym, ap, ◌∙◌, subst}
 use mathlib.Core.Bool.{Bool, true, false, not, ◌&&◌, true≢false, false≢true}
 use borrow.Author.Tests.{eqb-true}
+use Rattle.std.specs.Prelude.{None}
 use Rattle.machine.specs.declared.states.Line.{Line}
 use Rattle.machine.specs.declared.states.Ticks.{Ticks}
 use Rattle.machine.specs.declared.states.Receive.{Receive}
 use Rattle.machine.specs.declared.states.Periodic.{Periodic}
 use Rattle.machine.specs.declared.states.Periodic.TheVariants.{NoPeriodic, FastPeriodic, SlowPeriodic, PeriodicTx}
 use Rattle.machine.specs.declared.states.Mux.{Mux}
-use Rattle.machine.specs.declared.receive.ReceiveStep.TheVariants as receive
 use Rattle.machine.specs.Receive.{receive_next}
 use Rattle.machine.specs.Periodic.{periodic_next, periodic_rests}
 use Rattle.machine.specs.Mux.{waits}
@@ -75,7 +75,7 @@ mux_part p = record {
 pub record ReceiveRests (v : ReceivePart) : Type 0 where
   pub state : goes_with v.line v.state ≡ true
   pub unheard : is_unheard v.state ≡ true → v.synced ≡ false
-  pub stays : receive_next v.state v.line.up v.line.full (ran_out v.timer) ≡ receive.Stay
+  pub stays : receive_next v.state v.line.up v.line.full (ran_out v.timer) ≡ None
   pub timed : Timed (uses_current v.state) long_timeout_time v.timer
 
 abbrev pub PeriodicPartTimed : PeriodicPart → Type 0

@@ -4,19 +4,17 @@ use Prim.Native.Nat.{ℕ, ◌-◌, ◌≤◌}
 use mathlib.Core.Path.{◌≡◌, refl}
 use mathlib.Core.Bool.{Bool, true, false, cond, true≢false}
 use native.Mathlib.Omega.{arith}
+use Rattle.std.specs.Prelude.{Option, Some, None}
 use Rattle.frame.specs.declared.block.Block.{Block}
 use Rattle.frame.specs.declared.block.SystemId.{SystemId}
+use Rattle.machine.specs.declared.states.Mux.{Mux}
+use Rattle.machine.specs.declared.states.Periodic.{Periodic}
+use Rattle.machine.specs.declared.states.Receive.{Receive}
 use Rattle.machine.specs.declared.states.Receive.TheVariants.{Initialize, PortDisabled, Expired, LacpDisabled, Defaulted, Current}
 use Rattle.machine.specs.declared.states.Line.{Line}
-use Rattle.machine.specs.declared.receive.ReceiveStep.{ReceiveStep}
-use Rattle.machine.specs.declared.receive.ReceiveStep.TheVariants as receive
 use Rattle.machine.specs.declared.states.Periodic.TheVariants.{NoPeriodic, FastPeriodic, SlowPeriodic, PeriodicTx}
 use Rattle.machine.specs.declared.states.Mux.TheVariants.{Detached, Waiting, Attached, Collecting, Distributing}
 use Rattle.machine.specs.declared.states.Ticks.{Ticks}
-use Rattle.machine.specs.declared.periodic.PeriodicStep.{PeriodicStep}
-use Rattle.machine.specs.declared.periodic.PeriodicStep.TheVariants as periodic
-use Rattle.machine.specs.declared.mux.MuxStep.{MuxStep}
-use Rattle.machine.specs.declared.mux.MuxStep.TheVariants as mux
 use Rattle.machine.specs.Time.{fallen, long_timeout_time}
 use Rattle.machine.specs.States.{ticks}
 use Rattle.port.specs.declared.record.Port.{Port}
@@ -36,12 +34,12 @@ halted used most = record { within = omega arith; stopped = λ e. refl }
 
 -- ---- the periodic timer
 
-periodic_taken-timed : (k : PeriodicStep) (p : Port) → PeriodicTimed p → PeriodicTimed (periodic_taken k p)
-periodic_taken-timed periodic.Stay p h = h
-periodic_taken-timed (periodic.Enter NoPeriodic) p h = halted _ _
-periodic_taken-timed (periodic.Enter FastPeriodic) p h = running _ _ (omega arith)
-periodic_taken-timed (periodic.Enter SlowPeriodic) p h = running _ _ (omega arith)
-periodic_taken-timed (periodic.Enter PeriodicTx) p h = halted _ _
+periodic_taken-timed : (k : Option Periodic) (p : Port) → PeriodicTimed p → PeriodicTimed (periodic_taken k p)
+periodic_taken-timed None p h = h
+periodic_taken-timed (Some NoPeriodic) p h = halted _ _
+periodic_taken-timed (Some FastPeriodic) p h = running _ _ (omega arith)
+periodic_taken-timed (Some SlowPeriodic) p h = running _ _ (omega arith)
+periodic_taken-timed (Some PeriodicTx) p h = halted _ _
 
 periodic_step-timed : (p : Port) → PeriodicTimed p → PeriodicTimed (periodic_step p)
 unfolding periodic_step
@@ -53,13 +51,13 @@ periodic_run-timed p h = periodic_step-timed (periodic_step p) (periodic_step-ti
 
 -- ---- the wait timer
 
-wait-taken : (k : MuxStep) (p : Port) → WaitTimed p → WaitTimed (mux_taken k p)
-wait-taken mux.Stay p h = h
-wait-taken (mux.Enter Detached) p h = halted _ _
-wait-taken (mux.Enter Waiting) p h = running _ _ (omega arith)
-wait-taken (mux.Enter Attached) p h = halted _ _
-wait-taken (mux.Enter Collecting) p h = halted _ _
-wait-taken (mux.Enter Distributing) p h = halted _ _
+wait-taken : (k : Option Mux) (p : Port) → WaitTimed p → WaitTimed (mux_taken k p)
+wait-taken None p h = h
+wait-taken (Some Detached) p h = halted _ _
+wait-taken (Some Waiting) p h = running _ _ (omega arith)
+wait-taken (Some Attached) p h = halted _ _
+wait-taken (Some Collecting) p h = halted _ _
+wait-taken (Some Distributing) p h = halted _ _
 
 pub wait-step : (ready : Bool) (p : Port) → WaitTimed p → WaitTimed (mux_step ready p)
 unfolding mux_step
@@ -100,14 +98,14 @@ unfolding current
 current-timed us a b p = running _ _ (time-le p.actor.timeout)
 
 -- so a step of the machine keeps it, and so do an LACPDU, a moved partner and a link or duplex change
-receive-taken : (k : ReceiveStep) (p : Port) → CurrentTimed p → CurrentTimed (receive_taken k p)
-receive-taken receive.Stay p h = h
-receive-taken (receive.Enter Initialize) p h = initialized-timed p
-receive-taken (receive.Enter PortDisabled) p h = disabled_timed p
-receive-taken (receive.Enter Expired) p h = expired-timed p
-receive-taken (receive.Enter LacpDisabled) p h = off_timed p
-receive-taken (receive.Enter Defaulted) p h = defaulted-timed p
-receive-taken (receive.Enter Current) p h = h
+receive-taken : (k : Option Receive) (p : Port) → CurrentTimed p → CurrentTimed (receive_taken k p)
+receive-taken None p h = h
+receive-taken (Some Initialize) p h = initialized-timed p
+receive-taken (Some PortDisabled) p h = disabled_timed p
+receive-taken (Some Expired) p h = expired-timed p
+receive-taken (Some LacpDisabled) p h = off_timed p
+receive-taken (Some Defaulted) p h = defaulted-timed p
+receive-taken (Some Current) p h = h
 
 receive_step-timed : (p : Port) → CurrentTimed p → CurrentTimed (receive_step p)
 unfolding receive_step

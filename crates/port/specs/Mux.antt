@@ -1,23 +1,21 @@
 -- The Mux machine on a record (43.4.15), and steps 3 to 6 (R4) for one port.
-use Rattle.std.specs.Prelude.{◌≡◌, Bool, false, cond, ◌||◌, List, [], ◌∷◌, ℕ}
+use Rattle.std.specs.Prelude.{◌≡◌, Bool, false, cond, ◌||◌, List, [], ◌∷◌, ℕ, Option, Some, None, is_none}
 use Rattle.machine.specs.declared.states.Mux.{Mux}
 use Rattle.machine.specs.declared.states.Mux.TheVariants.{Detached, Waiting, Attached, Collecting, Distributing}
 use Rattle.machine.specs.declared.states.Selection.TheVariants.{Unselected, Selected}
 use Rattle.port.specs.declared.record.Port.{Port}
-use Rattle.machine.specs.declared.mux.MuxStep.{MuxStep}
-use Rattle.machine.specs.declared.mux.MuxStep.TheVariants.{Stay, Enter}
-use Rattle.machine.specs.Mux.{mux_next, mux_stays, waits, is_attached, collects, distributes, mux_bits, sets_ntt, wait_time}
+use Rattle.machine.specs.Mux.{mux_next, waits, is_attached, collects, distributes, mux_bits, sets_ntt, wait_time}
 use Rattle.port.specs.Record.{with_mux, with_wait, with_ntt, with_actor, with_aggregator, with_selected}
 
 -- the actions on entry
 abbrev pub mux_entered : Mux → Port → Port
 mux_entered m p = with_mux (with_wait (with_ntt (with_actor p (mux_bits m p.actor)) (sets_ntt m || p.ntt)) (wait_time m)) m
 
-abbrev pub mux_taken : MuxStep → Port → Port
-mux_taken Stay p = p
-mux_taken (Enter m) p = mux_entered m p
+abbrev pub mux_taken : Option Mux → Port → Port
+mux_taken None p = p
+mux_taken (Some m) p = mux_entered m p
 
-unfoldable pub mux_choice : Bool → Port → MuxStep
+unfoldable pub mux_choice : Bool → Port → Option Mux
 mux_choice ready p = mux_next p.phase.mux p.phase.selected ready p.partner.state.synchronization p.partner.state.collecting
 
 unfoldable pub mux_step : Bool → Port → Port
@@ -41,7 +39,7 @@ mux_run p = mux_step false (mux_step false p)
 
 -- whether step 6 leaves the machine where it is (law `mux-gives-back`)
 unfoldable pub rests_mux : Port → Bool
-rests_mux p = mux_stays (mux_choice false p)
+rests_mux p = is_none (mux_choice false p)
 
 -- the states that lead down to DETACHED, in their order (figure 43-13), and a port that enters some states one after the other
 abbrev pub descent : Mux → List Mux

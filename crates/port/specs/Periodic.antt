@@ -1,9 +1,7 @@
 -- The Periodic Transmission machine (43.4.13, figure 43-11).
-use Rattle.std.specs.Prelude.{Bool, not, ◌&&◌, ◌||◌}
+use Rattle.std.specs.Prelude.{Bool, not, ◌&&◌, ◌||◌, Option, Some, None}
 use Rattle.machine.specs.declared.states.Periodic.{Periodic}
 use Rattle.port.specs.declared.record.Port.{Port}
-use Rattle.machine.specs.declared.periodic.PeriodicStep.{PeriodicStep}
-use Rattle.machine.specs.declared.periodic.PeriodicStep.TheVariants.{Stay, Enter}
 use Rattle.machine.specs.States.{quiet_on}
 use Rattle.machine.specs.Periodic.{periodic_next, periodic_rests, periodic_time, is_tx}
 use Rattle.port.specs.Record.{with_periodic, with_periodic_timer, with_ntt}
@@ -21,11 +19,11 @@ quiet p = quiet_on p.line (both_passive p)
 abbrev pub periodic_entered : Periodic → Port → Port
 periodic_entered s p = with_ntt (with_periodic_timer (with_periodic p s) (periodic_time s)) (is_tx s || p.ntt)
 
-abbrev pub periodic_taken : PeriodicStep → Port → Port
-periodic_taken Stay p = p
-periodic_taken (Enter s) p = periodic_entered s p
+abbrev pub periodic_taken : Option Periodic → Port → Port
+periodic_taken None p = p
+periodic_taken (Some s) p = periodic_entered s p
 
-unfoldable pub periodic_choice : Port → PeriodicStep
+unfoldable pub periodic_choice : Port → Option Periodic
 periodic_choice p = periodic_next p.phase.periodic (quiet p) (ran_out p.timers.periodic) p.partner.state.timeout
 
 unfoldable pub periodic_step : Port → Port

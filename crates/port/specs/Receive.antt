@@ -1,5 +1,5 @@
 -- The Receive machine (43.4.12, figure 43-10) and its functions (43.4.9). The current-while timer belongs to EXPIRED and CURRENT.
-use Rattle.std.specs.Prelude.{ℕ, Bool, true, false, cond, not, ◌&&◌, ◌||◌}
+use Rattle.std.specs.Prelude.{ℕ, Bool, true, false, cond, not, ◌&&◌, ◌||◌, Option, Some, None, is_none}
 use Rattle.frame.specs.declared.block.Block.{Block}
 use Rattle.frame.specs.declared.block.SystemId.{SystemId}
 use Rattle.frame.specs.declared.state.PortState.{PortState}
@@ -11,10 +11,8 @@ use Rattle.machine.specs.declared.states.Receive.TheVariants.{Initialize, PortDi
 use Rattle.machine.specs.declared.states.Selection.TheVariants.{Unselected}
 use Rattle.machine.specs.declared.states.Line.{Line}
 use Rattle.port.specs.declared.record.Port.{Port}
-use Rattle.machine.specs.declared.receive.ReceiveStep.{ReceiveStep}
-use Rattle.machine.specs.declared.receive.ReceiveStep.TheVariants.{Stay, Enter}
 use Rattle.machine.specs.States.{ticks}
-use Rattle.machine.specs.Receive.{is_current, receive_next, receive_stays}
+use Rattle.machine.specs.Receive.{is_current, receive_next}
 use Rattle.port.specs.Record.{with_receive, with_selected, with_current, with_ntt, with_actor, with_partner, with_line, actor_block}
 use Rattle.port.specs.Absent.{no_block}
 use Rattle.machine.specs.Bits.{with_timeout, with_aggregation, with_synchronization, with_defaulted, with_expired}
@@ -120,11 +118,11 @@ receive_entered LacpDisabled p = lacp_disabled p
 receive_entered Defaulted p = defaulted p
 receive_entered Current p = p
 
-abbrev pub receive_taken : ReceiveStep → Port → Port
-receive_taken Stay p = p
-receive_taken (Enter s) p = receive_entered s p
+abbrev pub receive_taken : Option Receive → Port → Port
+receive_taken None p = p
+receive_taken (Some s) p = receive_entered s p
 
-unfoldable pub receive_choice : Port → ReceiveStep
+unfoldable pub receive_choice : Port → Option Receive
 receive_choice p = receive_next p.phase.receive p.line.up p.line.full (ran_out p.timers.current)
 
 unfoldable pub receive_step : Port → Port
@@ -136,7 +134,7 @@ receive_run p = receive_step (receive_step p)
 
 -- whether the machine leaves the record as it is (law `receive-gives-back`)
 unfoldable pub rests_receive : Port → Bool
-rests_receive p = receive_stays (receive_choice p)
+rests_receive p = is_none (receive_choice p)
 
 -- ---- events
 

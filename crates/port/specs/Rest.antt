@@ -1,9 +1,8 @@
 -- A port at rest, as every call leaves each: its machines rest in the states that go with its link and duplex.
-use Rattle.std.specs.Prelude.{◌≡◌, Bool, true, false, not, ◌&&◌}
+use Rattle.std.specs.Prelude.{◌≡◌, Bool, true, false, not, ◌&&◌, None}
 use Rattle.machine.specs.declared.states.Line.{Line}
 use Rattle.machine.specs.declared.states.Receive.{Receive}
 use Rattle.machine.specs.declared.states.Receive.TheVariants.{Initialize, PortDisabled, Expired, LacpDisabled, Defaulted, Current}
-use Rattle.machine.specs.declared.receive.ReceiveStep.TheVariants.{Stay}
 use Rattle.port.specs.declared.record.Port.{Port}
 use Rattle.port.specs.Receive.{receive_choice}
 use Rattle.port.specs.Periodic.{periodic_step}
@@ -33,7 +32,7 @@ pub record Resting (p : Port) : Type 0 where
   -- in which it is clear as long as they last
   pub unheard : is_unheard p.phase.receive ≡ true → p.partner.state.synchronization ≡ false
   -- no step of the receive machine applies, and none of the periodic machine changes anything
-  pub receive : receive_choice p ≡ Stay
+  pub receive : receive_choice p ≡ None
   pub periodic : periodic_step p ≡ p
   pub says : SaysMux p
   -- a timer that its state does not use holds 0, and one that it uses is within its time

@@ -4,7 +4,6 @@ ghost use Rattle.machine.specs.declared.states.Mux.TheVariants.{Detached};
 ghost use Rattle.port.specs.Mux.{mux_entered, mux_choice, mux_step, detached, placed, attached_if, mux_run};
 
 use crate::record::Port;
-use machine::mux::MuxStep;
 use machine::states::{Mux, Selection};
 
 impl Port {
@@ -25,7 +24,7 @@ impl Port {
         self
     }
 
-    fn mux_choice(self, ready: bool) -> MuxStep
+    fn mux_choice(self, ready: bool) -> Option<Mux>
         ensures { result ≡ mux_choice ready self }
     {
         let h = self.phase;
@@ -44,8 +43,8 @@ impl Port {
         ensures { result ≡ mux_step ready self }
     {
         match self.mux_choice(ready) {
-            MuxStep::Stay => self,
-            MuxStep::Enter(m) => self.enter_mux(m),
+            None => self,
+            Some(m) => self.enter_mux(m),
         }
     }
 

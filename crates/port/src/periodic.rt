@@ -3,7 +3,6 @@ ghost use Rattle.std.specs.Prelude.{◌≡◌};
 ghost use Rattle.port.specs.Periodic.{periodic_entered, periodic_choice, periodic_step, periodic_run};
 
 use crate::record::Port;
-use machine::periodic::PeriodicStep;
 use machine::states::Periodic;
 
 impl Port {
@@ -21,7 +20,7 @@ impl Port {
         self
     }
 
-    fn periodic_choice(self) -> PeriodicStep
+    fn periodic_choice(self) -> Option<Periodic>
         ensures { result ≡ periodic_choice self }
     {
         let h = self.phase;
@@ -41,8 +40,8 @@ impl Port {
         ensures { result ≡ periodic_step self }
     {
         match self.periodic_choice() {
-            PeriodicStep::Stay => self,
-            PeriodicStep::Enter(s) => self.enter_periodic(s),
+            None => self,
+            Some(s) => self.enter_periodic(s),
         }
     }
 

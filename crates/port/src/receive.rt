@@ -10,7 +10,7 @@ use crate::record::Port;
 use frame::block::{Block, SystemId};
 use frame::wire::Source;
 use machine::compare::{in_sync, same_block, same_party, same_view};
-use machine::receive::{ReceiveStep, SHORT_TIMEOUT_TIME, is_current, timeout_time};
+use machine::receive::{SHORT_TIMEOUT_TIME, is_current, timeout_time};
 use machine::states::{Line, Receive, Selection, Ticks};
 
 // Defaulted, by what is recorded.
@@ -159,7 +159,7 @@ impl Port {
         }
     }
 
-    fn receive_choice(self) -> ReceiveStep
+    fn receive_choice(self) -> Option<Receive>
         ensures { result ≡ receive_choice self }
     {
         let h = self.phase;
@@ -172,8 +172,8 @@ impl Port {
         ensures { result ≡ receive_step self }
     {
         match self.receive_choice() {
-            ReceiveStep::Stay => self,
-            ReceiveStep::Enter(s) => self.enter_receive(s),
+            None => self,
+            Some(s) => self.enter_receive(s),
         }
     }
 
@@ -183,8 +183,8 @@ impl Port {
     {
         let p = self.receive_step();
         match p.receive_choice() {
-            ReceiveStep::Stay => p,
-            ReceiveStep::Enter(_) => p.receive_step(),
+            None => p,
+            Some(s) => p.enter_receive(s),
         }
     }
 

@@ -3,10 +3,10 @@ use mathlib.Core.Path.{sym, ◌∙◌}
 use Rattle.port.specs.Mux.{mux_step}
 use Rattle.port.proofs.record.Port.mux_step.Goals as goal
 
-pub returns-in-Stay : goal.returns-in-Stay
+pub returns-in-None : goal.returns-in-None
 unfolding mux_step
-returns-in-Stay c = rw (sym c.mux_choice.ensures ∙ c.in-Stay.is)
+returns-in-None c = rw (sym c.mux_choice.ensures ∙ c.in-None.is)
 
-pub returns-in-Enter : goal.returns-in-Enter
+pub returns-in-Some : goal.returns-in-Some
 unfolding mux_step
-returns-in-Enter c = rw (sym c.mux_choice.ensures ∙ c.in-Enter.is, c.enter_mux.ensures)
+returns-in-Some c = rw (sym c.mux_choice.ensures ∙ c.in-Some.is, c.enter_mux.ensures)

@@ -3,10 +3,10 @@ use mathlib.Core.Path.{sym, ◌∙◌}
 use Rattle.port.specs.Receive.{receive_step}
 use Rattle.port.proofs.record.Port.receive_step.Goals as goal
 
-pub returns-in-Stay : goal.returns-in-Stay
+pub returns-in-None : goal.returns-in-None
 unfolding receive_step
-returns-in-Stay c = simp (sym c.receive_choice.ensures ∙ c.in-Stay.is)
+returns-in-None c = simp (sym c.receive_choice.ensures ∙ c.in-None.is)
 
-pub returns-in-Enter : goal.returns-in-Enter
+pub returns-in-Some : goal.returns-in-Some
 unfolding receive_step
-returns-in-Enter c = simp (c.enter_receive.ensures, sym c.receive_choice.ensures ∙ c.in-Enter.is)
+returns-in-Some c = simp (c.enter_receive.ensures, sym c.receive_choice.ensures ∙ c.in-Some.is)
