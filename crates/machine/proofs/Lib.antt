@@ -1,3 +1,4 @@
 pub mod CompareLaws
 pub mod OrderLaws
 pub mod RuleLaws
+pub mod CodeLaws

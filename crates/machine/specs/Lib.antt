@@ -7,3 +7,4 @@ pub mod Receive
 pub mod Compare
 pub mod Count
 pub mod Ages
+pub mod Codes

@@ -3,6 +3,7 @@
 #![tactic(auto)]
 
 pub mod ages;
+pub mod codes;
 pub mod compare;
 pub mod count;
 pub mod entry;

@@ -6,7 +6,7 @@ use Rattle.machine.specs.declared.states.Receive.{Receive}
 use Rattle.machine.specs.declared.states.Receive.TheVariants.{PortDisabled, Expired, Defaulted, Current}
 use Rattle.machine.specs.declared.states.Mux.{Mux}
 use Rattle.machine.specs.declared.states.Mux.TheVariants.{Waiting, Attached, Collecting, Distributing}
-use Rattle.table.specs.Codes.{receive_code, mux_code}
+use Rattle.machine.specs.Codes.{receive_code, mux_code}
 use Rattle.table.specs.Layout.{table_size}
 use Rattle.table.specs.Table.{port_at}
 use Rattle.control.specs.declared.answer.Answer.{Answer}

@@ -16,8 +16,10 @@ use Rattle.frame.proofs.RangeLaws.{part-fits, block-octets}
 use Rattle.port.specs.declared.record.Port.{Port}
 use Rattle.table.specs.Layout.{record_size}
 use Rattle.table.specs.Record.{phase_octets, status_octets, timers_octets, ages_octets, own_octets, own_in, encoded, decoded}
-use Rattle.table.specs.Codes.{flag_octet, receive_code, periodic_code, mux_code, selected_code}
-use Rattle.table.proofs.CodeLaws.{flag-back, receive-back, periodic-back, mux-back, selected-back, flag_octet-back, receive_code-back, periodic_code-back, mux_code-back, selected_code-back, flag-within, receive-within, periodic-within, mux-within, selected-within}
+use Rattle.machine.specs.Codes.{receive_code, periodic_code, mux_code, selected_code}
+use Rattle.table.specs.Codes.{flag_octet}
+use Rattle.machine.proofs.CodeLaws.{receive-back, periodic-back, mux-back, selected-back, receive_code-back, periodic_code-back, mux_code-back, selected_code-back}
+use Rattle.table.proofs.CodeLaws.{flag-back, flag_octet-back, flag-within, receive-within, periodic-within, mux-within, selected-within}
 use Rattle.port.specs.Range.{values_in_range, port_in_range}
 use Rattle.port.proofs.RangeLaws.{ranged-values, wait-fits, ages-fit, ranged}
 use Rattle.table.specs.Range.{codes_in_range, record_in_range}

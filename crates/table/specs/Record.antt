@@ -14,7 +14,8 @@ use Rattle.machine.specs.Ages.{ages}
 use Rattle.port.specs.declared.record.Own.{Own}
 use Rattle.port.specs.declared.record.Port.{Port}
 use Rattle.port.specs.Record.{port}
-use Rattle.table.specs.Codes.{flag_octet, flag_of, receive_code, receive_of, periodic_code, periodic_of, mux_code, mux_of, selected_code, selected_of}
+use Rattle.machine.specs.Codes.{receive_code, receive_of, periodic_code, periodic_of, mux_code, mux_of, selected_code, selected_of}
+use Rattle.table.specs.Codes.{flag_octet, flag_of}
 
 -- ---- octets 0 to 3: receive state, periodic state, mux state, Selected
 

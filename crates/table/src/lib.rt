@@ -23,7 +23,6 @@ use crate::record::{
 use machine::states::{Ages, Phase, Ticks, Timers};
 use port::record::Port;
 
-mod codes;
 pub mod layout;
 mod range;
 pub mod record;

@@ -11,14 +11,10 @@ ghost use Rattle.table.specs.Layout.{record_size};
 ghost use Rattle.octets.specs.Octets.{number_octets};
 ghost use Rattle.table.specs.Record.{phase_octets, phase_in, status_octets, line_in, timers_octets, timers_in, ages_octets, ages_in, own_octets, own_in, encoded, decoded};
 
-use crate::codes::{
-    flag_octet, flag_of, mux_code, mux_of, periodic_code, periodic_of, receive_code, receive_of,
-    selected_code, selected_of,
-};
 use crate::layout::RECORD;
 use frame::block::{Address, Block, SystemId};
 use frame::state::PortState;
-use machine::states::{Ages, Line, Phase, Ticks, Timers};
+use machine::states::{Ages, Line, Mux, Periodic, Phase, Receive, Selection, Ticks, Timers};
 use port::record::{Own, Port};
 
 // What the selection rule compares (R10): own key and Aggregation, and the partner's system, key and Aggregation.
@@ -66,18 +62,14 @@ fn write_phase(phase: Phase, out: &mut [u8])
     requires { length out.old ≡ record_size }
     ensures { out.new ≡ put_at 0 (phase_octets phase) out.old }
 {
-    let receive = phase.receive;
-    let periodic = phase.periodic;
-    let mux = phase.mux;
-    let selected = phase.selected;
     octets::put(
         out,
         0,
         &[
-            receive_code(receive),
-            periodic_code(periodic),
-            mux_code(mux),
-            selected_code(selected),
+            u8::from(phase.receive),
+            u8::from(phase.periodic),
+            u8::from(phase.mux),
+            u8::from(phase.selected),
         ],
     );
 }
@@ -88,10 +80,10 @@ pub fn phase_in(s: &[u8]) -> Phase
     ensures { result ≡ phase_in s.now }
 {
     Phase {
-        receive: receive_of(s[0]),
-        periodic: periodic_of(s[1]),
-        mux: mux_of(s[2]),
-        selected: selected_of(s[3]),
+        receive: Receive::from(s[0]),
+        periodic: Periodic::from(s[1]),
+        mux: Mux::from(s[2]),
+        selected: Selection::from(s[3]),
     }
 }
 
@@ -105,9 +97,9 @@ fn write_status(aggregator: u8, ntt: bool, line: Line, actor: PortState, out: &m
         4,
         &[
             aggregator,
-            flag_octet(ntt),
-            flag_octet(line.up),
-            flag_octet(line.full),
+            u8::from(ntt),
+            u8::from(line.up),
+            u8::from(line.full),
             actor.octet(),
         ],
     );
@@ -126,7 +118,7 @@ pub fn ntt_in(s: &[u8]) -> bool
     requires { length s.now ≡ record_size }
     ensures { result ≡ flag_of (get_or s.now 5 0) }
 {
-    flag_of(s[5])
+    s[5] == 1
 }
 
 // Link and duplex in octets 6 and 7.
@@ -135,8 +127,8 @@ pub fn line_in(s: &[u8]) -> Line
     ensures { result ≡ line_in s.now }
 {
     Line {
-        up: flag_of(s[6]),
-        full: flag_of(s[7]),
+        up: s[6] == 1,
+        full: s[7] == 1,
     }
 }
 
@@ -286,7 +278,7 @@ pub fn read_record(s: &[u8]) -> Port
     Port {
         phase: phase_in(s),
         aggregator: s[4],
-        ntt: flag_of(s[5]),
+        ntt: s[5] == 1,
         line: line_in(s),
         actor: PortState::of_octet(s[8]),
         timers: timers_in(s),
