@@ -371,7 +371,7 @@ MUTANTS = [
         ("port/specs/Mux.antt", "detached p = mux_step false (mux_step false (mux_step false (with_selected p Unselected)))",
          "detached p = mux_step false (mux_step false (mux_step false (with_selected p Selected)))"),)),
     Mutant("7 reports", "what is due without the limit of three sends", ("due-barred", "due_as_fetched"), "", (
-        ("port/specs/Transmit.antt", "goes Barred = false", "goes Barred = true"),)),
+        ("port/specs/Transmit.antt", "goes (Err Barred) = false", "goes (Err Barred) = true"),)),
     Mutant("14 a moved partner is forgotten", "a displaced port that is left as it is", ("forgotten",), "", (
         ("trunk/specs/Displaced.antt", "cond (not (eqb i r) && is_displaced a p) (moved p) p", "cond (not (eqb i r) && is_displaced a p) p p"),)),
     Mutant("15 thinner for a reason", "any other settings make a port UNSELECTED", ("still-carries",), "settings::Settings::regroup", (

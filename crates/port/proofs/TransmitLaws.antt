@@ -1,11 +1,12 @@
 -- What a send, a tick and the clearing of NTT leave alone. Assumes nothing.
 use mathlib.Core.Path.{◌≡◌, refl, sym, ap}
 use mathlib.Core.Bool.{Bool, true, false, cond, not, ◌&&◌, ◌||◌, true≢false}
+use Rattle.std.specs.Prelude.{Ok, Err}
 use Rattle.machine.specs.Ages.{no_send, ages, barred}
 use Rattle.machine.specs.States.{timers, ticks}
 use Rattle.port.specs.declared.record.Port.{Port}
 use Rattle.port.specs.Record.{with_ntt, with_ages, with_timers}
-use Rattle.port.specs.declared.transmit.Due.TheVariants.{Nothing, Barred, Lacpdu}
+use Rattle.port.specs.declared.transmit.Undue.TheVariants.{Nothing, Barred}
 use Rattle.port.specs.Transmit.{due, goes, is_due, sent, silent, ntt_cleared, ticked}
 
 -- a send touches NTT and the ages alone
@@ -57,7 +58,7 @@ pub due-at_once : (p : Port) → is_due p ≡ (p.ntt && (p.line.up && (p.line.fu
 unfolding is_due due
 due-at_once p = by p.ntt p.line.up p.line.full (barred p.ages)
   where
-    by : (n u f b : Bool) → goes (cond (not n || (not u || not f)) Nothing (cond b Barred Lacpdu)) ≡ (n && (u && (f && not b)))
+    by : (n u f b : Bool) → goes (cond (not n || (not u || not f)) (Err Nothing) (cond b (Err Barred) (Ok tt))) ≡ (n && (u && (f && not b)))
     by false u f b = refl
     by true false f b = refl
     by true true false b = refl

@@ -1,8 +1,8 @@
 -- What a fetch needs of one port (43.4.16), the ages of its sends, and a tick of one port.
-use Rattle.std.specs.Prelude.{Bool, true, false, cond, not, ◌&&◌, ◌||◌}
+use Rattle.std.specs.Prelude.{Bool, true, false, cond, not, ◌&&◌, ◌||◌, Result, Ok, Err}
 use Rattle.port.specs.declared.record.Port.{Port}
-use Rattle.port.specs.declared.transmit.Due.{Due}
-use Rattle.port.specs.declared.transmit.Due.TheVariants.{Nothing, Barred, Lacpdu}
+use Rattle.port.specs.declared.transmit.Undue.{Undue}
+use Rattle.port.specs.declared.transmit.Undue.TheVariants.{Nothing, Barred}
 use Rattle.port.specs.Record.{with_ntt, with_ages, with_timers}
 use Rattle.machine.specs.States.{silent_on}
 use Rattle.machine.specs.Time.{timers_fallen}
@@ -12,14 +12,14 @@ use Rattle.port.specs.Mux.{rests_mux}
 use Rattle.port.specs.Receive.{receive_run}
 
 -- R2.10, then R2.11, then an LACPDU is due
-unfoldable pub due : Port → Due
-due p = cond (not p.ntt || (not p.line.up || not p.line.full)) Nothing (cond (barred p.ages) Barred Lacpdu)
+unfoldable pub due : Port → Result (Unit {0}) Undue
+due p = cond (not p.ntt || (not p.line.up || not p.line.full)) (Err Nothing) (cond (barred p.ages) (Err Barred) (Ok tt))
 
 -- an LACPDU, and of a port: one is due
-abbrev pub goes : Due → Bool
-goes Nothing = false
-goes Barred = false
-goes Lacpdu = true
+abbrev pub goes : Result (Unit {0}) Undue → Bool
+goes (Err Nothing) = false
+goes (Err Barred) = false
+goes (Ok tt) = true
 
 unfoldable pub is_due : Port → Bool
 is_due p = goes (due p)

@@ -4,27 +4,25 @@ ghost use Rattle.port.specs.Transmit.{due, sent, ntt_cleared, ticked};
 
 use crate::record::Port;
 
-// What a fetch finds.
-#[derive(Clone, Copy)]
-pub enum Due {
+// Why a fetch finds no LACPDU that is due: there is nothing to say, or three were sent of late.
+#[derive(Clone, Copy, PartialEq, Eq)]
+pub enum Undue {
     Nothing,
     Barred,
-    Lacpdu,
 }
 
 impl Port {
     // Whether an LACPDU is due: NTT, link, LACP on, then the limit of three sends.
-    pub fn due(self) -> Due
+    pub fn due(self) -> Result<(), Undue>
         ensures { result ≡ due self }
     {
         if !self.ntt | (!self.line.up | !self.line.full) {
-            return Due::Nothing;
+            return Err(Undue::Nothing);
         }
-        let ages = self.ages;
-        if ages.is_barred() {
-            return Due::Barred;
+        if self.ages.is_barred() {
+            return Err(Undue::Barred);
         }
-        Due::Lacpdu
+        Ok(())
     }
 
     // An LACPDU went: NTT is cleared and the send remembered.

@@ -1,8 +1,6 @@
 -- `port::record::Port::receive` meets its contract: the second step is taken, or none applies and it changes nothing. Assumes nothing.
-use mathlib.Core.Path.{◌≡◌, sym, ap, ◌∙◌}
-use Rattle.std.specs.Prelude.{None}
-use Rattle.port.specs.declared.record.Port.{Port}
-use Rattle.port.specs.Receive.{receive_choice, receive_step, receive_run}
+use mathlib.Core.Path.{sym, ◌∙◌}
+use Rattle.port.specs.Receive.{receive_step, receive_run}
 use Rattle.port.proofs.record.Port.receive.Goals as goal
 
 pub returns-in-None : goal.returns-in-None
