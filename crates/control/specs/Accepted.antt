@@ -1,18 +1,16 @@
 -- Which answers accept a call (R2).
-use Rattle.std.specs.Prelude.{Bool, true, false}
-use Rattle.control.specs.declared.answer.Answer.{Answer}
-use Rattle.control.specs.declared.answer.Answer.TheVariants.{Done, Lacpdu, Marker, Refused}
+use Rattle.std.specs.Prelude.{Bool, true, false, Result, Ok, Err, is_ok}
+use Rattle.control.specs.declared.answer.Accepted.TheVariants.{Done, Lacpdu, Marker}
+use Rattle.control.specs.declared.answer.Reason.{Reason}
+use Rattle.control.specs.Answer.{Answer}
 
 -- every answer but a refusal
-abbrev pub accepted : Answer → Bool
-accepted Done = true
-accepted Lacpdu = true
-accepted Marker = true
-accepted (Refused r) = false
+abbrev pub accepted : {A : Type 0} → Result A Reason → Bool
+accepted = is_ok
 
 -- an accepted LACPDU
 abbrev pub is_lacpdu : Answer → Bool
-is_lacpdu Done = false
-is_lacpdu Lacpdu = true
-is_lacpdu Marker = false
-is_lacpdu (Refused r) = false
+is_lacpdu (Ok Done) = false
+is_lacpdu (Ok Lacpdu) = true
+is_lacpdu (Ok Marker) = false
+is_lacpdu (Err r) = false

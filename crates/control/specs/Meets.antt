@@ -6,8 +6,7 @@ use Rattle.port.specs.Transmit.{due}
 use Rattle.table.specs.Record.{encoded}
 use Rattle.table.specs.Table.{port_at, state_of, on_octets}
 use Rattle.work.specs.Work.{after_send, lacpdu_of, written_over}
-use Rattle.control.specs.declared.answer.Answer.{Answer}
-use Rattle.control.specs.Answer.{with_room, frame_answer, due_answer}
+use Rattle.control.specs.Answer.{Answer, with_room, frame_answer, due_answer}
 use Rattle.control.specs.Call.{Call, report}
 use Rattle.control.specs.After.{answer, after, outgoing, unless, after_frame, sent_for}
 use Rattle.control.specs.Report.{port_report}

@@ -1,13 +1,13 @@
 // What a call answers.
-ghost use Rattle.std.specs.Prelude.{◌≡◌};
-ghost use Rattle.control.specs.Accepted.{accepted, is_lacpdu};
-ghost use Rattle.control.specs.Answer.{reason_number, answer_number, length_sent};
+ghost use Rattle.std.specs.Prelude.{◌≡◌, ℕ};
+ghost use Rattle.frame.specs.declared.class.Refusal.{Refusal};
+ghost use Rattle.control.specs.declared.answer.Reason.TheVariants.{Frame};
+ghost use Rattle.control.specs.Answer.{reason_number, number_by, length_sent};
 
 use frame::class::{FRAME, Refusal};
-use report::Sets;
 
 // Why a call was refused; `reason_number` gives the answer number of each.
-#[derive(Clone, Copy)]
+#[derive(Clone, Copy, PartialEq, Eq)]
 pub enum Reason {
     // The memory is no table.
     Table,
@@ -31,29 +31,46 @@ pub enum Reason {
     Response,
 }
 
-// What a call answers; `answer_number` gives the number of each, `length_sent` how much is to be sent for a frame.
-#[derive(Clone, Copy)]
-pub enum Answer {
+// How a call was accepted.
+#[derive(Clone, Copy, PartialEq, Eq)]
+pub enum Accepted {
     Done,
     // A received LACPDU was done.
     Lacpdu,
     // A received Marker was done.
     Marker,
-    Refused(Reason),
 }
 
-impl Reason {
-    // The answer number.
-    pub fn number(self) -> u8
-        ensures { result ≡ reason_number self }
-    {
+// What a call answers; `answer_number` gives the number of each, `length_sent` how much is to be sent for a frame.
+pub type Answer = Result<Accepted, Reason>;
+
+impl From<Refusal> for Reason {
+    ghost from_gives = { λ refusal reason. reason ≡ Frame refusal };
+
+    fn from(refusal: Refusal) -> Reason {
+        Reason::Frame(refusal)
+    }
+}
+
+// What has an answer number (R2): a reason its own, and a result 0 or that of its error.
+pub trait Numbered: Copy {
+    ghost number_of: { Self → ℕ };
+
+    fn number(self) -> u8
+        ensures { result ≡ number_of self };
+}
+
+impl Numbered for Reason {
+    ghost number_of = { reason_number };
+
+    fn number(self) -> u8 {
         match self {
             Reason::Table => 1,
             Reason::Number => 2,
             Reason::Buffer => 3,
             Reason::Default => 4,
             Reason::Disabled => 5,
-            Reason::Frame(refusal) => refusal.number(),
+            Reason::Frame(refusal) => u8::from(refusal),
             Reason::NotCollecting => 9,
             Reason::NothingToSend => 10,
             Reason::Barred => 11,
@@ -62,64 +79,23 @@ impl Reason {
     }
 }
 
-impl Answer {
-    // The answer number.
-    pub fn number(self) -> u8
-        ensures { result ≡ answer_number self }
-    {
-        match self {
-            Answer::Done => 0,
-            Answer::Lacpdu => 0,
-            Answer::Marker => 0,
-            Answer::Refused(why) => why.number(),
-        }
-    }
+impl<T: Copy, E: Numbered> Numbered for Result<T, E> {
+    ghost number_of = { number_by E.number_of };
 
-    pub fn is_accepted(self) -> bool
-        ensures { result ≡ accepted self }
-    {
+    fn number(self) -> u8 {
         match self {
-            Answer::Done => true,
-            Answer::Lacpdu => true,
-            Answer::Marker => true,
-            Answer::Refused(_) => false,
-        }
-    }
-
-    pub fn is_lacpdu(self) -> bool
-        ensures { result ≡ is_lacpdu self }
-    {
-        match self {
-            Answer::Done => false,
-            Answer::Lacpdu => true,
-            Answer::Marker => false,
-            Answer::Refused(_) => false,
-        }
-    }
-
-    // The length that was sent for a received frame.
-    pub fn length_sent(self) -> u8
-        ensures { result ≡ length_sent self }
-    {
-        match self {
-            Answer::Done => 0,
-            Answer::Lacpdu => 0,
-            Answer::Marker => FRAME as u8,
-            Answer::Refused(_) => 0,
+            Ok(_) => 0,
+            Err(why) => why.number(),
         }
     }
 }
 
-// The ports of an aggregator; beside a refusal, zeros (R2.20).
-#[derive(Clone, Copy)]
-pub struct AggregatorReport {
-    pub answer: Answer,
-    pub sets: Sets,
-}
-
-// The ports that have something to send; beside a refusal, none.
-#[derive(Clone, Copy)]
-pub struct DueReport {
-    pub answer: Answer,
-    pub ports: u32,
+// The length that was sent for a received frame.
+pub fn length_sent(answer: Answer) -> u8
+    ensures { result ≡ length_sent answer }
+{
+    match answer {
+        Ok(Accepted::Marker) => FRAME as u8,
+        _ => 0,
+    }
 }

@@ -3,16 +3,9 @@ ghost use Rattle.std.specs.Prelude.{◌≡◌, true};
 ghost use Rattle.table.specs.Table.{table_in_range};
 ghost use Rattle.control.specs.Answer.{is_number, found, frame_answer};
 
-use crate::answer::{Answer, Reason};
-use frame::class::Class;
+use crate::answer::{Accepted, Answer, Reason};
+use frame::class::{Kind, Refusal};
 use machine::states::{Line, Mux};
-
-// What the first two tests find: a refusal, or the place of the port, from 0.
-#[derive(Clone, Copy)]
-pub enum Found {
-    Refused(Reason),
-    Port(usize),
-}
 
 // Whether n is the number of a port of the table, and so of an aggregator.
 fn is_number(table: &[u8], n: u32) -> bool
@@ -20,41 +13,40 @@ fn is_number(table: &[u8], n: u32) -> bool
     ensures { result ≡ is_number table.now n }
 {
     let count = table::count(table) as u32;
-    (1 <= n) & (n <= count)
+    (1..=count).contains(&n)
 }
 
-// Answers 1 and 2.
-pub fn find(table: &[u8], n: u32) -> Found
+// Answers 1 and 2, or the place of the port, from 0.
+pub fn find(table: &[u8], n: u32) -> Result<usize, Reason>
     ensures { result ≡ found table.now n }
 {
     if !table::is_table(table) {
-        return Found::Refused(Reason::Table);
+        return Err(Reason::Table);
     }
     if !is_number(table, n) {
-        return Found::Refused(Reason::Number);
+        return Err(Reason::Number);
     }
     let i = n - 1;
-    Found::Port(i as usize)
+    Ok(i as usize)
 }
 
 // Of a frame: what its tests said, and at the end what the port says to it (R2.5, R2.9, R2.12).
-pub fn judge(class: Class, line: Line, mux: Mux) -> Answer
-    ensures { result ≡ frame_answer class line mux }
+pub fn judge(kind: Result<Kind, Refusal>, line: Line, mux: Mux) -> Answer
+    ensures { result ≡ frame_answer kind line mux }
 {
-    match class {
-        Class::Lacpdu => {
+    match kind? {
+        Kind::Lacpdu => {
             if line.up & line.full {
-                return Answer::Lacpdu;
+                return Ok(Accepted::Lacpdu);
             }
-            Answer::Refused(Reason::Disabled)
+            Err(Reason::Disabled)
         }
-        Class::Marker => {
+        Kind::Marker => {
             if mux.collects() | mux.distributes() {
-                return Answer::Marker;
+                return Ok(Accepted::Marker);
             }
-            Answer::Refused(Reason::NotCollecting)
+            Err(Reason::NotCollecting)
         }
-        Class::Response => Answer::Refused(Reason::Response),
-        Class::Refused(why) => Answer::Refused(Reason::Frame(why)),
+        Kind::Response => Err(Reason::Response),
     }
 }

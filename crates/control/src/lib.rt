@@ -8,20 +8,18 @@ ghost use Rattle.control.specs.Call.{start as call_start, receive as call_receiv
 ghost use Rattle.control.specs.Meets.{Meets, MeetsOut, MeetsReceive, MeetsFetch, MeetsPort};
 ghost use Rattle.control.specs.Report.{aggregator_report, due_report};
 
-use crate::answer::{AggregatorReport, Answer, DueReport, Reason};
-use crate::checks::Found;
-use crate::constants::no_sets;
+use crate::answer::{Accepted, Answer, Reason};
 use frame::block::SystemId;
 use frame::class::FRAME;
 use frame::wire::TensOfMicroseconds;
 use machine::states::Line;
 use port::transmit::Due;
+use report::Sets;
 use settings::Settings;
 use table::layout::{Header, RECORD};
 
 pub mod answer;
 mod checks;
-pub mod constants;
 
 // Starts a table of `count` ports in memory of any content; every port begins with these settings.
 pub fn start(
@@ -34,10 +32,10 @@ pub fn start(
     ensures { Meets (call_start count system delay settings) table.old result table.new }
 {
     if !table::is_room(table, count) {
-        return Answer::Refused(Reason::Table);
+        return Err(Reason::Table);
     }
     if !settings.is_lawful() {
-        return Answer::Refused(Reason::Default);
+        return Err(Reason::Default);
     }
     let header = Header {
         count: count as u8,
@@ -45,17 +43,15 @@ pub fn start(
         delay,
     };
     work::begin(table, header, settings);
-    Answer::Done
+    Ok(Accepted::Done)
 }
 
 // A frame was received on port n. The Response to a Marker is written into `out`, and sent by the caller.
 pub fn receive(table: &mut [u8], n: u32, frame: &[u8], out: &mut [u8]) -> Answer
     ensures { MeetsOut (call_receive n frame.now out.old) table.old result table.new out.new }
 {
-    match checks::find(table, n) {
-        Found::Refused(why) => Answer::Refused(why),
-        Found::Port(i) => receive_at(table, i, frame, out),
-    }
+    let i = checks::find(table, n)?;
+    receive_at(table, i, frame, out)
 }
 
 fn receive_at(table: &mut [u8], i: usize, frame: &[u8], out: &mut [u8]) -> Answer
@@ -63,23 +59,19 @@ fn receive_at(table: &mut [u8], i: usize, frame: &[u8], out: &mut [u8]) -> Answe
     ensures { MeetsReceive table.old i frame.now out.old result table.new out.new }
 {
     if out.len() < FRAME {
-        return Answer::Refused(Reason::Buffer);
+        return Err(Reason::Buffer);
     }
     let p = table::load(table, i);
-    let line = p.line;
-    let phase = p.phase;
-    let mux = phase.mux;
-    match checks::judge(frame::class::classify(frame), line, mux) {
-        Answer::Done => Answer::Done,
-        Answer::Lacpdu => {
+    match checks::judge(frame::class::classify(frame), p.line, p.phase.mux)? {
+        Accepted::Done => Ok(Accepted::Done),
+        Accepted::Lacpdu => {
             work::receive(table, i, p, frame);
-            Answer::Lacpdu
+            Ok(Accepted::Lacpdu)
         }
-        Answer::Marker => {
+        Accepted::Marker => {
             work::respond(p, frame, out);
-            Answer::Marker
+            Ok(Accepted::Marker)
         }
-        Answer::Refused(why) => Answer::Refused(why),
     }
 }
 
@@ -88,49 +80,39 @@ pub fn tick(table: &mut [u8]) -> Answer
     ensures { Meets call_tick table.old result table.new }
 {
     if !table::is_table(table) {
-        return Answer::Refused(Reason::Table);
+        return Err(Reason::Table);
     }
     work::advance(table);
-    Answer::Done
+    Ok(Accepted::Done)
 }
 
 // The link of port n is up or down now, and its duplex full or half: one event, and none where both are as they were.
-pub fn line(table: &mut [u8], n: u32, up: bool, full: bool) -> Answer
-    ensures { Meets (call_line n (record { up = up; full = full })) table.old result table.new }
+pub fn line(table: &mut [u8], n: u32, line: Line) -> Answer
+    ensures { Meets (call_line n line) table.old result table.new }
 {
-    match checks::find(table, n) {
-        Found::Refused(why) => Answer::Refused(why),
-        Found::Port(i) => {
-            work::set_line(table, i, Line { up, full });
-            Answer::Done
-        }
-    }
+    let i = checks::find(table, n)?;
+    work::set_line(table, i, line);
+    Ok(Accepted::Done)
 }
 
 // Port n has these settings from now on.
 pub fn configure(table: &mut [u8], n: u32, settings: Settings) -> Answer
     ensures { Meets (call_configure n settings) table.old result table.new }
 {
-    match checks::find(table, n) {
-        Found::Refused(why) => Answer::Refused(why),
-        Found::Port(i) => {
-            if !settings.is_lawful() {
-                return Answer::Refused(Reason::Default);
-            }
-            work::configure(table, i, settings);
-            Answer::Done
-        }
+    let i = checks::find(table, n)?;
+    if !settings.is_lawful() {
+        return Err(Reason::Default);
     }
+    work::configure(table, i, settings);
+    Ok(Accepted::Done)
 }
 
 // The next LACPDU of port n is written into `out`, and sent by the caller.
 pub fn fetch(table: &mut [u8], n: u32, out: &mut [u8]) -> Answer
     ensures { MeetsOut (call_fetch n out.old) table.old result table.new out.new }
 {
-    match checks::find(table, n) {
-        Found::Refused(why) => Answer::Refused(why),
-        Found::Port(i) => fetch_at(table, i, out),
-    }
+    let i = checks::find(table, n)?;
+    fetch_at(table, i, out)
 }
 
 // Mostly nothing is due because NTT is clear, which is seen without the rest of the record.
@@ -139,18 +121,18 @@ fn fetch_at(table: &mut [u8], i: usize, out: &mut [u8]) -> Answer
     ensures { MeetsFetch table.old i out.old result table.new out.new }
 {
     if out.len() < FRAME {
-        return Answer::Refused(Reason::Buffer);
+        return Err(Reason::Buffer);
     }
     if !table::ntt(table, i) {
-        return Answer::Refused(Reason::NothingToSend);
+        return Err(Reason::NothingToSend);
     }
     let p = table::load(table, i);
     match p.due() {
-        Due::Nothing => Answer::Refused(Reason::NothingToSend),
-        Due::Barred => Answer::Refused(Reason::Barred),
+        Due::Nothing => Err(Reason::NothingToSend),
+        Due::Barred => Err(Reason::Barred),
         Due::Lacpdu => {
             work::send(table, i, p, out);
-            Answer::Done
+            Ok(Accepted::Done)
         }
     }
 }
@@ -160,45 +142,31 @@ pub fn report_port(table: &[u8], n: u32, record: &mut [u8]) -> Answer
     ensures { MeetsPort n table.now «record».old result «record».new }
 {
     match checks::find(table, n) {
-        Found::Refused(why) => {
+        Err(why) => {
             octets::put_fitting(record, &[0; RECORD]);
-            Answer::Refused(why)
+            Err(why)
         }
-        Found::Port(i) => {
+        Ok(i) => {
             octets::put_fitting(record, table::look(table, i));
-            Answer::Done
+            Ok(Accepted::Done)
         }
     }
 }
 
 // The ports that hold aggregator n, are attached to it and distribute.
-pub fn report_aggregator(table: &[u8], n: u32) -> AggregatorReport
+pub fn report_aggregator(table: &[u8], n: u32) -> Result<Sets, Reason>
     ensures { result ≡ aggregator_report n table.now }
 {
-    match checks::find(table, n) {
-        Found::Refused(why) => AggregatorReport {
-            answer: Answer::Refused(why),
-            sets: no_sets(),
-        },
-        Found::Port(_) => AggregatorReport {
-            answer: Answer::Done,
-            sets: report::aggregator_of(table, n as u8),
-        },
-    }
+    checks::find(table, n)?;
+    Ok(report::aggregator_of(table, n as u8))
 }
 
 // The ports that have something to send: those whose fetch would be answered 0.
-pub fn report_due(table: &[u8]) -> DueReport
+pub fn report_due(table: &[u8]) -> Result<u32, Reason>
     ensures { result ≡ due_report table.now }
 {
     if !table::is_table(table) {
-        return DueReport {
-            answer: Answer::Refused(Reason::Table),
-            ports: 0,
-        };
+        return Err(Reason::Table);
     }
-    DueReport {
-        answer: Answer::Done,
-        ports: report::due_ports(table),
-    }
+    Ok(report::due_ports(table))
 }
