@@ -36,18 +36,17 @@ pub fn count(table: &[u8]) -> usize
 }
 
 // The part of the table that is record `i`, from 0.
-pub fn record_at(table: &[u8], i: usize) -> &[u8]
+pub fn record_at(table: &[u8], i: usize) -> &[u8; RECORD]
     requires { place i + record_size ≤ length table.now }
-    ensures { (result.now ≡ record_at table.now i) × (length result.now ≡ record_size) }
+    ensures { result.now ≡ record_at table.now i }
 {
-    let at = place_of(i);
-    &table[at..at + RECORD]
+    table[place_of(i)..].first_chunk().unwrap()
 }
 
 // The octets of port `i`, from 0, for a look at some of them.
-pub fn look(table: &[u8], i: usize) -> &[u8]
+pub fn look(table: &[u8], i: usize) -> &[u8; RECORD]
     requires { InTable table.now i }
-    ensures { (decoded result.now ≡ port_at table.now i) × (length result.now ≡ record_size) × (result.now ≡ encoded (port_at table.now i)) }
+    ensures { (decoded result.now ≡ port_at table.now i) × (result.now ≡ encoded (port_at table.now i)) }
 {
     record_at(table, i)
 }

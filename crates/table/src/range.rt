@@ -1,10 +1,10 @@
 // Answer 1's ranges of a record's octets.
-ghost use Rattle.std.specs.Prelude.{◌≡◌, length};
+ghost use Rattle.std.specs.Prelude.{◌≡◌};
 ghost use Rattle.octets.specs.Octets.{within as octets_within};
 ghost use Rattle.port.specs.Range.{timers_in_range, age_in_range, ages_in_range};
-ghost use Rattle.table.specs.Layout.{record_size};
 ghost use Rattle.table.specs.Range.{codes_in_range, record_in_range};
 
+use crate::layout::RECORD;
 use crate::record::{ages_in, aggregator_in, timers_in};
 use machine::ages::{FORGOTTEN_AGE, NO_SEND};
 use machine::entry::AGGREGATE_WAIT_TIME;
@@ -28,8 +28,7 @@ const NO_FLAG: u64 = 0x00fefefe;
 
 // States and flags, four octets at a time: none of the states has its highest bit, nor would with what the greatest code lacks to it, and no flag
 // has a bit beside its lowest.
-fn codes_in_range(s: &[u8]) -> bool
-    requires { length s.now ≡ record_size }
+fn codes_in_range(s: &[u8; RECORD]) -> bool
     ensures { result ≡ codes_in_range s.now }
 {
     let states = octets::word(s, 0);
@@ -60,8 +59,7 @@ fn ages_in_range(ages: Ages) -> bool
 }
 
 // Whether the octets of a record, in a table of `count` ports, are in range.
-pub fn is_record(count: u8, s: &[u8]) -> bool
-    requires { length s.now ≡ record_size }
+pub fn is_record(count: u8, s: &[u8; RECORD]) -> bool
     ensures { result ≡ record_in_range count s.now }
 {
     codes_in_range(s)

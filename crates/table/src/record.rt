@@ -35,8 +35,7 @@ fn aggregation_of(o: u8) -> bool
 }
 
 // They are in octets 8, 23 and 24, and in the partner block, 42 to 56.
-pub(crate) fn keys_in(s: &[u8]) -> Keys
-    requires { length s.now ≡ record_size }
+pub(crate) fn keys_in(s: &[u8; RECORD]) -> Keys
     ensures { compared_by result ≡ compared (decoded s.now) }
 {
     let key = octets::number(s, 23);
@@ -75,8 +74,7 @@ fn write_phase(phase: Phase, out: &mut [u8])
 }
 
 // The states in octets 0 to 3.
-pub fn phase_in(s: &[u8]) -> Phase
-    requires { length s.now ≡ record_size }
+pub fn phase_in(s: &[u8; RECORD]) -> Phase
     ensures { result ≡ phase_in s.now }
 {
     Phase {
@@ -106,24 +104,21 @@ fn write_status(aggregator: u8, ntt: bool, line: Line, actor: PortState, out: &m
 }
 
 // The aggregator held in octet 4.
-pub(crate) fn aggregator_in(s: &[u8]) -> u8
-    requires { length s.now ≡ record_size }
+pub(crate) fn aggregator_in(s: &[u8; RECORD]) -> u8
     ensures { result ≡ get_or s.now 4 0 }
 {
     s[4]
 }
 
 // NTT in octet 5.
-pub fn ntt_in(s: &[u8]) -> bool
-    requires { length s.now ≡ record_size }
+pub fn ntt_in(s: &[u8; RECORD]) -> bool
     ensures { result ≡ flag_of (get_or s.now 5 0) }
 {
     s[5] == 1
 }
 
 // Link and duplex in octets 6 and 7.
-pub fn line_in(s: &[u8]) -> Line
-    requires { length s.now ≡ record_size }
+pub fn line_in(s: &[u8; RECORD]) -> Line
     ensures { result ≡ line_in s.now }
 {
     Line {
@@ -133,8 +128,7 @@ pub fn line_in(s: &[u8]) -> Line
 }
 
 // Actor_Oper_Port_State in octet 8.
-pub fn actor_in(s: &[u8]) -> PortState
-    requires { length s.now ≡ record_size }
+pub fn actor_in(s: &[u8; RECORD]) -> PortState
     ensures { result ≡ port_state_of (get_or s.now 8 0) }
 {
     PortState::of_octet(s[8])
@@ -174,8 +168,7 @@ fn wide(n: u8) -> u16
 }
 
 // The timers in octets 9 to 13.
-pub fn timers_in(s: &[u8]) -> Timers
-    requires { length s.now ≡ record_size }
+pub fn timers_in(s: &[u8; RECORD]) -> Timers
     ensures { result ≡ timers_in s.now }
 {
     let current = Ticks(octets::number(s, 9));
@@ -197,8 +190,7 @@ pub(crate) fn write_ages(ages: Ages, out: &mut [u8])
 }
 
 // The ages in octets 14 to 16.
-pub fn ages_in(s: &[u8]) -> Ages
-    requires { length s.now ≡ record_size }
+pub fn ages_in(s: &[u8; RECORD]) -> Ages
     ensures { result ≡ ages_in s.now }
 {
     Ages {
@@ -222,8 +214,7 @@ fn write_own(own: Own, out: &mut [u8])
 }
 
 // The settings in octets 17 to 41.
-fn own_in(s: &[u8]) -> Own
-    requires { length s.now ≡ record_size }
+fn own_in(s: &[u8; RECORD]) -> Own
     ensures { result ≡ own_in s.now }
 {
     Own {
@@ -235,16 +226,14 @@ fn own_in(s: &[u8]) -> Own
 }
 
 // The state of the partner block in force, in octet 56.
-pub fn partner_in(s: &[u8]) -> PortState
-    requires { length s.now ≡ record_size }
+pub fn partner_in(s: &[u8; RECORD]) -> PortState
     ensures { result ≡ (block_of (part 42 57 s.now)).state }
 {
     PortState::of_octet(s[56])
 }
 
 // The lowest two octets of the partner's system address, 48 and 49: what tells most neighbours apart.
-pub fn neighbour_in(s: &[u8]) -> u16
-    requires { length s.now ≡ record_size }
+pub fn neighbour_in(s: &[u8; RECORD]) -> u16
     ensures { result ≡ (block_of (part 42 57 s.now)).system.address.low }
 {
     octets::number(s, 48)
@@ -271,8 +260,7 @@ pub(crate) fn write_record(p: Port, out: &mut [u8])
 }
 
 // The record that octets tell of.
-pub fn read_record(s: &[u8]) -> Port
-    requires { length s.now ≡ record_size }
+pub fn read_record(s: &[u8; RECORD]) -> Port
     ensures { result ≡ decoded s.now }
 {
     Port {

@@ -18,14 +18,14 @@ pub returns-then-not-is_record : goal.returns-then-not-is_record
 returns-then-not-is_record c =
     let a = c.args in
     let i = c.loop-i.i in
-    let bad = sym (c.is_record.ensures ∙ ap (record_in_range a.count) c.record_at.ensures.0) ∙ c.if-not-is_record.true in
+    let bad = sym (c.is_record.ensures ∙ ap (record_in_range a.count) c.record_at.ensures) ∙ c.if-not-is_record.true in
     sym (first-not a.count a.count a.table.now i (omega arith) bad)
 
 pub loop-i-preserved : goal.loop-i-preserved
 unfolding first_in_range
 loop-i-preserved c =
     let a = c.args in
-    let good = sym (c.is_record.ensures ∙ ap (record_in_range a.count) c.record_at.ensures.0) ∙ c.if-not-is_record.false in
+    let good = sym (c.is_record.ensures ∙ ap (record_in_range a.count) c.record_at.ensures) ∙ c.if-not-is_record.false in
     (search rules, rw add-one (both_true c.loop-i.invariant.1 good))
 
 pub returns : goal.returns

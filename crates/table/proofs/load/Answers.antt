@@ -9,4 +9,4 @@ record_at-requires c = lies _ _ c.requires
 
 pub returns : goal.returns
 unfolding decoded_at
-returns c = rw (port-decoded _ _ c.requires.1, c.read_record.ensures, c.record_at.ensures.0)
+returns c = rw (port-decoded _ _ c.requires.1, c.read_record.ensures, c.record_at.ensures)

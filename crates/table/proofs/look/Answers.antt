@@ -14,8 +14,5 @@ pub returns : goal.returns
 unfolding decoded_at
 returns c =
     let told = c.record_at.ensures in
-    let at = c.requires in (
-      ap decoded told.0 ∙ sym (port-decoded _ _ at.1),
-      told.1,
-      told.0 ∙ record_is _ _ at (λ j. (c.type_inv.table j).fits),
-    )
+    let at = c.requires in
+    (ap decoded told ∙ sym (port-decoded _ _ at.1), told ∙ record_is _ _ at (λ j. (c.type_inv.table j).fits))

@@ -10,4 +10,4 @@ record_at-requires c = lies _ _ c.requires
 
 pub returns : goal.returns
 unfolding decoded_at decoded
-returns c = rw (port-decoded _ _ c.requires.1, c.phase_in.ensures, c.record_at.ensures.0)
+returns c = rw (port-decoded _ _ c.requires.1, c.phase_in.ensures, c.record_at.ensures)
