@@ -3,6 +3,7 @@ use Rattle.std.specs.Prelude.{ℕ, ◌+◌, Bool, ◌&&◌, List, [], ◌∷◌,
 use Rattle.octets.specs.Octets.{number_at, number_octets, fits}
 use Rattle.frame.specs.declared.block.Address.{Address}
 use Rattle.frame.specs.declared.block.Block.{Block}
+use Rattle.frame.specs.declared.block.SystemId.{SystemId}
 use Rattle.frame.specs.State.{state_octet, port_state_of}
 
 abbrev pub address_at : List ℕ → ℕ → Address
@@ -11,9 +12,15 @@ address_at l i = record { high = number_at l i; middle = number_at l (i + 2); lo
 abbrev pub address_octets : Address → List ℕ
 address_octets a = number_octets a.high ++ (number_octets a.middle ++ number_octets a.low)
 
+abbrev pub system_at : List ℕ → ℕ → SystemId
+system_at l i = record { priority = number_at l i; address = address_at l (i + 2) }
+
+abbrev pub system_octets : SystemId → List ℕ
+system_octets s = number_octets s.priority ++ address_octets s.address
+
 abbrev pub block_of : List ℕ → Block
 block_of l = record {
-  system = record { priority = number_at l 0; address = address_at l 2 };
+  system = system_at l 0;
   key = number_at l 8;
   port = record { priority = number_at l 10; number = number_at l 12 };
   state = port_state_of (get_or l 14 0);

@@ -1,9 +1,10 @@
 // An information block: the 15 octets by which a system tells of one of its ports (43.4.2.2), as a value.
 ghost use Rattle.std.specs.Prelude.{◌≡◌, length, ◌+◌, ◌≤◌};
 ghost use Rattle.octets.specs.Octets.{put_at};
-ghost use Rattle.frame.specs.Block.{address_at, address_octets, block_of, block_octets};
+ghost use Rattle.frame.specs.Block.{address_at, address_octets, system_at, system_octets, block_of, block_octets};
 
 use crate::state::PortState;
+use octets::InOctets;
 
 // Six octets, two at a time.
 #[derive(Clone, Copy, PartialEq, Eq)]
@@ -33,12 +34,14 @@ pub struct Block {
     pub state: PortState,
 }
 
-impl Address {
-    // The address at index `at`.
-    pub fn read(s: &[u8], at: usize) -> Self
-        requires { at + 6 ≤ length s.now }
-        ensures { result ≡ address_at s.now at }
-    {
+impl InOctets for Address {
+    ghost width = { 6 };
+
+    ghost value_at = { address_at };
+
+    ghost octets_of = { address_octets };
+
+    fn read(s: &[u8], at: usize) -> Self {
         Address {
             high: octets::number(s, at),
             middle: octets::number(s, at + 2),
@@ -46,47 +49,46 @@ impl Address {
         }
     }
 
-    // Writes the address at index `at`.
-    pub fn write(self, out: &mut [u8], at: usize)
-        requires { at + 6 ≤ length out.old }
-        ensures { out.new ≡ put_at at (address_octets self) out.old }
-    {
-        octets::put(
-            out,
-            at,
-            &[
-                octets::high_octet(self.high),
-                octets::low_octet(self.high),
-                octets::high_octet(self.middle),
-                octets::low_octet(self.middle),
-                octets::high_octet(self.low),
-                octets::low_octet(self.low),
-            ],
-        );
+    fn write(self, out: &mut [u8], at: usize) {
+        octets::put_number(out, at, self.high);
+        octets::put_number(out, at + 2, self.middle);
+        octets::put_number(out, at + 4, self.low);
+    }
+}
+
+impl InOctets for SystemId {
+    ghost width = { 8 };
+
+    ghost value_at = { system_at };
+
+    ghost octets_of = { system_octets };
+
+    fn read(s: &[u8], at: usize) -> Self {
+        SystemId {
+            priority: octets::number(s, at),
+            address: Address::read(s, at + 2),
+        }
+    }
+
+    fn write(self, out: &mut [u8], at: usize) {
+        octets::put_number(out, at, self.priority);
+        self.address.write(out, at + 2);
     }
 }
 
 impl Block {
     // The block that 15 octets tell of.
-    pub fn read(s: &[u8]) -> Self
-        requires { length s.now ≡ 15 }
+    pub fn read(s: &[u8; 15]) -> Self
         ensures { result ≡ block_of s.now }
     {
-        let system = SystemId {
-            priority: octets::number(s, 0),
-            address: Address::read(s, 2),
-        };
-        let key = octets::number(s, 8);
-        let port = PortId {
-            priority: octets::number(s, 10),
-            number: octets::number(s, 12),
-        };
-        let state = PortState::of_octet(s[14]);
         Block {
-            system,
-            key,
-            port,
-            state,
+            system: SystemId::read(s, 0),
+            key: octets::number(s, 8),
+            port: PortId {
+                priority: octets::number(s, 10),
+                number: octets::number(s, 12),
+            },
+            state: PortState::from(s[14]),
         }
     }
 
@@ -95,13 +97,10 @@ impl Block {
         requires { length out.old ≡ 15 }
         ensures { out.new ≡ block_octets self }
     {
-        octets::put_number(out, 0, self.system.priority);
-        let address = self.system.address;
-        address.write(out, 2);
+        self.system.write(out, 0);
         octets::put_number(out, 8, self.key);
         octets::put_number(out, 10, self.port.priority);
         octets::put_number(out, 12, self.port.number);
-        let state = self.state;
-        octets::put(out, 14, &[state.octet()]);
+        octets::put(out, 14, &[u8::from(self.state)]);
     }
 }

@@ -56,7 +56,7 @@ fn is_unknown(s: &[u8]) -> bool
     requires { 14 ≤ length s.now }
     ensures { result ≡ unknown s.now }
 {
-    if octets::number(s, 12) != SLOW_TYPE {
+    if octets::number::<u16>(s, 12) != SLOW_TYPE {
         return true;
     }
     if s.len() < 15 {

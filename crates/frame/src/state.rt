@@ -21,11 +21,11 @@ fn weigh(bit: bool, n: u8) -> u8
     if bit { n } else { 0 }
 }
 
-impl PortState {
-    // The bits of an octet.
-    pub fn of_octet(o: u8) -> Self
-        ensures { result ≡ port_state_of o }
-    {
+// The bits of an octet.
+impl From<u8> for PortState {
+    ghost from_gives = { λ o state. state ≡ port_state_of o };
+
+    fn from(o: u8) -> PortState {
         PortState {
             activity: o % 2 == 1,
             timeout: o / 2 % 2 == 1,
@@ -37,18 +37,20 @@ impl PortState {
             expired: o / 128 % 2 == 1,
         }
     }
+}
 
-    // The octet of the bits.
-    pub fn octet(self) -> u8
-        ensures { result ≡ state_octet self }
-    {
-        weigh(self.activity, 1)
-            + weigh(self.timeout, 2)
-            + weigh(self.aggregation, 4)
-            + weigh(self.synchronization, 8)
-            + weigh(self.collecting, 16)
-            + weigh(self.distributing, 32)
-            + weigh(self.defaulted, 64)
-            + weigh(self.expired, 128)
+// The octet of the bits.
+impl From<PortState> for u8 {
+    ghost from_gives = { λ state o. o ≡ state_octet state };
+
+    fn from(state: PortState) -> u8 {
+        weigh(state.activity, 1)
+            + weigh(state.timeout, 2)
+            + weigh(state.aggregation, 4)
+            + weigh(state.synchronization, 8)
+            + weigh(state.collecting, 16)
+            + weigh(state.distributing, 32)
+            + weigh(state.defaulted, 64)
+            + weigh(state.expired, 128)
     }
 }

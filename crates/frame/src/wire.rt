@@ -6,6 +6,7 @@ ghost use Rattle.frame.specs.Wire.{actor_part, partner_part, request_part, apply
 
 use crate::block::{Address, Block};
 use crate::class::{DESTINATION, SLOW_TYPE};
+use octets::InOctets;
 
 // CollectorMaxDelay counts tens of microseconds (43.2.3.1.1), and is never a number of ticks.
 #[derive(Clone, Copy, PartialEq, Eq)]
@@ -14,8 +15,16 @@ pub struct TensOfMicroseconds(pub u16);
 // The type octet of a Marker PDU.
 #[derive(Clone, Copy, PartialEq, Eq)]
 pub enum MarkerType {
-    Marker,
-    Response,
+    Marker = 1,
+    Response = 2,
+}
+
+impl From<MarkerType> for u8 {
+    ghost from_gives = { λ kind n. n ≡ marker_type_octet kind };
+
+    fn from(kind: MarkerType) -> u8 {
+        kind as u8
+    }
 }
 
 // Which block gets recorded: recordPDU takes the frame's, recordDefault the default one (43.4.9).
@@ -26,27 +35,27 @@ pub enum Source {
 }
 
 // The actor's information block of an LACPDU, as a part of the frame itself.
-pub fn actor(frame: &[u8]) -> &[u8]
+pub fn actor(frame: &[u8]) -> &[u8; 15]
     requires { frame_size ≤ length frame.now }
-    ensures { (result.now ≡ actor_part frame.now) × (length result.now ≡ 15) }
+    ensures { result.now ≡ actor_part frame.now }
 {
-    &frame[18..33]
+    octets::chunk(frame, 18)
 }
 
 // The partner's information block of an LACPDU, as a part of the frame itself.
-pub fn partner(frame: &[u8]) -> &[u8]
+pub fn partner(frame: &[u8]) -> &[u8; 15]
     requires { frame_size ≤ length frame.now }
-    ensures { (result.now ≡ partner_part frame.now) × (length result.now ≡ 15) }
+    ensures { result.now ≡ partner_part frame.now }
 {
-    &frame[38..53]
+    octets::chunk(frame, 38)
 }
 
 // Requester port, requester system and transaction of a Marker PDU, as a part of the frame itself.
-pub fn request(frame: &[u8]) -> &[u8]
+pub fn request(frame: &[u8]) -> &[u8; 12]
     requires { frame_size ≤ length frame.now }
-    ensures { (result.now ≡ request_part frame.now) × (length result.now ≡ 12) }
+    ensures { result.now ≡ request_part frame.now }
 {
-    &frame[18..30]
+    octets::chunk(frame, 18)
 }
 
 // Of two lent blocks, the frame's and the default, gives back the one to be recorded (R18.3).
@@ -90,21 +99,12 @@ pub fn write_lacpdu(
     octets::put(out, 60, &[0u8; 64]);
 }
 
-fn marker_type_octet(kind: MarkerType) -> u8
-    ensures { result ≡ marker_type_octet kind }
-{
-    match kind {
-        MarkerType::Marker => 1,
-        MarkerType::Response => 2,
-    }
-}
-
 // Writes a Marker PDU over the first 124 octets of out; `request` is its octets 18 to 29.
-pub fn write_marker(out: &mut [u8], source: Address, kind: MarkerType, request: &[u8])
-    requires { (frame_size ≤ length out.old) × (length request.now ≡ 12) }
+pub fn write_marker(out: &mut [u8], source: Address, kind: MarkerType, request: &[u8; 12])
+    requires { frame_size ≤ length out.old }
     ensures { out.new ≡ marker source kind request.now ++ drop frame_size out.old }
 {
-    write_opening(out, source, 2, marker_type_octet(kind), 16);
+    write_opening(out, source, 2, u8::from(kind), 16);
     octets::put(out, 18, request);
     octets::put(out, 30, &[0u8; 94]);
 }

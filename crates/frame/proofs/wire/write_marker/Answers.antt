@@ -27,5 +27,5 @@ pub returns : goal.returns
 returns c =
     let a = c.args in
     let req = a.request.now in
-    rw (c.put-2.ensures, c.put.ensures, c.write_opening.ensures, c.marker_type_octet.ensures)
-    (laid_out (opening a.source 2 (marker_type_octet a.kind) 16) req a.out.now refl (c.requires.1))
+    rw (c.put-2.ensures, c.put.ensures, c.write_opening.ensures, c.from.ensures)
+    (laid_out (opening a.source 2 (marker_type_octet a.kind) 16) req a.out.now refl (omega arith))
