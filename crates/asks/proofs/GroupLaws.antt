@@ -1,37 +1,35 @@
 -- Laws of the groups of all ports. Assumes nothing.
 use Prim.Native.Nat.{ℕ, zero, suc, ◌+◌, ◌*◌, ◌≤◌, ◌<◌}
 use mathlib.Core.Path.{◌≡◌, refl, sym, ap, ◌∙◌}
-use mathlib.Core.Bool.{Bool, true, false, ◌&&◌}
-use mathlib.Core.List.{List}
+use mathlib.Core.Bool.{◌&&◌}
+use mathlib.Core.List.{List, []}
 use native.Mathlib.Omega.{arith}
-use lib.ListN.{length}
-use lib.Dec.{eqb}
-use borrow.Author.Tests.{eqb-true, eqb-false}
+use native.Mathlib.Numerals.{add-one}
+use lib.ListN.{length, take}
+use Rattle.std.specs.List.{list_all}
+use Rattle.std.specs.Simd.{first_chunks}
+use Rattle.std.proofs.lemmas.List.Folds.{list_all_more}
 use Rattle.octets.specs.Octets.{put_at}
 use Rattle.asks.specs.declared.ask.Ask.{Ask}
 use Rattle.asks.specs.Ask.{never_asked, ask_fallen}
 use Rattle.asks.specs.Group.{group_size, group_octets, group_of, group_in_range}
 use Rattle.octets.specs.Rows.{row_at, rows_to}
 use Rattle.asks.specs.Groups.{ask_at, groups_in_range, all_fallen, all_begun}
+use Rattle.octets.proofs.ChunkLaws.{chunks-length, chunk-row}
 use Rattle.octets.proofs.RowLaws.{done, done_none, done-length, done-row, done_more, done_all}
 
 pub group-length : (a : Ask) → length (group_octets a) ≡ group_size
 unfolding group_octets
 group-length a = refl
 
--- one that is out of range is among all
-pub groups-not : (n : ℕ) (g : List ℕ) (i : ℕ) → i < n → group_in_range (row_at group_size g i) ≡ false → groups_in_range n g ≡ false
+-- all of the first n parts of a group's width are in range where the first n groups are
+pub chunks-ranged : (k : ℕ) (g : List ℕ) (n : ℕ) → n ≤ k → list_all group_in_range (take n (first_chunks group_size k g)) ≡ groups_in_range n g
 unfolding groups_in_range
-groups-not zero g i h e = absurd (omega (arith, h))
-groups-not (suc n) g i h e = by (eqb i n) refl (λ k. groups-not n g i k e)
-  where
-    by : (b : Bool) → eqb i n ≡ b → (i < n → groups_in_range n g ≡ false) → groups_in_range n g && group_in_range (row_at group_size g n) ≡ false
-    by true t before = let last : group_in_range (row_at group_size g n) ≡ false = rw (eqb-true i n t) at e in all (groups_in_range n g) last
-      where
-        all : (x : Bool) → group_in_range (row_at group_size g n) ≡ false → x && group_in_range (row_at group_size g n) ≡ false
-        all true f = f
-        all false f = refl
-    by false t before = rw (before (let u = eqb-false i n t in omega (arith, h, u)))
+chunks-ranged k g zero h = refl
+chunks-ranged k g (suc n) h =
+    rw (← add-one n)
+    (list_all_more group_in_range (first_chunks group_size k g) n [] (let l = chunks-length group_size k g in omega (arith, l, h))
+    ∙ (λ j. chunks-ranged k g n (omega (arith, h)) j && group_in_range (chunk-row group_size k g n (omega (arith, h)) j)))
 
 -- ---- a loop over all groups
 

@@ -7,7 +7,7 @@ use machine::count::one_more;
 use machine::states::Ticks;
 
 // What came of it. The constant beside a refusal is the first.
-#[derive(Clone, Copy)]
+#[derive(Clone, Copy, PartialEq, Eq)]
 pub enum Outcome {
     Nothing,
     Awaiting,
@@ -17,7 +17,7 @@ pub enum Outcome {
 }
 
 // The timer is that of the Marker that is awaited; `number` is the transaction of the next one.
-#[derive(Clone, Copy)]
+#[derive(Clone, Copy, PartialEq, Eq)]
 pub struct Ask {
     pub outcome: Outcome,
     pub timer: Ticks,
@@ -28,24 +28,20 @@ impl Outcome {
     pub fn is_awaiting(self) -> bool
         ensures { result ≡ is_awaiting self }
     {
-        match self {
-            Outcome::Nothing => false,
-            Outcome::Awaiting => true,
-            Outcome::Answered => false,
-            Outcome::TimedOut => false,
-            Outcome::Cancelled => false,
-        }
+        self == Outcome::Awaiting
     }
 }
 
 // Before the first.
-pub fn never_asked() -> Ask
-    ensures { result ≡ never_asked }
-{
-    Ask {
-        outcome: Outcome::Nothing,
-        timer: Ticks(0),
-        number: 0,
+impl Default for Ask {
+    ghost is_default = { λ a. a ≡ never_asked };
+
+    fn default() -> Ask {
+        Ask {
+            outcome: Outcome::Nothing,
+            timer: Ticks(0),
+            number: 0,
+        }
     }
 }
 
@@ -65,41 +61,36 @@ impl Ask {
     pub fn awaited(self) -> u32
         ensures { result ≡ awaited self }
     {
-        if self.number == 0 {
-            return 4294967295;
-        }
-        self.number - 1
+        self.number.wrapping_sub(1)
     }
 
     // A Marker that is awaited comes to this end.
+    #[tactic(auto, unfolding(crate::specs::Ask::ended))]
     pub fn end(self, outcome: Outcome) -> Ask
         ensures { result ≡ ended outcome self }
     {
-        let now = self.outcome;
-        if now.is_awaiting() {
-            return Ask {
+        if self.outcome.is_awaiting() {
+            Ask {
                 outcome,
                 timer: Ticks(0),
-                number: self.number,
-            };
+                ..self
+            }
+        } else {
+            self
         }
-        self
     }
 
     // A tick has passed.
+    #[tactic(auto, unfolding(crate::specs::Ask::ask_fallen))]
     pub fn fall(self) -> Ask
         ensures { result ≡ ask_fallen self }
     {
-        let outcome = self.outcome;
         let timer = fallen(self.timer);
-        let a = Ask {
-            outcome,
-            timer,
-            number: self.number,
-        };
-        if timer.0 == 0 {
-            return a.end(Outcome::TimedOut);
+        let a = Ask { timer, ..self };
+        if timer == Ticks(0) {
+            a.end(Outcome::TimedOut)
+        } else {
+            a
         }
-        a
     }
 }

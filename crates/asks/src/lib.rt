@@ -8,35 +8,34 @@ ghost use Rattle.asks.specs.Group.{group_size, group_octets};
 ghost use Rattle.octets.specs.Rows.{row_at};
 ghost use Rattle.asks.specs.Groups.{ask_at, groups_in_range, all_fallen, all_begun};
 
-use crate::ask::{Ask, never_asked};
+use crate::ask::Ask;
 use crate::group::GROUP;
 
 pub mod ask;
 pub mod group;
 
 // The part that is group `i`, from 0.
-pub fn group_at(groups: &[u8], i: usize) -> &[u8]
+pub fn group_at(groups: &[u8], i: usize) -> &[u8; GROUP]
     requires { group_size * i + group_size ≤ length groups.now }
-    ensures { (result.now ≡ row_at group_size groups.now i) × (length result.now ≡ group_size) }
+    ensures { result.now ≡ row_at group_size groups.now i }
 {
-    let at = GROUP * i;
-    &groups[at..at + GROUP]
+    groups[GROUP * i..].first_chunk().unwrap()
 }
 
 // What port `i`, from 0, asked for.
+#[tactic(auto, unfolding(crate::specs::Groups::ask_at))]
 pub fn at(groups: &[u8], i: usize) -> Ask
     requires { group_size * i + group_size ≤ length groups.now }
     ensures { result ≡ ask_at groups.now i }
 {
-    group::read(group_at(groups, i))
+    Ask::from(group_at(groups, i))
 }
 
 pub fn store(groups: &mut [u8], i: usize, a: Ask)
     requires { group_size * i + group_size ≤ length groups.old }
     ensures { groups.new ≡ put_at (group_size * i) (group_octets a) groups.old }
 {
-    let at = GROUP * i;
-    group::write(a, &mut groups[at..at + GROUP]);
+    octets::put(groups, GROUP * i, &<[u8; GROUP]>::from(a));
 }
 
 // Whether the first `n` groups are in range.
@@ -44,14 +43,8 @@ pub fn are_groups(groups: &[u8], n: usize) -> bool
     requires { group_size * n ≤ length groups.now }
     ensures { result ≡ groups_in_range n groups.now }
 {
-    let mut i: usize = 0;
-    while i < n {
-        if !group::is_group(group_at(groups, i)) {
-            return false;
-        }
-        i += 1;
-    }
-    true
+    let (groups, _) = groups.as_chunks::<GROUP>();
+    groups[..n].iter().all(group::is_group)
 }
 
 // A tick has passed for port `i`, from 0. Where nothing runs and nothing is awaited, nothing is written.
@@ -60,8 +53,7 @@ fn fall_one(groups: &mut [u8], i: usize)
     ensures { groups.new ≡ put_at (group_size * i) (group_octets (ask_fallen (ask_at groups.old i))) groups.old }
 {
     if !group::is_idle(group_at(groups, i)) {
-        let a = at(groups, i);
-        store(groups, i, a.fall());
+        store(groups, i, at(groups, i).fall());
     }
 }
 
@@ -70,10 +62,8 @@ pub fn fall_all(groups: &mut [u8], n: usize)
     requires { length groups.old ≡ group_size * n }
     ensures { groups.new ≡ all_fallen n groups.old }
 {
-    let mut i: usize = 0;
-    while i < n {
+    for i in 0..n {
         fall_one(groups, i);
-        i += 1;
     }
 }
 
@@ -82,9 +72,7 @@ pub fn begin_all(groups: &mut [u8], n: usize)
     requires { length groups.old ≡ group_size * n }
     ensures { groups.new ≡ all_begun n }
 {
-    let mut i: usize = 0;
-    while i < n {
-        store(groups, i, never_asked());
-        i += 1;
+    for i in 0..n {
+        store(groups, i, Ask::default());
     }
 }

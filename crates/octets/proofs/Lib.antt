@@ -6,3 +6,4 @@ pub mod RangeLaws
 pub mod SetLaws
 pub mod WordLaws
 pub mod RowLaws
+pub mod ChunkLaws

@@ -1,47 +1,17 @@
--- `are_groups` meets its contract: the first i groups are in range; it ends early at one that is not. Assumes nothing.
-use Prim.Native.Nat.{◌<◌}
-use mathlib.Core.Path.{◌≡◌, refl, sym, ap, ◌∙◌}
+-- `are_groups` meets its contract: all chunks are in range where all rows are. Assumes nothing.
+use Rattle.std.proofs.Common.{rules, ◌≡◌, ◌∙◌, take}
 use native.Mathlib.Omega.{arith}
-use native.Mathlib.Numerals.{add-one}
-use Rattle.octets.proofs.RangeLaws.{both_true}
+use borrow.Author.Tests.{tests}
+use Rattle.std.specs.List.{list_all}
+use Rattle.std.proofs.lemmas.Iterator.{YieldsList-from_slice}
+use Rattle.std.proofs.lemmas.Iterator.Search.{all_from_yields_List}
 use Rattle.asks.specs.Group.{group_in_range}
-use Rattle.asks.specs.Groups.{groups_in_range}
-use Rattle.asks.proofs.GroupLaws.{groups-not}
+use Rattle.asks.proofs.GroupLaws.{chunks-ranged}
 use Rattle.asks.proofs.are_groups.Goals as goal
-
-pub loop-i-init : goal.loop-i-init
-unfolding groups_in_range
-loop-i-init c = (omega arith, refl)
-
-pub group_at-requires : goal.group_at-requires
-group_at-requires c =
-    let size = c.requires in
-    let here : c.loop-i.i < c.args.n = omega arith in
-    omega (arith, size, here)
-
-pub is_group-requires : goal.is_group-requires
-is_group-requires c = c.group_at.ensures.1
-
-pub returns-then-not-is_group : goal.returns-then-not-is_group
-returns-then-not-is_group c =
-    let a = c.args in
-    let i = c.loop-i.i in
-    let bad = sym (c.is_group.ensures ∙ ap group_in_range c.group_at.ensures.0) ∙ c.if-not-is_group.true in
-    sym (groups-not a.n a.groups.now i (omega arith) bad)
-
-pub overflow_add-i : goal.overflow_add-i
-overflow_add-i c = omega arith
-
-pub loop-i-smaller : goal.loop-i-smaller
-loop-i-smaller c = omega arith
-
-pub loop-i-preserved : goal.loop-i-preserved
-unfolding groups_in_range
-loop-i-preserved c =
-    let good = sym (c.is_group.ensures ∙ ap group_in_range c.group_at.ensures.0) ∙ c.if-not-is_group.false in
-    (omega arith, rw add-one (both_true c.loop-i.invariant.1 good))
 
 pub returns : goal.returns
 returns c =
-    let all : c.loop-i.i ≡ c.args.n = omega arith in
-    sym (rw all at c.loop-i.invariant.1)
+    let chunks = c.as_chunks.result.0.now in
+    let told : c.all.result ≡ list_all group_in_range (take c.args.n chunks) =
+    all_from_yields_List group_in_range _ _ c.all.result c.all.ensures.ran (YieldsList-from_slice (take c.args.n chunks) cc) (λ x b q k. search (rules, tests)) in
+    told ∙ rw c.as_chunks.ensures.front (chunks-ranged _ c.args.groups.now c.args.n (let h = c.requires in omega (arith, h)))
