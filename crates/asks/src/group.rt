@@ -44,7 +44,7 @@ impl From<&[u8; GROUP]> for Ask {
         Ask {
             outcome: Outcome::from(s[0]),
             timer: Ticks(octets::number(s, 1)),
-            number: octets::longs::long(s, 3),
+            number: octets::number(s, 3),
         }
     }
 }
@@ -73,7 +73,7 @@ fn first_octets(s: &[u8; GROUP]) -> u64
 pub fn is_group(s: &[u8; GROUP]) -> bool
     ensures { result ≡ group_in_range s.now }
 {
-    first_octets(s) == 0 || s[0] <= 4 && octets::number(s, 1) <= LONGEST_WAIT
+    first_octets(s) == 0 || s[0] <= 4 && octets::number::<u16>(s, 1) <= LONGEST_WAIT
 }
 
 // Whether a tick leaves the group as it is, by one look: its timer is 0, and it is not awaited. (Another is left as it is by what it tells of.)

@@ -15,11 +15,12 @@ pub mod ask;
 pub mod group;
 
 // The part that is group `i`, from 0.
+#[tactic(auto, unfolding(octets::specs::Rows::row_at))]
 pub fn group_at(groups: &[u8], i: usize) -> &[u8; GROUP]
     requires { group_size * i + group_size ≤ length groups.now }
     ensures { result.now ≡ row_at group_size groups.now i }
 {
-    groups[GROUP * i..].first_chunk().unwrap()
+    octets::chunk(groups, GROUP * i)
 }
 
 // What port `i`, from 0, asked for.
