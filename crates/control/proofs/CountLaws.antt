@@ -23,8 +23,9 @@ use Rattle.table.proofs.MadeLaws.{made-count}
 use Rattle.trunk.specs.Displaced.{displaced}
 use Rattle.trunk.specs.Settled.{settled}
 use Rattle.work.specs.Work.{worked, after_one, after_start, received_at, after_received, after_tick, after_line, after_settings, after_send}
-use Rattle.control.specs.declared.answer.Answer.{Answer}
-use Rattle.control.specs.declared.answer.Answer.TheVariants.{Done, Lacpdu, Marker, Refused}
+use Rattle.std.specs.Prelude.{Ok, Err}
+use Rattle.control.specs.declared.answer.Accepted.TheVariants.{Done, Lacpdu, Marker}
+use Rattle.control.specs.Answer.{Answer}
 use Rattle.control.specs.Call.{Call, start, receive, tick, line, configure, fetch, report, aggregator, due, is_start}
 use Rattle.control.specs.After.{answer, unless, after_frame, changed_by, effect, after}
 
@@ -47,11 +48,11 @@ started-count t count system delay x =
     made-count h (settled h (replicate count (started x)))
 
 frame-count : (t : List ℕ) (i : ℕ) (frame : List ℕ) (a : Answer) → count_in (on_octets (after_frame a i frame) t) ≡ count_in t
-frame-count t i frame Done = again-count t (ports t)
-frame-count t i frame Lacpdu =
+frame-count t i frame (Ok Done) = again-count t (ports t)
+frame-count t i frame (Ok Lacpdu) =
     unfold after_received in again-count t (worked (ours t) (displaced i (block_of (actor_part frame)) (set (ports t) i (received_at i frame (state_of t)))))
-frame-count t i frame Marker = again-count t (ports t)
-frame-count t i frame (Refused r) = again-count t (ports t)
+frame-count t i frame (Ok Marker) = again-count t (ports t)
+frame-count t i frame (Err r) = again-count t (ports t)
 
 line-count : (t : List ℕ) (i : ℕ) (l : Line) → count_in (on_octets (after_line i l) t) ≡ count_in t
 unfolding after_line after_one
@@ -62,10 +63,8 @@ unfolding after_settings after_one
 settings-count t i x = kept-count (same_settings x (port_at t i)) t (worked (ours t) (set (ports t) i (configured x (port_at t i))))
 
 unless-count : (a : Answer) (t u : List ℕ) → count_in u ≡ count_in t → count_in (unless a t u) ≡ count_in t
-unless-count Done t u e = e
-unless-count Lacpdu t u e = e
-unless-count Marker t u e = e
-unless-count (Refused r) t u e = refl
+unless-count (Ok a) t u e = e
+unless-count (Err r) t u e = refl
 
 -- of any memory
 pub after-count : (c : Call) → is_start c ≡ false → (t : List ℕ) → count_in (after c t) ≡ count_in t

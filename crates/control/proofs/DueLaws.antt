@@ -12,8 +12,9 @@ use borrow.Author.Tests.{ltb-true, ltb-false}
 use Rattle.octets.specs.Octets.{Octets}
 use Rattle.octets.specs.Sets.{member}
 use Rattle.octets.proofs.SetLaws.{none-member}
-use Rattle.port.specs.declared.transmit.Due.{Due}
-use Rattle.port.specs.declared.transmit.Due.TheVariants.{Nothing, Barred, Lacpdu}
+use Rattle.std.specs.Prelude.{Result, Ok, Err}
+use Rattle.port.specs.declared.transmit.Undue.{Undue}
+use Rattle.port.specs.declared.transmit.Undue.TheVariants.{Nothing, Barred}
 use Rattle.port.specs.Absent.{no_port}
 use Rattle.port.specs.Transmit.{goes, is_due, due as dueOn}
 use Rattle.report.specs.Sets.{set_of, due_of}
@@ -21,21 +22,20 @@ use Rattle.report.proofs.SetLaws.{set-member, set-member-beyond}
 use Rattle.table.specs.Table.{table_in_range, count_in, ports, port_at, state_of, octets_of}
 use Rattle.table.proofs.StoreLaws.{ports-length, ports-at}
 use Rattle.table.proofs.TableLaws.{octets-back}
-use Rattle.control.specs.declared.answer.Answer.{Answer}
-use Rattle.control.specs.declared.answer.Answer.TheVariants.{Done, Refused}
+use Rattle.control.specs.declared.answer.Accepted.TheVariants.{Done}
 use Rattle.control.specs.declared.answer.Reason.TheVariants as reason
-use Rattle.control.specs.Answer.{on_port, with_room, due_answer}
+use Rattle.control.specs.Answer.{Answer, on_port, with_room, due_answer}
 use Rattle.control.specs.Accepted.{accepted}
 use Rattle.control.specs.Call.{fetch, due}
 use Rattle.control.specs.After.{answer, after, unless, effect}
-use Rattle.control.specs.Report.{due_report}
+use Rattle.control.specs.Report.{due_report, answered_with, ports_told}
 use Rattle.control.proofs.RuleLaws.{table-first, number-second, number-passes, buffer-passes}
 
 -- an LACPDU goes exactly where the fetch is accepted
-goes-accepted : (k : Due) → goes k ≡ accepted (due_answer k)
-goes-accepted Nothing = refl
-goes-accepted Barred = refl
-goes-accepted Lacpdu = refl
+goes-accepted : (k : Result (Unit {0}) Undue) → goes k ≡ accepted (due_answer k)
+goes-accepted (Ok u) = refl
+goes-accepted (Err Nothing) = refl
+goes-accepted (Err Barred) = refl
 
 module _ (t : List ℕ) (i : ℕ) (out : List ℕ) (room : 124 ≤ length out) where
   abbrev rest : Answer
@@ -64,16 +64,16 @@ module _ (t : List ℕ) (i : ℕ) (out : List ℕ) (room : 124 ≤ length out) w
       by true e = a-port r (ltb-true i (count_in t) e)
       by false e = no_port_lem r (ltb-false i (count_in t) e)
 
-  pub due-fetched : member (due_report t).ports i ≡ accepted (answer (fetch (i + 1) out) t)
+  pub due-fetched : member (ports_told (due_report t)) i ≡ accepted (answer (fetch (i + 1) out) t)
   unfolding due_report answer due_of
   due-fetched = by (table_in_range t) refl
     where
-      by : (b : Bool) → table_in_range t ≡ b → member (unless (cond b Done (Refused reason.Table)) 0 (set_of is_due (ports t))) i ≡ accepted (on_port t (i + 1) rest)
+      by : (b : Bool) → table_in_range t ≡ b → member (ports_told (answered_with (cond b (Ok Done) (Err reason.Table)) (set_of is_due (ports t)))) i ≡ accepted (on_port t (i + 1) rest)
       by true r = in_table r
       by false r = none-member i ∙ sym (ap accepted (table-first t (i + 1) rest r))
 
 -- beside a refusal there is none
-pub refused-due : (t : List ℕ) → table_in_range t ≡ false → (due_report t).ports ≡ 0
+pub refused-due : (t : List ℕ) → table_in_range t ≡ false → ports_told (due_report t) ≡ 0
 unfolding due_report answer
 refused-due t e = rw e
 
@@ -82,6 +82,6 @@ pub due-leaves : (t : List ℕ) → Octets t → after due t ≡ t
 unfolding after answer effect
 due-leaves t o = by (table_in_range t) refl
   where
-    by : (b : Bool) → table_in_range t ≡ b → unless (cond b Done (Refused reason.Table)) t (octets_of (state_of t)) ≡ t
+    by : (b : Bool) → table_in_range t ≡ b → unless (cond b (Ok Done) (Err reason.Table)) t (octets_of (state_of t)) ≡ t
     by true e = octets-back t e o
     by false e = refl

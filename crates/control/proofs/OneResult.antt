@@ -3,9 +3,10 @@
 use Prim.Native.Nat.{ℕ}
 use mathlib.Core.Path.{◌≡◌, sym, ◌∙◌}
 use mathlib.Core.List.{List}
-use Rattle.control.specs.declared.answer.Answer.{Answer}
-use Rattle.control.specs.declared.answer.AggregatorReport.{AggregatorReport}
-use Rattle.control.specs.declared.answer.DueReport.{DueReport}
+use Rattle.std.specs.Prelude.{Result}
+use Rattle.report.specs.declared.Sets.{Sets}
+use Rattle.control.specs.declared.answer.Reason.{Reason}
+use Rattle.control.specs.Answer.{Answer}
 use Rattle.control.specs.Call.{Call}
 use Rattle.control.specs.Meets.{Meets, MeetsOut, MeetsPort}
 use Rattle.control.specs.Report.{aggregator_report, due_report}
@@ -27,8 +28,8 @@ module _ (c : Call) (t : List ℕ) (a b : Answer) (u v : List ℕ) where
 pub one-port_report : (n : ℕ) (t m : List ℕ) (a b : Answer) (r s : List ℕ) → MeetsPort n t m a r → MeetsPort n t m b s → (a ≡ b) × (r ≡ s)
 one-port_report n t m a b r s x y = (same x.0 y.0, same x.1 y.1)
 
-pub one-aggregator_report : (k : ℕ) (t : List ℕ) (r s : AggregatorReport) → r ≡ aggregator_report k t → s ≡ aggregator_report k t → r ≡ s
+pub one-aggregator_report : (k : ℕ) (t : List ℕ) (r s : Result Sets Reason) → r ≡ aggregator_report k t → s ≡ aggregator_report k t → r ≡ s
 one-aggregator_report k t r s x y = same x y
 
-pub one-due_report : (t : List ℕ) (r s : DueReport) → r ≡ due_report t → s ≡ due_report t → r ≡ s
+pub one-due_report : (t : List ℕ) (r s : Result ℕ Reason) → r ≡ due_report t → s ≡ due_report t → r ≡ s
 one-due_report t r s x y = same x y

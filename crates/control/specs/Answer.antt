@@ -6,8 +6,8 @@ use Rattle.frame.specs.Class.{Class, refusal_number, frame_size}
 use Rattle.machine.specs.declared.states.Line.{Line}
 use Rattle.machine.specs.declared.states.Mux.{Mux}
 use Rattle.machine.specs.Mux.{collects, distributes}
-use Rattle.port.specs.declared.transmit.Due.{Due}
-use Rattle.port.specs.declared.transmit.Due.TheVariants as due
+use Rattle.port.specs.declared.transmit.Undue.{Undue}
+use Rattle.port.specs.declared.transmit.Undue.TheVariants as undue
 use Rattle.settings.specs.declared.Settings.{Settings}
 use Rattle.settings.specs.Settings.{lawful}
 use Rattle.table.specs.Table.{table_in_range, is_room, count_in}
@@ -84,10 +84,13 @@ frame_answer (Ok kind.Response) l m = Err reason.Response
 frame_answer (Err r) l m = Err (reason.Frame r)
 
 -- 10, then 11
-abbrev pub due_answer : Due → Answer
-due_answer due.Nothing = Err reason.NothingToSend
-due_answer due.Barred = Err reason.Barred
-due_answer due.Lacpdu = Ok Done
+abbrev pub undue_reason : Undue → Reason
+undue_reason undue.Nothing = reason.NothingToSend
+undue_reason undue.Barred = reason.Barred
+
+abbrev pub due_answer : Result (Unit {0}) Undue → Answer
+due_answer (Ok u) = Ok Done
+due_answer (Err u) = Err (undue_reason u)
 
 -- R2.15: a start looks at the count and at the size
 abbrev pub start_answer : List ℕ → ℕ → Settings → Answer

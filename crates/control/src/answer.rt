@@ -2,9 +2,10 @@
 ghost use Rattle.std.specs.Prelude.{◌≡◌, ℕ};
 ghost use Rattle.frame.specs.declared.class.Refusal.{Refusal};
 ghost use Rattle.control.specs.declared.answer.Reason.TheVariants.{Frame};
-ghost use Rattle.control.specs.Answer.{reason_number, number_by, length_sent};
+ghost use Rattle.control.specs.Answer.{reason_number, number_by, length_sent, undue_reason};
 
 use frame::class::{FRAME, Refusal};
+use port::transmit::Undue;
 
 // Why a call was refused; `reason_number` gives the answer number of each.
 #[derive(Clone, Copy, PartialEq, Eq)]
@@ -43,6 +44,17 @@ pub enum Accepted {
 
 // What a call answers; `answer_number` gives the number of each, `length_sent` how much is to be sent for a frame.
 pub type Answer = Result<Accepted, Reason>;
+
+impl From<Undue> for Reason {
+    ghost from_gives = { λ undue reason. reason ≡ undue_reason undue };
+
+    fn from(undue: Undue) -> Reason {
+        match undue {
+            Undue::Nothing => Reason::NothingToSend,
+            Undue::Barred => Reason::Barred,
+        }
+    }
+}
 
 impl From<Refusal> for Reason {
     ghost from_gives = { λ refusal reason. reason ≡ Frame refusal };

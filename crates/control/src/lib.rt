@@ -13,7 +13,6 @@ use frame::block::SystemId;
 use frame::class::FRAME;
 use frame::wire::TensOfMicroseconds;
 use machine::states::Line;
-use port::transmit::Due;
 use report::Sets;
 use settings::Settings;
 use table::layout::{Header, RECORD};
@@ -100,11 +99,12 @@ pub fn configure(table: &mut [u8], n: u32, settings: Settings) -> Answer
     ensures { Meets (call_configure n settings) table.old result table.new }
 {
     let i = checks::find(table, n)?;
-    if !settings.is_lawful() {
-        return Err(Reason::Default);
+    if settings.is_lawful() {
+        work::configure(table, i, settings);
+        Ok(Accepted::Done)
+    } else {
+        Err(Reason::Default)
     }
-    work::configure(table, i, settings);
-    Ok(Accepted::Done)
 }
 
 // The next LACPDU of port n is written into `out`, and sent by the caller.
@@ -127,14 +127,9 @@ fn fetch_at(table: &mut [u8], i: usize, out: &mut [u8]) -> Answer
         return Err(Reason::NothingToSend);
     }
     let p = table::load(table, i);
-    match p.due() {
-        Due::Nothing => Err(Reason::NothingToSend),
-        Due::Barred => Err(Reason::Barred),
-        Due::Lacpdu => {
-            work::send(table, i, p, out);
-            Ok(Accepted::Done)
-        }
-    }
+    p.due()?;
+    work::send(table, i, p, out);
+    Ok(Accepted::Done)
 }
 
 // The record of port n, as many of its octets as fit into `record`, from the front; zeros beside a refusal.

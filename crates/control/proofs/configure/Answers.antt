@@ -3,46 +3,47 @@ use mathlib.Core.Path.{◌≡◌, sym, ap, ◌∙◌}
 use Prim.Native.Nat.{ℕ}
 use Rattle.table.specs.Table.{on_octets}
 use Rattle.work.specs.Work.{after_settings}
-use Rattle.control.specs.declared.answer.Answer.TheVariants.{Done, Refused}
+use Rattle.std.specs.Prelude.{Ok, Err}
+use Rattle.control.specs.declared.answer.Accepted.TheVariants.{Done}
 use Rattle.control.specs.declared.answer.Reason.TheVariants as reason
 use Rattle.control.specs.Answer.{with_default}
 use Rattle.control.specs.Call as call
 use Rattle.control.specs.After.{answer, effect}
-use Rattle.control.proofs.CallLaws.{found-refused, found-answers, found-table, found_inside, found-index, refused-table, done-table}
+use Rattle.control.proofs.CallLaws.{passed-up, found-refused, found-answers, found-table, found_inside, found-index, refused-table, done-table}
 use Rattle.control.proofs.configure.Goals as goal
 
-pub returns-then-not-is_lawful : goal.returns-then-not-is_lawful
+pub returns-else-is_lawful : goal.returns-else-is_lawful
 unfolding answer
-returns-then-not-is_lawful c =
+returns-else-is_lawful c =
     let a = c.args in
     let t = a.table.now in
-    let here = sym c.find.ensures ∙ c.in-Port.is in
-    let wrong : with_default a.settings Done ≡ Refused reason.Default = rw (sym c.is_lawful.ensures ∙ c.if-not-is_lawful.true) in
-    let refused = found-answers t a.n here (with_default a.settings Done) ∙ wrong in
+    let here = sym c.find.ensures ∙ c.in_ok-i.was in
+    let wrong : with_default a.settings (Ok Done) ≡ Err reason.Default = rw (sym c.is_lawful.ensures ∙ c.if-is_lawful.false) in
+    let refused = found-answers t a.n here (with_default a.settings (Ok Done)) ∙ wrong in
     (sym refused, sym (refused-table (call.configure a.n a.settings) t refused))
 
 pub configure-requires : goal.configure-requires
 configure-requires c =
     let t = c.args.table.now in
-    let here = sym c.find.ensures ∙ c.in-Port.is in
+    let here = sym c.find.ensures ∙ c.in_ok-i.was in
     (found-table t _ here, found_inside t _ here)
 
-pub returns-in-Refused : goal.returns-in-Refused
+pub returns-in_err-i : goal.returns-in_err-i
 unfolding answer
-returns-in-Refused c =
+returns-in_err-i c =
     let a = c.args in
     let t = a.table.now in
-    let refused = found-refused t a.n (sym c.find.ensures ∙ c.in-Refused.is) (with_default a.settings Done) in
-    (sym refused, sym (refused-table (call.configure a.n a.settings) t refused))
+    let refused = found-refused t a.n (sym c.find.ensures ∙ c.in_err-i.was) (with_default a.settings (Ok Done)) in
+    (passed-up _ c.from_residual.ensures.1 ∙ sym refused, sym (refused-table (call.configure a.n a.settings) t refused))
 
-pub returns-else-not-is_lawful : goal.returns-else-not-is_lawful
+pub returns-then-is_lawful : goal.returns-then-is_lawful
 unfolding answer effect
-returns-else-not-is_lawful c =
+returns-then-is_lawful c =
     let a = c.args in
     let t = a.table.now in
-    let here = sym c.find.ensures ∙ c.in-Port.is in
-    let lawful : with_default a.settings Done ≡ Done = rw (sym c.is_lawful.ensures ∙ c.if-not-is_lawful.false) in
-    let done = found-answers t a.n here (with_default a.settings Done) ∙ lawful in (
+    let here = sym c.find.ensures ∙ c.in_ok-i.was in
+    let lawful : with_default a.settings (Ok Done) ≡ Ok Done = rw (sym c.is_lawful.ensures ∙ c.if-is_lawful.true) in
+    let done = found-answers t a.n here (with_default a.settings (Ok Done)) ∙ lawful in (
       sym done,
       c.configure.ensures
           ∙ ap (λ (i : ℕ). on_octets (after_settings i a.settings) t) (found-index t a.n here)

@@ -7,12 +7,14 @@ use lib.ListN.{length}
 use borrow.Author.Tests.{lt-ltb, le-ltb}
 use Rattle.frame.specs.Class.{frame_size}
 use Rattle.port.specs.declared.record.Port.{Port}
-use Rattle.port.specs.declared.transmit.Due.TheVariants.{Nothing}
+use Rattle.std.specs.Prelude.{Err}
+use Rattle.port.specs.declared.transmit.Undue.TheVariants.{Nothing}
 use Rattle.port.specs.Transmit.{due}
 use Rattle.table.specs.Table.{port_at}
+use Rattle.control.proofs.CallLaws.{passed-up}
 use Rattle.control.proofs.fetch_at.Goals as goal
 
-none-due : (p : Port) → p.ntt ≡ false → due p ≡ Nothing
+none-due : (p : Port) → p.ntt ≡ false → due p ≡ Err Nothing
 unfolding due
 none-due p clear = rw clear
 
@@ -28,17 +30,12 @@ returns-then-not-ntt c =
 pub send-requires : goal.send-requires
 send-requires c = (c.requires, c.load-p.ensures, omega (arith, c.if-out-lt-FRAME.false))
 
-pub returns-in-Nothing : goal.returns-in-Nothing
-returns-in-Nothing c =
+pub returns-in_err-due : goal.returns-in_err-due
+returns-in_err-due c =
     let long = le-ltb (length c.args.out.now) frame_size c.if-out-lt-FRAME.false in
-    (rw (long, ap due (sym c.load-p.ensures) ∙ sym c.due.ensures ∙ c.in-Nothing.is), refl, refl)
+    rw (long, ap due (sym c.load-p.ensures) ∙ sym c.due.ensures ∙ c.in_err-due.was, passed-up _ c.from_residual.ensures.1) (refl, refl, refl)
 
-pub returns-in-Barred : goal.returns-in-Barred
-returns-in-Barred c =
+pub returns : goal.returns
+returns c =
     let long = le-ltb (length c.args.out.now) frame_size c.if-out-lt-FRAME.false in
-    (rw (long, ap due (sym c.load-p.ensures) ∙ sym c.due.ensures ∙ c.in-Barred.is), refl, refl)
-
-pub returns-in-Lacpdu : goal.returns-in-Lacpdu
-returns-in-Lacpdu c =
-    let long = le-ltb (length c.args.out.now) frame_size c.if-out-lt-FRAME.false in
-    (rw (long, ap due (sym c.load-p.ensures) ∙ sym c.due.ensures ∙ c.in-Lacpdu.is), c.send.ensures.0, c.send.ensures.1)
+    (rw (long, ap due (sym c.load-p.ensures) ∙ sym c.due.ensures ∙ c.in_ok-due.was), c.send.ensures.0, c.send.ensures.1)

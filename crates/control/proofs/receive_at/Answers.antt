@@ -1,6 +1,6 @@
 -- `control::receive_at` meets its contract: answer 3, then what the frame and the port say; an LACPDU is heard, a Marker answered. The record is
 -- loaded once: what is judged, heard and answered is of the port as it came. Assumes nothing.
-use mathlib.Core.Path.{refl, sym, ◌∙◌}
+use mathlib.Core.Path.{refl, sym, ap, ◌∙◌}
 use native.Mathlib.Omega.{arith}
 use lib.ListN.{length}
 use borrow.Author.Tests.{lt-ltb, le-ltb}
@@ -9,8 +9,9 @@ use Rattle.frame.specs.Wire.{response}
 use Rattle.table.specs.Table.{port_at}
 use Rattle.table.proofs.TableLaws.{octets-back}
 use Rattle.work.specs.Work.{response_of, written_over}
+use Rattle.std.specs.Prelude.{Ok}
 use Rattle.control.specs.Answer.{frame_answer}
-use Rattle.control.proofs.CallLaws.{lacpdu-whole, marker-whole}
+use Rattle.control.proofs.CallLaws.{passed-up, lacpdu-whole, marker-whole}
 use Rattle.control.proofs.receive_at.Goals as goal
 
 pub returns-then-out-lt-FRAME : goal.returns-then-out-lt-FRAME
@@ -23,27 +24,27 @@ pub receive-requires : goal.receive-requires
 receive-requires c =
     let a = c.args in
     let p = port_at a.table.now a.i in
-    let is = (λ j. frame_answer (sym c.classify.ensures j) (sym c.load-p.ensures j).line (sym c.load-p.ensures j).phase.mux) ∙ sym c.judge.ensures ∙ c.in-Lacpdu.is in
+    let is = (λ j. frame_answer (sym c.classify.ensures j) (sym c.load-p.ensures j).line (sym c.load-p.ensures j).phase.mux) ∙ sym c.judge.ensures ∙ c.in_ok-judge.was ∙ ap Ok c.in-Lacpdu.is in
     (c.requires, c.load-p.ensures, lacpdu-whole a.frame.now p.line p.phase.mux is)
 
 pub respond-requires : goal.respond-requires
 respond-requires c =
     let a = c.args in
     let p = port_at a.table.now a.i in
-    let is = (λ j. frame_answer (sym c.classify.ensures j) (sym c.load-p.ensures j).line (sym c.load-p.ensures j).phase.mux) ∙ sym c.judge.ensures ∙ c.in-Marker.is in
+    let is = (λ j. frame_answer (sym c.classify.ensures j) (sym c.load-p.ensures j).line (sym c.load-p.ensures j).phase.mux) ∙ sym c.judge.ensures ∙ c.in_ok-judge.was ∙ ap Ok c.in-Marker.is in
     (marker-whole a.frame.now p.line p.phase.mux is, omega (arith, c.if-out-lt-FRAME.false))
 
 pub returns-in-Done : goal.returns-in-Done
 returns-in-Done c =
     let long = le-ltb (length c.args.out.now) frame_size c.if-out-lt-FRAME.false in
-    let is = (λ j. frame_answer (sym c.classify.ensures j) (sym c.load-p.ensures j).line (sym c.load-p.ensures j).phase.mux) ∙ sym c.judge.ensures ∙ c.in-Done.is in
+    let is = (λ j. frame_answer (sym c.classify.ensures j) (sym c.load-p.ensures j).line (sym c.load-p.ensures j).phase.mux) ∙ sym c.judge.ensures ∙ c.in_ok-judge.was ∙ ap Ok c.in-Done.is in
     let same = octets-back c.args.table.now c.requires.0 (λ j. (c.slice_known-1.given j).fits) in
     (rw (long, is), sym same, refl)
 
 pub returns-in-Lacpdu : goal.returns-in-Lacpdu
 returns-in-Lacpdu c =
     let long = le-ltb (length c.args.out.now) frame_size c.if-out-lt-FRAME.false in
-    let is = (λ j. frame_answer (sym c.classify.ensures j) (sym c.load-p.ensures j).line (sym c.load-p.ensures j).phase.mux) ∙ sym c.judge.ensures ∙ c.in-Lacpdu.is in
+    let is = (λ j. frame_answer (sym c.classify.ensures j) (sym c.load-p.ensures j).line (sym c.load-p.ensures j).phase.mux) ∙ sym c.judge.ensures ∙ c.in_ok-judge.was ∙ ap Ok c.in-Lacpdu.is in
     (rw (long, is), c.receive.ensures, refl)
 
 pub returns-in-Marker : goal.returns-in-Marker
@@ -51,12 +52,12 @@ unfolding response_of
 returns-in-Marker c =
     let a = c.args in
     let long = le-ltb (length c.args.out.now) frame_size c.if-out-lt-FRAME.false in
-    let is = (λ j. frame_answer (sym c.classify.ensures j) (sym c.load-p.ensures j).line (sym c.load-p.ensures j).phase.mux) ∙ sym c.judge.ensures ∙ c.in-Marker.is in
+    let is = (λ j. frame_answer (sym c.classify.ensures j) (sym c.load-p.ensures j).line (sym c.load-p.ensures j).phase.mux) ∙ sym c.judge.ensures ∙ c.in_ok-judge.was ∙ ap Ok c.in-Marker.is in
     let same = octets-back c.args.table.now c.requires.0 (λ j. (c.slice_known-1.given j).fits) in
     (rw (long, is), sym same, c.respond.ensures ∙ (λ j. written_over (response (c.load-p.ensures j).own.address a.frame.now) a.out.now))
 
-pub returns-in-Refused : goal.returns-in-Refused
-returns-in-Refused c =
+pub returns-in_err-judge : goal.returns-in_err-judge
+returns-in_err-judge c =
     let long = le-ltb (length c.args.out.now) frame_size c.if-out-lt-FRAME.false in
-    let is = (λ j. frame_answer (sym c.classify.ensures j) (sym c.load-p.ensures j).line (sym c.load-p.ensures j).phase.mux) ∙ sym c.judge.ensures ∙ c.in-Refused.is in
-    (rw (long, is), refl, refl)
+    let is = (λ j. frame_answer (sym c.classify.ensures j) (sym c.load-p.ensures j).line (sym c.load-p.ensures j).phase.mux) ∙ sym c.judge.ensures ∙ c.in_err-judge.was in
+    rw (long, is, passed-up _ c.from_residual.ensures.1) (refl, refl, refl)

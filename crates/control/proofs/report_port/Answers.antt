@@ -1,7 +1,8 @@
 -- `control::report_port` meets its contract: the record's octets as they lie in the table, or zeros beside a refusal. Assumes nothing.
 use mathlib.Core.Path.{refl, sym, ◌∙◌}
 use Rattle.table.proofs.RuleLaws.{absent_zeros}
-use Rattle.control.specs.declared.answer.Answer.TheVariants.{Done}
+use Rattle.std.specs.Prelude.{Ok}
+use Rattle.control.specs.declared.answer.Accepted.TheVariants.{Done}
 use Rattle.control.specs.After.{answer}
 use Rattle.control.specs.Report.{port_report}
 use Rattle.control.proofs.CallLaws.{found-refused, found-answers, found-table, found_inside, found-index}
@@ -10,19 +11,19 @@ use Rattle.control.proofs.report_port.Goals as goal
 pub look-requires : goal.look-requires
 look-requires c =
     let t = c.args.table.now in
-    let here = sym c.find.ensures ∙ c.in-Port.is in
+    let here = sym c.find.ensures ∙ c.in-Ok.is in
     (found-table t _ here, found_inside t _ here)
 
-pub returns-in-Refused : goal.returns-in-Refused
+pub returns-in-Err : goal.returns-in-Err
 unfolding port_report answer
-returns-in-Refused c =
+returns-in-Err c =
     let a = c.args in
-    let here = sym c.find.ensures ∙ c.in-Refused.is in
-    rw (found-refused a.table.now a.n here Done, absent_zeros) (refl, c.put_fitting.ensures)
+    let here = sym c.find.ensures ∙ c.in-Err.is in
+    rw (found-refused a.table.now a.n here (Ok Done), absent_zeros) (refl, c.put_fitting.ensures)
 
-pub returns-in-Port : goal.returns-in-Port
+pub returns-in-Ok : goal.returns-in-Ok
 unfolding port_report answer
-returns-in-Port c =
+returns-in-Ok c =
     let a = c.args in
-    let here = sym c.find.ensures ∙ c.in-Port.is in
-    rw (found-answers a.table.now a.n here Done, ← found-index a.table.now a.n here, ← c.look.ensures.2) (refl, c.put_fitting-in-Port.ensures)
+    let here = sym c.find.ensures ∙ c.in-Ok.is in
+    rw (found-answers a.table.now a.n here (Ok Done), ← found-index a.table.now a.n here, ← c.look.ensures.2) (refl, c.put_fitting-in-Ok.ensures)

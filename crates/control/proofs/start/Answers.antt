@@ -4,7 +4,8 @@ use native.Mathlib.Omega.{arith}
 use Rattle.octets.specs.Octets.{within}
 use Rattle.octets.proofs.RangeLaws.{both, within-true}
 use Rattle.table.specs.Layout.{most_ports}
-use Rattle.control.specs.declared.answer.Answer.TheVariants.{Done, Refused}
+use Rattle.std.specs.Prelude.{Ok, Err}
+use Rattle.control.specs.declared.answer.Accepted.TheVariants.{Done}
 use Rattle.control.specs.declared.answer.Reason.TheVariants as reason
 use Rattle.control.specs.Call as call
 use Rattle.control.specs.After.{answer, effect}
@@ -17,7 +18,7 @@ returns-then-not-is_room c =
     let a = c.args in
     let t = a.table.now in
     let this = call.start a.count a.system a.delay a.settings in
-    let refused : answer this t ≡ Refused reason.Table = rw (sym c.is_room.ensures ∙ c.if-not-is_room.true) in
+    let refused : answer this t ≡ Err reason.Table = rw (sym c.is_room.ensures ∙ c.if-not-is_room.true) in
     (sym refused, sym (refused-table this t refused))
 
 pub returns-then-not-is_lawful : goal.returns-then-not-is_lawful
@@ -26,7 +27,7 @@ returns-then-not-is_lawful c =
     let a = c.args in
     let t = a.table.now in
     let this = call.start a.count a.system a.delay a.settings in
-    let refused : answer this t ≡ Refused reason.Default =
+    let refused : answer this t ≡ Err reason.Default =
     rw (sym c.is_room.ensures ∙ c.if-not-is_room.false, sym c.is_lawful.ensures ∙ c.if-not-is_lawful.true) in
     (sym refused, sym (refused-table this t refused))
 
@@ -46,6 +47,6 @@ returns c =
     let a = c.args in
     let t = a.table.now in
     let this = call.start a.count a.system a.delay a.settings in
-    let done : answer this t ≡ Done =
+    let done : answer this t ≡ Ok Done =
     rw (sym c.is_room.ensures ∙ c.if-not-is_room.false, sym c.is_lawful.ensures ∙ c.if-not-is_lawful.false) in
     (sym done, c.begin.ensures ∙ sym (done-table this t done))
