@@ -1,4 +1,5 @@
 -- The tests of an ask, one after the other, and what it leaves. Assumes nothing.
+use Rattle.std.specs.Prelude.{Ok, Err}
 use Prim.Native.Nat.{ℕ, ◌-◌, ◌≤◌, ◌<◌}
 use mathlib.Core.Path.{◌≡◌, refl, sym, ap, ◌∙◌}
 use mathlib.Core.Bool.{Bool, true, false, cond, not, false≢true}
@@ -20,11 +21,10 @@ use Rattle.churn.specs.Whole.{whole_size, base_of}
 use Rattle.asks.specs.declared.ask.Ask.{Ask}
 use Rattle.asks.specs.Ask.{longest_wait, is_awaiting, asked}
 use Rattle.asks.specs.Groups.{ask_at}
-use Rattle.control.specs.declared.answer.Answer.{Answer}
-use Rattle.control.specs.declared.answer.Answer.TheVariants.{Done, Lacpdu, Marker, Refused}
+use Rattle.control.specs.declared.answer.Accepted.TheVariants.{Done, Lacpdu, Marker}
 use Rattle.control.specs.declared.answer.Reason.TheVariants as reason
 use Rattle.control.specs.Accepted.{accepted}
-use Rattle.control.specs.Answer.{is_number}
+use Rattle.control.specs.Answer.{Answer, is_number}
 use Rattle.control.specs.Call.{report}
 use Rattle.control.specs.After.{answer, unless}
 use Rattle.whole.specs.Calls.{whole_answer}
@@ -45,15 +45,15 @@ keeps said.NotDistributing = true
 keeps said.Awaiting = true
 
 kept : {A : Type 0} (x y : A) (s : Said) → keeps s ≡ true → unless_said s x y ≡ x
-kept x y (said.Plain Done) e = absurd (false≢true e)
-kept x y (said.Plain Lacpdu) e = absurd (false≢true e)
-kept x y (said.Plain Marker) e = absurd (false≢true e)
-kept x y (said.Plain (Refused r)) e = refl
+kept x y (said.Plain (Ok Done)) e = absurd (false≢true e)
+kept x y (said.Plain (Ok Lacpdu)) e = absurd (false≢true e)
+kept x y (said.Plain (Ok Marker)) e = absurd (false≢true e)
+kept x y (said.Plain (Err r)) e = refl
 kept x y said.Wait e = refl
 kept x y said.NotDistributing e = refl
 kept x y said.Awaiting e = refl
 
-pub ask-roomless : (n wait : ℕ) (out m : List ℕ) → has_asks new_layer m ≡ false → MeetsAsk n wait out m (said.Plain (Refused reason.Table)) m out
+pub ask-roomless : (n wait : ℕ) (out m : List ℕ) → has_asks new_layer m ≡ false → MeetsAsk n wait out m (said.Plain (Err reason.Table)) m out
 unfolding ask_answer ask_after ask_outgoing
 ask-roomless n wait out m e = (rw e, rw e, rw e)
 
@@ -64,23 +64,23 @@ module _ (n : ℕ) (m : List ℕ) (f b : ℕ) (isf : f ≡ whole_size (count_in 
     pub some : 1 ≤ n
     pub most : n ≤ count_in m
 
-  accepted-ranged : (t : List ℕ) (rest : Answer) → accepted (cond (table_in_range t) (cond (is_number t n) rest (Refused reason.Number)) (Refused reason.Table)) ≡ true → table_in_range t ≡ true
+  accepted-ranged : (t : List ℕ) (rest : Answer) → accepted (cond (table_in_range t) (cond (is_number t n) rest (Err reason.Number)) (Err reason.Table)) ≡ true → table_in_range t ≡ true
   accepted-ranged t rest e = by (table_in_range t) (is_number t n) e
     where
-      by : (x y : Bool) → accepted (cond x (cond y rest (Refused reason.Number)) (Refused reason.Table)) ≡ true → x ≡ true
+      by : (x y : Bool) → accepted (cond x (cond y rest (Err reason.Number)) (Err reason.Table)) ≡ true → x ≡ true
       by true y h = refl
       by false y h = absurd (false≢true h)
 
   pub port-there : accepted (whole_answer (report n) (take f m)) ≡ true → There
   port-there e = record {
-    ranged = ap table_in_range (sym (base-is m f b isf isb)) ∙ unfold answer base_of in accepted-ranged (base_of (take f m)) Done (below-accepted (report n) (take f m) e);
+    ranged = ap table_in_range (sym (base-is m f b isf isb)) ∙ unfold answer base_of in accepted-ranged (base_of (take f m)) (Ok Done) (below-accepted (report n) (take f m) e);
     some = number.0;
     most = rw (base-count m f b isf isb) at number.1;
   }
     where
       numbered : is_number (take b m) n ≡ true
       numbered = unfold answer base_of in
-          ap (λ (t : List ℕ). is_number t n) (sym (base-is m f b isf isb)) ∙ accepted-number (base_of (take f m)) n Done (below-accepted (report n) (take f m) e)
+          ap (λ (t : List ℕ). is_number t n) (sym (base-is m f b isf isb)) ∙ accepted-number (base_of (take f m)) n (Ok Done) (below-accepted (report n) (take f m) e)
 
       number : (1 ≤ n) × (n ≤ count_in (take b m))
       number = within-true 1 n (count_in (take b m)) numbered
@@ -98,9 +98,9 @@ module _ (n wait : ℕ) (out m : List ℕ) (f b : ℕ) (isf : f ≡ whole_size (
 
   then : Said
   then =
-      cond (ltb (length out) frame_size) (said.Plain (Refused reason.Buffer))
+      cond (ltb (length out) frame_size) (said.Plain (Err reason.Buffer))
       (cond (within 1 wait longest_wait)
-      (cond (distributes holder.phase.mux) (cond (is_awaiting q.outcome) said.Awaiting (said.Plain Done)) said.NotDistributing)
+      (cond (distributes holder.phase.mux) (cond (is_awaiting q.outcome) said.Awaiting (said.Plain (Ok Done))) said.NotDistributing)
       said.Wait)
 
   told : ask_answer new_layer n wait out m ≡ unless below (said.Plain below) then
@@ -108,14 +108,14 @@ module _ (n wait : ℕ) (out m : List ℕ) (f b : ℕ) (isf : f ≡ whole_size (
   told =
       rw has
       (ap (λ (k : ℕ). unless (whole_answer (report n) (take k m)) (said.Plain (whole_answer (report n) (take k m)))
-      (cond (ltb (length out) frame_size) (said.Plain (Refused reason.Buffer))
+      (cond (ltb (length out) frame_size) (said.Plain (Err reason.Buffer))
       (cond (within 1 wait longest_wait)
-      (cond (distributes (port_at (base_of (take k m)) (n - 1)).phase.mux) (cond (is_awaiting (ask_at (drop k m) (n - 1)).outcome) said.Awaiting (said.Plain Done)) said.NotDistributing)
+      (cond (distributes (port_at (base_of (take k m)) (n - 1)).phase.mux) (cond (is_awaiting (ask_at (drop k m) (n - 1)).outcome) said.Awaiting (said.Plain (Ok Done))) said.NotDistributing)
       said.Wait))) (sym isf)
       ∙ ap (λ (t : List ℕ). unless below (said.Plain below)
-      (cond (ltb (length out) frame_size) (said.Plain (Refused reason.Buffer))
+      (cond (ltb (length out) frame_size) (said.Plain (Err reason.Buffer))
       (cond (within 1 wait longest_wait)
-      (cond (distributes (port_at t (n - 1)).phase.mux) (cond (is_awaiting q.outcome) said.Awaiting (said.Plain Done)) said.NotDistributing)
+      (cond (distributes (port_at t (n - 1)).phase.mux) (cond (is_awaiting q.outcome) said.Awaiting (said.Plain (Ok Done))) said.NotDistributing)
       said.Wait))) (base-is m f b isf isb))
 
   -- the table and the buffer afterwards, if it is accepted
@@ -141,8 +141,8 @@ module _ (n wait : ℕ) (out m : List ℕ) (f b : ℕ) (isf : f ≡ whole_size (
     passed : ask_answer new_layer n wait out m ≡ then
     passed = told ∙ given_back (said.Plain below) then below (sym (ap accepted is) ∙ done)
 
-    pub ask-short : length out < frame_size → MeetsAsk n wait out m (said.Plain (Refused reason.Buffer)) m out
-    ask-short h = refused (said.Plain (Refused reason.Buffer)) (passed ∙ unfold then in rw (lt-ltb (length out) frame_size h)) refl
+    pub ask-short : length out < frame_size → MeetsAsk n wait out m (said.Plain (Err reason.Buffer)) m out
+    ask-short h = refused (said.Plain (Err reason.Buffer)) (passed ∙ unfold then in rw (lt-ltb (length out) frame_size h)) refl
 
     module _ (roomy : frame_size ≤ length out) where
       pub ask-wait : within 1 wait longest_wait ≡ false → MeetsAsk n wait out m said.Wait m out
@@ -158,10 +158,10 @@ module _ (n wait : ℕ) (out m : List ℕ) (f b : ℕ) (isf : f ≡ whole_size (
 
           pub ask-done : is_awaiting q.outcome ≡ false → (v o : List ℕ) → v ≡ take f m ++ with_ask (n - 1) (asked wait q) (drop f m)
               → o ≡ written_over (marker holder.own.address kind.Marker (request_of n (ours (take b m)).system.address q.number)) out
-              → MeetsAsk n wait out m (said.Plain Done) v o
+              → MeetsAsk n wait out m (said.Plain (Ok Done)) v o
           unfolding ask_after ask_outgoing
           ask-done h v o left sent =
-              let yes : ask_answer new_layer n wait out m ≡ said.Plain Done = passed ∙ unfold then in rw (le-ltb (length out) frame_size roomy, fit, carries, h) in (
+              let yes : ask_answer new_layer n wait out m ≡ said.Plain (Ok Done) = passed ∙ unfold then in rw (le-ltb (length out) frame_size roomy, fit, carries, h) in (
                 sym yes,
                 left ∙ ap (λ (k : ℕ). take k m ++ with_ask (n - 1) (asked wait (ask_at (drop k m) (n - 1))) (drop k m)) isf ∙ sym (ap (λ (x : Said). unless_said x m leaving) yes),
                 sent ∙ ap (λ (t : List ℕ). written_over (marker (port_at t (n - 1)).own.address kind.Marker (request_of n (ours t).system.address q.number)) out) (sym (base-is m f b isf isb))

@@ -1,5 +1,6 @@
 -- What the wrappers rest on: memory is a front and the groups behind it, a call below leaves the front's size, and so what is put together again is what the definitions
 -- say. Assumes nothing.
+use Rattle.std.specs.Prelude.{Ok, Err}
 use Prim.Native.Nat.{ℕ, ◌-◌, ◌≤◌}
 use mathlib.Core.Path.{◌≡◌, sym, ap, ◌∙◌}
 use mathlib.Core.Bool.{true, false, cond}
@@ -15,8 +16,8 @@ use Rattle.octets.proofs.RangeLaws.{both, within-true}
 use Rattle.table.specs.Layout.{most_ports}
 use Rattle.table.specs.Table.{count_in}
 use Rattle.asks.specs.Groups.{groups_in_range}
-use Rattle.control.specs.declared.answer.Answer.{Answer}
-use Rattle.control.specs.declared.answer.Answer.TheVariants.{Done, Refused}
+use Rattle.control.specs.Answer.{Answer}
+use Rattle.control.specs.declared.answer.Accepted.TheVariants.{Done}
 use Rattle.control.specs.declared.answer.Reason.TheVariants as reason
 use Rattle.control.specs.Call.{Call}
 use Rattle.control.specs.After.{buffer_of}
@@ -60,11 +61,11 @@ module _ (f : ℕ) (m : List ℕ) where
 -- ---- a call that finds its room, and one that does not
 
 module _ (c : Call) (m : List ℕ) where
-  pub roomless : room_for new_layer c m ≡ false → Meets c m (Refused reason.Table) m
+  pub roomless : room_for new_layer c m ≡ false → Meets c m (Err reason.Table) m
   unfolding asked_answer asked_after
   roomless e = (rw e, rw e)
 
-  pub roomless-out : room_for new_layer c m ≡ false → MeetsOut c m (Refused reason.Table) m (buffer_of c)
+  pub roomless-out : room_for new_layer c m ≡ false → MeetsOut c m (Err reason.Table) m (buffer_of c)
   unfolding asked_answer asked_after asked_outgoing
   roomless-out e = (rw e, rw e, rw e)
 
@@ -74,7 +75,7 @@ module _ (c : Call) (m : List ℕ) where
         → g ≡ groups_after new_layer c (take f m) (drop f m) → v ≡ u ++ g → Meets c m a v
     unfolding asked_answer asked_after
     finished a u g v not told left grouped made = (
-      told ∙ sym (rw (room) (ap (λ (k : ℕ). cond (is_ours new_layer c (take k m) (drop k m)) Done (new_layer.answers c (take k m))) (sym is) ∙ rw not)),
+      told ∙ sym (rw (room) (ap (λ (k : ℕ). cond (is_ours new_layer c (take k m) (drop k m)) (Ok Done) (new_layer.answers c (take k m))) (sym is) ∙ rw not)),
       made ∙ (λ i. left i ++ grouped i)
           ∙ sym (rw room (ap (λ (k : ℕ). new_layer.leaves c (take k m) ++ groups_after new_layer c (take k m) (drop k m)) (sym is))),
     )
@@ -87,10 +88,10 @@ module _ (c : Call) (m : List ℕ) where
         (r.0, r.1, sent ∙ sym (rw room (ap (λ (k : ℕ). new_layer.sends c (take k m)) (sym is))))
 
     pub finished-ours : (u g v o : List ℕ) → is_ours new_layer c (take f m) (drop f m) ≡ true → u ≡ new_layer.leaves c (take f m)
-        → g ≡ groups_after new_layer c (take f m) (drop f m) → v ≡ u ++ g → o ≡ new_layer.sends c (take f m) → MeetsOut c m Done v o
+        → g ≡ groups_after new_layer c (take f m) (drop f m) → v ≡ u ++ g → o ≡ new_layer.sends c (take f m) → MeetsOut c m (Ok Done) v o
     unfolding asked_answer asked_after asked_outgoing
     finished-ours u g v o so left grouped made sent = (
-      sym (rw room (ap (λ (k : ℕ). cond (is_ours new_layer c (take k m) (drop k m)) Done (new_layer.answers c (take k m))) (sym is) ∙ rw so)),
+      sym (rw room (ap (λ (k : ℕ). cond (is_ours new_layer c (take k m) (drop k m)) (Ok Done) (new_layer.answers c (take k m))) (sym is) ∙ rw so)),
       made ∙ (λ i. left i ++ grouped i)
           ∙ sym (rw room (ap (λ (k : ℕ). new_layer.leaves c (take k m) ++ groups_after new_layer c (take k m) (drop k m)) (sym is))),
       sent ∙ sym (rw room (ap (λ (k : ℕ). new_layer.sends c (take k m)) (sym is))),

@@ -1,4 +1,5 @@
 -- A line call and a received Response: what the code finds is what the definitions ask of the front's records. Assumes nothing.
+use Rattle.std.specs.Prelude.{Ok, Err}
 use Prim.Native.Nat.{ℕ, ◌-◌, ◌≤◌}
 use mathlib.Core.Path.{◌≡◌, refl, sym, ap, ◌∙◌, subst}
 use mathlib.Core.Bool.{Bool, true, false, cond, ◌&&◌}
@@ -21,11 +22,10 @@ use Rattle.table.specs.Layout.{place}
 use Rattle.table.specs.Table.{count_in, port_at, ours, table_in_range}
 use Rattle.churn.specs.Whole.{whole_size, base_of}
 use Rattle.asks.specs.Groups.{ask_at}
-use Rattle.control.specs.declared.answer.Answer.{Answer}
-use Rattle.control.specs.declared.answer.Answer.TheVariants.{Done, Lacpdu, Marker, Refused}
+use Rattle.control.specs.declared.answer.Accepted.TheVariants.{Done, Lacpdu, Marker}
 use Rattle.control.specs.declared.answer.Reason.TheVariants as reason
 use Rattle.control.specs.Accepted.{accepted}
-use Rattle.control.specs.Answer.{answer_number, is_number, frame_answer}
+use Rattle.control.specs.Answer.{Answer, answer_number, is_number, frame_answer}
 use Rattle.control.specs.Call.{Call, line, receive}
 use Rattle.control.specs.After.{answer}
 use Rattle.whole.specs.Calls.{count_for, base_for, has_room, whole_answer, whole_after}
@@ -63,7 +63,7 @@ module _ (n : ℕ) (l : Line) (m : List ℕ) (f b : ℕ) (isf : f ≡ whole_size
   pub line-there : accepted (whole_answer (line n l) (take f m)) ≡ true → is_number (take b m) n ≡ true
   unfolding answer base_of
   line-there e =
-      ap (λ (t : List ℕ). is_number t n) (sym (base-is m f b isf isb)) ∙ accepted-number (base_of (take f m)) n Done (below-accepted (line n l) (take f m) e)
+      ap (λ (t : List ℕ). is_number t n) (sym (base-is m f b isf isb)) ∙ accepted-number (base_of (take f m)) n (Ok Done) (below-accepted (line n l) (take f m) e)
 
   -- what the code found is what the definition asks
   pub line-ends : (a : Answer) (r : Bool) → a ≡ whole_answer (line n l) (take f m) → (is_number (take b m) n ≡ true → r ≡ falls_from (port_at (take b m) (n - 1)).line l)
@@ -101,7 +101,7 @@ response-below n frame out t e = by (table_in_range t) refl (is_number t n) refl
     then = frame_answer (class_of frame) p.line p.phase.mux
 
     by : (x : Bool) → table_in_range t ≡ x → (y : Bool) → is_number t n ≡ y → (z : Bool)
-        → answer_number (cond x (cond y (cond z (Refused reason.Buffer) then) (Refused reason.Number)) (Refused reason.Table)) ≡ 12 → Responds t n frame
+        → answer_number (cond x (cond y (cond z (Err reason.Buffer) then) (Err reason.Number)) (Err reason.Table)) ≡ 12 → Responds t n frame
     by true r true h false g =
         let w = within-true 1 n (count_in t) h in
         record { ranged = r; some = w.0; most = w.1; long = passed-whole frame (response-passes (class_of frame) p.line p.phase.mux g) }
@@ -124,10 +124,10 @@ module _ (n : ℕ) (frame out m : List ℕ) (f b : ℕ) (isf : f ≡ whole_size 
   response-leaves e = by (whole_answer (receive n frame out) (take f m)) refl e
     where
       by : (a : Answer) → whole_answer (receive n frame out) (take f m) ≡ a → answer_number a ≡ 12 → whole_after (receive n frame out) (take f m) ≡ take f m
-      by Done g h = absurd (omega (arith, h))
-      by Lacpdu g h = absurd (omega (arith, h))
-      by Marker g h = absurd (omega (arith, h))
-      by (Refused r) g h = (whole-refused (receive n frame out) (take f m) r g).0
+      by (Ok Done) g h = absurd (omega (arith, h))
+      by (Ok Lacpdu) g h = absurd (omega (arith, h))
+      by (Ok Marker) g h = absurd (omega (arith, h))
+      by (Err r) g h = (whole-refused (receive n frame out) (take f m) r g).0
 
   -- whether it is ours, by the number alone, and then by the request
   pub ours-by-number : eqb (answer_number (whole_answer (receive n frame out) (take f m))) 12 ≡ false → is_ours new_layer (receive n frame out) (take f m) (drop f m) ≡ false

@@ -1,4 +1,5 @@
 -- Moves: the front moves as it does below, and the groups go along. There and back gives the same table; back and there keeps all but the monitors. Assumes nothing.
+use Rattle.std.specs.Prelude.{Ok, Err}
 use Prim.Native.Nat.{ℕ, ◌+◌, ◌*◌, ◌≤◌}
 use mathlib.Core.Path.{◌≡◌, refl, sym, ap, ◌∙◌}
 use mathlib.Core.Bool.{Bool, true, false, cond, ◌&&◌, false≢true}
@@ -17,8 +18,8 @@ use Rattle.churn.specs.Whole.{whole_size, base_of, has_monitors}
 use Rattle.churn.proofs.WholeLaws.{base-count}
 use Rattle.asks.specs.Group.{group_size}
 use Rattle.asks.specs.Groups.{groups_in_range}
-use Rattle.control.specs.declared.answer.Answer.{Answer}
-use Rattle.control.specs.declared.answer.Answer.TheVariants.{Done, Refused}
+use Rattle.control.specs.Answer.{Answer}
+use Rattle.control.specs.declared.answer.Accepted.TheVariants.{Done}
 use Rattle.control.specs.declared.answer.Reason.TheVariants as reason
 use Rattle.control.specs.Accepted.{accepted}
 use Rattle.whole.specs.Moves.{is_new, moved_forward, goes_forward as frontForward, goes_back as frontBack, forward_answer as frontForwardAnswer, forward_to as frontForwardTo, back_answer as frontBackAnswer, back_to as frontBackTo}
@@ -32,11 +33,11 @@ use Rattle.asked.proofs.JoinLaws.{joined-count, joined-front, joined-groups, joi
 
 -- ---- refusals
 
-pub forward-refused : (m u : List ℕ) → goes_forward m u ≡ false → MeetsForward m u (Refused reason.Table) u
+pub forward-refused : (m u : List ℕ) → goes_forward m u ≡ false → MeetsForward m u (Err reason.Table) u
 unfolding forward_answer forward_to
 forward-refused m u e = (rw e, rw e)
 
-pub back-refused : (m u : List ℕ) → goes_back m u ≡ false → MeetsBack m u (Refused reason.Table) u
+pub back-refused : (m u : List ℕ) → goes_back m u ≡ false → MeetsBack m u (Err reason.Table) u
 unfolding back_answer back_to
 back-refused m u e = (rw e, rw e)
 
@@ -71,7 +72,7 @@ module _ (m u : List ℕ) (b f : ℕ) (isb : b ≡ place (count_in m)) (isf : f 
   module _ (a : Answer) (v : List ℕ) (told : a ≡ frontForwardAnswer (take b m) (take f u)) (left : v ≡ frontForwardTo (take b m) (take f u)) where
     forward-told : a ≡ forward_answer m u
     unfolding forward_answer frontForwardAnswer
-    forward-told = told ∙ ap (λ (x : Bool). cond x Done (Refused reason.Table)) forward-alike
+    forward-told = told ∙ ap (λ (x : Bool). cond x (Ok Done) (Err reason.Table)) forward-alike
 
     pub forward-done : accepted a ≡ true → length v ≡ length (take f u) → (w : List ℕ) → w ≡ put_at f (drop b m) (v ++ drop f u) → MeetsForward m u a w
     unfolding forward_to frontForwardTo
@@ -110,7 +111,7 @@ module _ (m u : List ℕ) (b f : ℕ) (isb : b ≡ place (count_in m)) (isf : f 
   module _ (a : Answer) (v : List ℕ) (told : a ≡ frontBackAnswer (take f m) (take b u)) (left : v ≡ frontBackTo (take f m) (take b u)) where
     back-told : a ≡ back_answer m u
     unfolding back_answer frontBackAnswer
-    back-told = told ∙ ap (λ (x : Bool). cond x Done (Refused reason.Table)) back-alike
+    back-told = told ∙ ap (λ (x : Bool). cond x (Ok Done) (Err reason.Table)) back-alike
 
     pub back_done : accepted a ≡ true → length v ≡ length (take b u) → (w : List ℕ) → w ≡ put_at b (drop f m) (v ++ drop b u) → MeetsBack m u a w
     unfolding back_to frontBackTo
@@ -136,7 +137,7 @@ module _ (m u : List ℕ) (b f : ℕ) (isb : b ≡ place (count_in m)) (isf : f 
 
 -- ---- there and back
 
-gone : (x : Bool) → cond x Done (Refused reason.Table) ≡ Done → x ≡ true
+gone : (x : Bool) → cond x (Ok Done) (Err reason.Table) ≡ Ok Done → x ≡ true
 gone true e = refl
 gone false e = absurd (false≢true (ap accepted e))
 

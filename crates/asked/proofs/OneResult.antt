@@ -3,9 +3,7 @@
 use Prim.Native.Nat.{ℕ}
 use mathlib.Core.Path.{◌≡◌, sym, ◌∙◌}
 use mathlib.Core.List.{List}
-use Rattle.control.specs.declared.answer.Answer.{Answer}
-use Rattle.control.specs.declared.answer.AggregatorReport.{AggregatorReport}
-use Rattle.control.specs.declared.answer.DueReport.{DueReport}
+use Rattle.control.specs.Answer.{Answer}
 use Rattle.control.specs.Call.{Call}
 use Rattle.asked.specs.declared.said.Said.{Said}
 use Rattle.asked.specs.Meets.{Meets, MeetsOut, MeetsAsk, MeetsPort, MeetsNumber, MeetsNumberOut, MeetsFrame, MeetsAskNumber, MeetsRecord, MeetsAggregator, MeetsDue}

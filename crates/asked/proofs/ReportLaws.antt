@@ -1,4 +1,5 @@
 -- The report of a port: the record of the front, and behind it as much of the group as fits. Assumes nothing.
+use Rattle.std.specs.Prelude.{Err}
 use Prim.Native.Nat.{ℕ, ◌-◌, ◌≤◌, ◌<◌}
 use mathlib.Core.Path.{◌≡◌, refl, sym, ap, ◌∙◌}
 use mathlib.Core.Bool.{Bool, true, false}
@@ -15,8 +16,7 @@ use Rattle.table.proofs.RecordLaws.{encoded-length}
 use Rattle.churn.specs.Group.{group_size as monitorsSize}
 use Rattle.churn.specs.Whole.{group_place, whole_size, base_of, group_at}
 use Rattle.asks.specs.Group.{group_size}
-use Rattle.control.specs.declared.answer.Answer.{Answer}
-use Rattle.control.specs.declared.answer.Answer.TheVariants.{Refused}
+use Rattle.control.specs.Answer.{Answer}
 use Rattle.control.specs.declared.answer.Reason.TheVariants as reason
 use Rattle.control.specs.Accepted.{accepted}
 use Rattle.control.specs.Call.{report}
@@ -50,7 +50,7 @@ record_length n w = by (accepted (whole_answer (report n) w)) refl
         ap length (given_back _ _ (whole_answer (report n) w) e) ∙ length-append (encoded (port_report n (base_of w))) (take monitorsSize (drop (group_place (count_in w) (n - 1)) w))
         ∙ omega (arith, k, l)
 
-pub report-roomless : (n : ℕ) (m l r : List ℕ) → has_asks new_layer m ≡ false → r ≡ fitted (replicate asked_record_size 0) l → MeetsPort n m l (Refused reason.Table) r
+pub report-roomless : (n : ℕ) (m l r : List ℕ) → has_asks new_layer m ≡ false → r ≡ fitted (replicate asked_record_size 0) l → MeetsPort n m l (Err reason.Table) r
 unfolding asked_answer asked_record
 report-roomless n m l r e left = (rw e, left ∙ rw e)
 

@@ -1,6 +1,6 @@
 -- A table with what its ports asked for (43.5; M-102): a table of the layer below, its front, and behind it a group for each port, in their order. So a table that knows
 -- nothing of Markers of our own is the same less its last octets.
-use Rattle.std.specs.Prelude.{ℕ, ◌+◌, ◌*◌, Bool, ◌&&◌, List, ◌++◌, length, take, drop, eqb}
+use Rattle.std.specs.Prelude.{ℕ, ◌+◌, ◌*◌, Bool, ◌&&◌, List, ◌++◌, length, take, drop, eqb, cond, Result, Ok, Err, Option, Some, None}
 use Rattle.octets.specs.Octets.{within, same_octets, put_at, number_octets, long_octets}
 use Rattle.frame.specs.declared.block.Address.{Address}
 use Rattle.frame.specs.Block.{address_octets}
@@ -12,6 +12,8 @@ use Rattle.asks.specs.declared.ask.Outcome.{Outcome}
 use Rattle.asks.specs.Ask.{is_awaiting, awaited, ended}
 use Rattle.asks.specs.Group.{group_size, group_octets}
 use Rattle.asks.specs.Groups.{ask_at, groups_in_range}
+use Rattle.control.specs.declared.answer.Reason.{Reason}
+use Rattle.control.specs.declared.answer.Reason.TheVariants as reason
 use Rattle.asked.specs.Layer.{Layer}
 
 -- the octets of a table of `count` ports
@@ -31,6 +33,14 @@ is_asked_room L m count = within 1 count most_ports && eqb (length m) (asked_siz
 -- what answer 1 is not given for, beyond what the front is tested for: the size, and each group's ranges
 unfoldable pub has_asks : Layer → List ℕ → Bool
 has_asks L m = eqb (length m) (asked_size L (count_in m)) && groups_in_range (count_in m) (groups_of L m)
+
+-- what the code finds by it: answer 1, or the octets of the front
+unfoldable pub front_found : Layer → List ℕ → Result ℕ Reason
+front_found L m = cond (has_asks L m) (Ok (L.size (count_in m))) (Err reason.Table)
+
+-- the octets of a table of `count` ports, where there is one
+abbrev pub size_found : Layer → ℕ → Option ℕ
+size_found L count = cond (within 1 count most_ports) (Some (asked_size L count)) None
 
 -- the groups with port i's, from 0, at this
 abbrev pub with_ask : ℕ → Ask → List ℕ → List ℕ

@@ -1,16 +1,15 @@
 -- The calls of before on a table with what its ports asked for: each is the call on the front, and then the groups. A start makes them new, a tick makes their timers fall, a link
 -- that falls cancels, and a Response that brings an awaited request back is accepted instead of answer 12.
-use Rattle.std.specs.Prelude.{ℕ, ◌-◌, Bool, false, cond, not, ◌&&◌, List, ◌++◌, take, drop, eqb}
+use Rattle.std.specs.Prelude.{ℕ, ◌-◌, Bool, false, cond, not, ◌&&◌, List, ◌++◌, take, drop, eqb, Ok, Err}
 use Rattle.machine.specs.declared.states.Line.{Line}
 use Rattle.machine.specs.States.{same_line}
 use Rattle.table.specs.Table.{count_in, port_at, ours}
 use Rattle.asks.specs.declared.ask.Outcome.TheVariants.{Answered, Cancelled}
 use Rattle.asks.specs.Groups.{ask_at, all_fallen, all_begun}
-use Rattle.control.specs.declared.answer.Answer.{Answer}
-use Rattle.control.specs.declared.answer.Answer.TheVariants.{Done, Refused}
+use Rattle.control.specs.declared.answer.Accepted.TheVariants.{Done}
 use Rattle.control.specs.declared.answer.Reason.TheVariants as reason
 use Rattle.control.specs.Accepted.{accepted}
-use Rattle.control.specs.Answer.{answer_number}
+use Rattle.control.specs.Answer.{Answer, answer_number}
 use Rattle.control.specs.Call.{Call, start, receive, tick, line, configure, fetch, report, aggregator, due}
 use Rattle.control.specs.After.{buffer_of}
 use Rattle.whole.specs.Calls.{count_for}
@@ -69,7 +68,7 @@ groups_after L due f g = g
 
 unfoldable pub asked_answer : Layer → Call → List ℕ → Answer
 asked_answer L c m =
-    cond (room_for L c m) (cond (is_ours L c (front_for L c m) (groups_for L c m)) Done (L.answers c (front_for L c m))) (Refused reason.Table)
+    cond (room_for L c m) (cond (is_ours L c (front_for L c m) (groups_for L c m)) (Ok Done) (L.answers c (front_for L c m))) (Err reason.Table)
 
 unfoldable pub asked_after : Layer → Call → List ℕ → List ℕ
 asked_after L c m = cond (room_for L c m) (L.leaves c (front_for L c m) ++ groups_after L c (front_for L c m) (groups_for L c m)) m

@@ -2,7 +2,7 @@
 use Rattle.std.specs.Prelude.{ℕ, List}
 use Rattle.table.specs.Layout.{place}
 use Rattle.churn.specs.Whole.{whole_size, base_of}
-use Rattle.control.specs.declared.answer.Answer.{Answer}
+use Rattle.control.specs.Answer.{Answer}
 use Rattle.control.specs.Call.{Call}
 use Rattle.control.specs.After.{answer, after, outgoing}
 use Rattle.whole.specs.Calls.{whole_answer, whole_after, whole_outgoing}

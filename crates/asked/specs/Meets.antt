@@ -1,13 +1,12 @@
 -- What a call promises: its answer, and every octet that it leaves. The contracts of the calls and of the C functions say no more and no less.
 use Rattle.std.specs.Prelude.{ℕ, ◌≡◌, List}
 use Rattle.octets.specs.Octets.{fitted}
-use Rattle.control.specs.declared.answer.Answer.{Answer}
-use Rattle.control.specs.Answer.{answer_number, length_sent}
+use Rattle.control.specs.Answer.{Answer, answer_number, length_sent}
 use Rattle.control.specs.Call.{Call, report}
-use Rattle.asked.specs.declared.said.Said.{Said}
+use Rattle.control.specs.Report.{sets_told, ports_told}
 use Rattle.asked.specs.Layer.{new_layer}
 use Rattle.asked.specs.Calls.{asked_answer, asked_after, asked_outgoing}
-use Rattle.asked.specs.Ask.{said_number, ask_answer, ask_after, ask_outgoing}
+use Rattle.asked.specs.Ask.{Said, said_number, ask_answer, ask_after, ask_outgoing}
 use Rattle.asked.specs.Report.{asked_record, asked_aggregator, asked_due}
 
 -- of a call on memory m: the answer a, and the memory u afterwards
@@ -50,13 +49,13 @@ MeetsRecord port m l n r = (n ≡ answer_number (asked_answer new_layer (report 
 -- the report of an aggregator: the sets of those that hold it, are attached and distribute, how many distribute and the lowest that does
 abbrev pub MeetsAggregator : ℕ → List ℕ → ℕ → ℕ → ℕ → ℕ → ℕ → ℕ → Type 0
 MeetsAggregator k m n holding attached distributing count lowest =
-    (n ≡ answer_number (asked_aggregator k m).answer)
-    × (holding ≡ (asked_aggregator k m).sets.holding)
-    × (attached ≡ (asked_aggregator k m).sets.attached)
-    × (distributing ≡ (asked_aggregator k m).sets.distributing)
-    × (count ≡ (asked_aggregator k m).sets.count)
-    × (lowest ≡ (asked_aggregator k m).sets.lowest)
+    (n ≡ answer_number (asked_aggregator k m))
+    × (holding ≡ (sets_told (asked_aggregator k m)).holding)
+    × (attached ≡ (sets_told (asked_aggregator k m)).attached)
+    × (distributing ≡ (sets_told (asked_aggregator k m)).distributing)
+    × (count ≡ (sets_told (asked_aggregator k m)).count)
+    × (lowest ≡ (sets_told (asked_aggregator k m)).lowest)
 
 -- which ports have something to send: their set
 abbrev pub MeetsDue : List ℕ → ℕ → ℕ → Type 0
-MeetsDue m n ports = (n ≡ answer_number (asked_due m).answer) × (ports ≡ (asked_due m).ports)
+MeetsDue m n ports = (n ≡ answer_number (asked_due m)) × (ports ≡ ports_told (asked_due m))

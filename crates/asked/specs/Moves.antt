@@ -1,11 +1,10 @@
 -- Moves between the two forms of a table (M-106): the front moves (whole/specs/Moves.antt), and the groups go along as they are.
-use Rattle.std.specs.Prelude.{ℕ, ◌≡◌, Bool, cond, ◌&&◌, List, ◌++◌, length, eqb}
+use Rattle.std.specs.Prelude.{ℕ, ◌≡◌, Bool, cond, ◌&&◌, List, ◌++◌, length, eqb, Ok, Err}
 use Rattle.table.specs.Table.{count_in, table_in_range}
 use Rattle.churn.specs.Whole.{base_of}
-use Rattle.control.specs.declared.answer.Answer.{Answer}
-use Rattle.control.specs.declared.answer.Answer.TheVariants.{Done, Refused}
+use Rattle.control.specs.declared.answer.Accepted.TheVariants.{Done}
 use Rattle.control.specs.declared.answer.Reason.TheVariants as reason
-use Rattle.control.specs.Answer.{answer_number}
+use Rattle.control.specs.Answer.{Answer, answer_number}
 use Rattle.control.specs.After.{unless}
 use Rattle.whole.specs.Moves.{is_new, moved_forward}
 use Rattle.asked.specs.Layer.{old_layer, new_layer}
@@ -27,10 +26,10 @@ goes_back m u = is_new_asked m && eqb (length u) (asked_size old_layer (count_in
 
 -- answer 1 otherwise
 unfoldable pub forward_answer : List ℕ → List ℕ → Answer
-forward_answer m u = cond (goes_forward m u) Done (Refused reason.Table)
+forward_answer m u = cond (goes_forward m u) (Ok Done) (Err reason.Table)
 
 unfoldable pub back_answer : List ℕ → List ℕ → Answer
-back_answer m u = cond (goes_back m u) Done (Refused reason.Table)
+back_answer m u = cond (goes_back m u) (Ok Done) (Err reason.Table)
 
 -- the target afterwards
 unfoldable pub forward_to : List ℕ → List ℕ → List ℕ
@@ -50,12 +49,12 @@ MeetsBack m u a v = (a ≡ back_answer m u) × (v ≡ back_to m u)
 
 -- a table of the old form that goes forward and back is the same table, octet for octet, whatever the memory of either move held
 abbrev pub ThereAndBack : Type 0
-ThereAndBack = (t u v : List ℕ) → forward_answer t u ≡ Done → length v ≡ length t → (back_answer (forward_to t u) v ≡ Done) × (back_to (forward_to t u) v ≡ t)
+ThereAndBack = (t u v : List ℕ) → forward_answer t u ≡ Ok Done → length v ≡ length t → (back_answer (forward_to t u) v ≡ Ok Done) × (back_to (forward_to t u) v ≡ t)
 
 -- and one of the new form that goes back and forward keeps everything but the monitors, which have begun afresh
 abbrev pub BackAndThere : Type 0
-BackAndThere = (w u v : List ℕ) → back_answer w u ≡ Done → length v ≡ length w
-    → (forward_answer (back_to w u) v ≡ Done) × (forward_to (back_to w u) v ≡ moved_forward (base_of (front_of new_layer w)) ++ groups_of new_layer w)
+BackAndThere = (w u v : List ℕ) → back_answer w u ≡ Ok Done → length v ≡ length w
+    → (forward_answer (back_to w u) v ≡ Ok Done) × (forward_to (back_to w u) v ≡ moved_forward (base_of (front_of new_layer w)) ++ groups_of new_layer w)
 
 -- ---- a C function: the answer's number n
 

@@ -8,32 +8,33 @@ ghost use Rattle.frame.specs.Wire.{marker};
 ghost use Rattle.frame.specs.declared.wire.MarkerType.TheVariants as kind;
 ghost use Rattle.table.specs.Layout.{place};
 ghost use Rattle.table.specs.Table.{count_in, port_at, ours, InTable};
-ghost use Rattle.churn.specs.Whole.{whole_size, base_of};
 ghost use Rattle.asks.specs.Group.{group_size};
 ghost use Rattle.asks.specs.Groups.{ask_at, groups_in_range, all_fallen, all_begun};
 ghost use Rattle.control.specs.Answer.{is_number};
 ghost use Rattle.control.specs.Call.{start as call_start, receive as call_receive, tick as call_tick, line as call_line, configure as call_configure, fetch as call_fetch, report as call_report};
 ghost use Rattle.whole.specs.Calls.{whole_answer};
 ghost use Rattle.asked.specs.Layer.{old_layer, new_layer};
-ghost use Rattle.asked.specs.Asked.{is_asked_room, has_asks, ended_at, request_of, brings_back};
+ghost use Rattle.asked.specs.Asked.{is_asked_room, front_found, size_found, ended_at, request_of, brings_back};
 ghost use Rattle.asked.specs.Calls.{falls_from};
 ghost use Rattle.asked.specs.Meets.{Meets, MeetsOut, MeetsAsk, MeetsPort};
 ghost use Rattle.asked.specs.Moves.{MeetsForward, MeetsBack};
 ghost use Rattle.asked.specs.Report.{asked_aggregator, asked_due, asked_published};
 
-use crate::said::Said;
+use crate::form::{Form, New, Old};
+use crate::said::AskRefusal;
 use asks::ask::Outcome;
 use asks::group::{GROUP, LONGEST_WAIT};
-use control::answer::{AggregatorReport, Answer, DueReport, Reason};
-use control::constants::no_sets;
+use control::answer::{Accepted, Answer, Reason};
 use frame::block::{Address, SystemId};
 use frame::class::FRAME;
 use frame::wire::{MarkerType, TensOfMicroseconds};
 use machine::states::Line;
+use report::Sets;
 use settings::Settings;
 use table::layout::place_of;
 use whole::WHOLE_RECORD;
 
+mod form;
 pub mod said;
 
 // The octets of a port's record.
@@ -57,32 +58,29 @@ fn is_asked(table: &[u8], f: usize) -> bool
     asks::are_groups(&table[f..], n)
 }
 
-// The same of the form of today, with monitors in the front.
-fn has_asks(table: &[u8]) -> bool
-    ensures { result ≡ has_asks new_layer table.now }
+// Answer 1, or the octets of the front.
+fn front_size<F: Form>(table: &[u8]) -> Result<usize, Reason>
+    ensures { result ≡ front_found F.layer table.now }
 {
-    if table.len() == 0 {
-        return false;
+    if table.is_empty() {
+        return Err(Reason::Table);
     }
-    is_asked(table, churn::whole_size(table[0] as usize))
+    let f = F::front_size(table[0] as usize);
+    if !is_asked(table, f) {
+        return Err(Reason::Table);
+    }
+    Ok(f)
 }
 
-// And of the old form, without.
-fn has_old_asks(table: &[u8]) -> bool
-    ensures { result ≡ has_asks old_layer table.now }
+// The octets of a table of `count` ports, for a count from 1 to 32.
+fn size_of<F: Form>(count: u32) -> Option<usize>
+    ensures { result ≡ size_found F.layer count }
 {
-    if table.len() == 0 {
-        return false;
+    if !(1..=32).contains(&count) {
+        return None;
     }
-    is_asked(table, place_of(table[0] as usize))
-}
-
-// The octets of the front.
-fn front_size(table: &[u8]) -> usize
-    requires { has_asks new_layer table.now ≡ true }
-    ensures { (result ≡ whole_size (count_in table.now)) × (length table.now ≡ result + group_size * count_in table.now) }
-{
-    churn::whole_size(table[0] as usize)
+    let n = count as usize;
+    Some(F::front_size(n) + GROUP * n)
 }
 
 // A tick of the groups of `n` ports behind a front of `f` octets, if it was accepted.
@@ -120,13 +118,10 @@ fn end(table: &mut [u8], f: usize, i: usize, outcome: Outcome)
 pub fn tick(table: &mut [u8]) -> Answer
     ensures { Meets call_tick table.old result table.new }
 {
-    if !has_asks(table) {
-        return Answer::Refused(Reason::Table);
-    }
-    let f = front_size(table);
+    let f = front_size::<New>(table)?;
     let n = table[0] as usize;
     let a = whole::tick(&mut table[..f]);
-    fall_if(table, f, n, a.is_accepted());
+    fall_if(table, f, n, a.is_ok());
     a
 }
 
@@ -162,31 +157,22 @@ fn brings(table: &[u8], b: usize, f: usize, n: u32, frame: &[u8]) -> bool
 pub fn receive(table: &mut [u8], n: u32, frame: &[u8], out: &mut [u8]) -> Answer
     ensures { MeetsOut (call_receive n frame.now out.old) table.old result table.new out.new }
 {
-    if !has_asks(table) {
-        return Answer::Refused(Reason::Table);
-    }
-    let f = front_size(table);
+    let f = front_size::<New>(table)?;
     let b = place_of(table[0] as usize);
     let a = whole::receive(&mut table[..f], n, frame, out);
-    if a.number() != 12 {
-        return a;
+    if a == Err(Reason::Response) && brings(table, b, f, n, frame) {
+        let i = n - 1;
+        end(table, f, i as usize, Outcome::Answered);
+        return Ok(Accepted::Done);
     }
-    if !brings(table, b, f, n, frame) {
-        return a;
-    }
-    let i = n - 1;
-    end(table, f, i as usize, Outcome::Answered);
-    Answer::Done
+    a
 }
 
 // The next LACPDU of port n is written into `out`, and sent by the caller.
 pub fn fetch(table: &mut [u8], n: u32, out: &mut [u8]) -> Answer
     ensures { MeetsOut (call_fetch n out.old) table.old result table.new out.new }
 {
-    if !has_asks(table) {
-        return Answer::Refused(Reason::Table);
-    }
-    let f = front_size(table);
+    let f = front_size::<New>(table)?;
     whole::fetch(&mut table[..f], n, out)
 }
 
@@ -195,30 +181,23 @@ fn falls(base: &[u8], n: u32, line: Line) -> bool
     requires { length base.now ≡ place (count_in base.now) }
     ensures { is_number base.now n ≡ true → result ≡ falls_from (port_at base.now (n - 1)).line line }
 {
-    let count = base[0] as u32;
-    if n < 1 {
-        return false;
-    }
-    if count < n {
+    if !(1..=u32::from(base[0])).contains(&n) {
         return false;
     }
     let i = n - 1;
     let before = table::record::line_in(table::record_at(base, i as usize));
-    before.up & !line.same(before)
+    before.up & (line != before)
 }
 
 // The link of port n is up or down now, and its duplex full or half.
-pub fn line(table: &mut [u8], n: u32, up: bool, full: bool) -> Answer
-    ensures { Meets (call_line n (record { up = up; full = full })) table.old result table.new }
+pub fn line(table: &mut [u8], n: u32, line: Line) -> Answer
+    ensures { Meets (call_line n line) table.old result table.new }
 {
-    if !has_asks(table) {
-        return Answer::Refused(Reason::Table);
-    }
-    let f = front_size(table);
+    let f = front_size::<New>(table)?;
     let b = place_of(table[0] as usize);
-    let ends = falls(&table[..b], n, Line { up, full });
-    let a = whole::line(&mut table[..f], n, up, full);
-    if a.is_accepted() & ends {
+    let ends = falls(&table[..b], n, line);
+    let a = whole::line(&mut table[..f], n, line);
+    if a.is_ok() & ends {
         let i = n - 1;
         end(table, f, i as usize, Outcome::Cancelled);
     }
@@ -229,10 +208,7 @@ pub fn line(table: &mut [u8], n: u32, up: bool, full: bool) -> Answer
 pub fn configure(table: &mut [u8], n: u32, settings: Settings) -> Answer
     ensures { Meets (call_configure n settings) table.old result table.new }
 {
-    if !has_asks(table) {
-        return Answer::Refused(Reason::Table);
-    }
-    let f = front_size(table);
+    let f = front_size::<New>(table)?;
     whole::configure(&mut table[..f], n, settings)
 }
 
@@ -240,14 +216,7 @@ pub fn configure(table: &mut [u8], n: u32, settings: Settings) -> Answer
 fn is_room(table: &[u8], count: u32) -> bool
     ensures { result ≡ is_asked_room new_layer table.now count }
 {
-    if count < 1 {
-        return false;
-    }
-    if 32 < count {
-        return false;
-    }
-    let n = count as usize;
-    table.len() == churn::whole_size(n) + GROUP * n
+    Some(table.len()) == size_of::<New>(count)
 }
 
 // Starts a table of `count` ports in memory of any content; every port begins with these settings.
@@ -261,12 +230,12 @@ pub fn start(
     ensures { Meets (call_start count system delay settings) table.old result table.new }
 {
     if !is_room(table, count) {
-        return Answer::Refused(Reason::Table);
+        return Err(Reason::Table);
     }
     let n = count as usize;
     let f = churn::whole_size(n);
     let a = whole::start(&mut table[..f], count, system, delay, settings);
-    begin_if(table, f, n, a.is_accepted());
+    begin_if(table, f, n, a.is_ok());
     a
 }
 
@@ -296,41 +265,29 @@ fn write_marker(base: &[u8], n: u32, number: u32, out: &mut [u8])
 }
 
 // A Marker is asked for on port n, with a time to wait; it is written into `out`, and sent by the caller.
-pub fn ask(table: &mut [u8], n: u32, wait: u32, out: &mut [u8]) -> Said
+pub fn ask(table: &mut [u8], n: u32, wait: u32, out: &mut [u8]) -> Result<(), AskRefusal>
     ensures { MeetsAsk n wait out.old table.old result table.new out.new }
 {
-    if !has_asks(table) {
-        return Said::Plain(Answer::Refused(Reason::Table));
-    }
-    let f = front_size(table);
+    let f = front_size::<New>(table)?;
     let b = place_of(table[0] as usize);
-    let a = find(&table[..f], n);
-    if !a.is_accepted() {
-        return Said::Plain(a);
-    }
+    find(&table[..f], n)?;
     if out.len() < FRAME {
-        return Said::Plain(Answer::Refused(Reason::Buffer));
+        return Err(AskRefusal::Plain(Reason::Buffer));
     }
-    if wait < 1 {
-        return Said::Wait;
-    }
-    if (LONGEST_WAIT as u32) < wait {
-        return Said::Wait;
+    if !(1..=LONGEST_WAIT as u32).contains(&wait) {
+        return Err(AskRefusal::Wait);
     }
     let i = n - 1;
-    let phase = table::phase(&table[..b], i as usize);
-    let mux = phase.mux;
-    if !mux.distributes() {
-        return Said::NotDistributing;
+    if !table::phase(&table[..b], i as usize).mux.distributes() {
+        return Err(AskRefusal::NotDistributing);
     }
     let q = asks::at(&table[f..], i as usize);
-    let outcome = q.outcome;
-    if outcome.is_awaiting() {
-        return Said::Awaiting;
+    if q.outcome.is_awaiting() {
+        return Err(AskRefusal::Awaiting);
     }
     write_marker(&table[..b], n, q.number, out);
     asks::store(&mut table[f..], i as usize, q.ask(wait as u16));
-    Said::Plain(Answer::Done)
+    Ok(())
 }
 
 // ---- reports
@@ -339,16 +296,18 @@ pub fn ask(table: &mut [u8], n: u32, wait: u32, out: &mut [u8]) -> Said
 pub fn report_port(table: &[u8], n: u32, record: &mut [u8]) -> Answer
     ensures { MeetsPort n table.now «record».old result «record».new }
 {
-    if !has_asks(table) {
-        octets::put_fitting(record, &[0; ASKED_RECORD]);
-        return Answer::Refused(Reason::Table);
-    }
-    let f = front_size(table);
+    let f = match front_size::<New>(table) {
+        Ok(f) => f,
+        Err(why) => {
+            octets::put_fitting(record, &[0; ASKED_RECORD]);
+            return Err(why);
+        }
+    };
     let a = whole::report_port(&table[..f], n, record);
     if record.len() < WHOLE_RECORD {
         return a;
     }
-    if a.is_accepted() {
+    if a.is_ok() {
         let i = n - 1;
         octets::put_fitting(
             &mut record[WHOLE_RECORD..],
@@ -361,30 +320,18 @@ pub fn report_port(table: &[u8], n: u32, record: &mut [u8]) -> Answer
 }
 
 // The ports that hold aggregator n, are attached to it and distribute.
-pub fn report_aggregator(table: &[u8], n: u32) -> AggregatorReport
+pub fn report_aggregator(table: &[u8], n: u32) -> Result<Sets, Reason>
     ensures { result ≡ asked_aggregator n table.now }
 {
-    if !has_asks(table) {
-        return AggregatorReport {
-            answer: Answer::Refused(Reason::Table),
-            sets: no_sets(),
-        };
-    }
-    let f = front_size(table);
+    let f = front_size::<New>(table)?;
     whole::report_aggregator(&table[..f], n)
 }
 
 // The ports that have something to send: those whose fetch would be answered 0.
-pub fn report_due(table: &[u8]) -> DueReport
+pub fn report_due(table: &[u8]) -> Result<u32, Reason>
     ensures { result ≡ asked_due table.now }
 {
-    if !has_asks(table) {
-        return DueReport {
-            answer: Answer::Refused(Reason::Table),
-            ports: 0,
-        };
-    }
-    let f = front_size(table);
+    let f = front_size::<New>(table)?;
     whole::report_due(&table[..f])
 }
 
@@ -392,28 +339,14 @@ pub fn report_due(table: &[u8]) -> DueReport
 pub fn table_size(count: u32) -> u32
     ensures { result ≡ asked_published new_layer count }
 {
-    if count < 1 {
-        return 0;
-    }
-    if 32 < count {
-        return 0;
-    }
-    let n = count as usize;
-    (churn::whole_size(n) + GROUP * n) as u32
+    size_of::<New>(count).unwrap_or(0) as u32
 }
 
 // The same of the old form.
 pub fn old_table_size(count: u32) -> u32
     ensures { result ≡ asked_published old_layer count }
 {
-    if count < 1 {
-        return 0;
-    }
-    if 32 < count {
-        return 0;
-    }
-    let n = count as usize;
-    (place_of(n) + GROUP * n) as u32
+    size_of::<Old>(count).unwrap_or(0) as u32
 }
 
 // ---- moves between the two forms of a table
@@ -422,17 +355,14 @@ pub fn old_table_size(count: u32) -> u32
 pub fn forward(old: &[u8], new: &mut [u8]) -> Answer
     ensures { MeetsForward old.now new.old result new.new }
 {
-    if !has_old_asks(old) {
-        return Answer::Refused(Reason::Table);
-    }
+    let b = front_size::<Old>(old)?;
     let n = old[0] as usize;
-    let b = place_of(n);
     let f = churn::whole_size(n);
     if new.len() != f + GROUP * n {
-        return Answer::Refused(Reason::Table);
+        return Err(Reason::Table);
     }
     let a = whole::forward(&old[..b], &mut new[..f]);
-    if a.is_accepted() {
+    if a.is_ok() {
         octets::put(new, f, &old[b..]);
     }
     a
@@ -442,17 +372,14 @@ pub fn forward(old: &[u8], new: &mut [u8]) -> Answer
 pub fn back(new: &[u8], old: &mut [u8]) -> Answer
     ensures { MeetsBack new.now old.old result old.new }
 {
-    if !has_asks(new) {
-        return Answer::Refused(Reason::Table);
-    }
+    let f = front_size::<New>(new)?;
     let n = new[0] as usize;
     let b = place_of(n);
-    let f = churn::whole_size(n);
     if old.len() != b + GROUP * n {
-        return Answer::Refused(Reason::Table);
+        return Err(Reason::Table);
     }
     let a = whole::back(&new[..f], &mut old[..b]);
-    if a.is_accepted() {
+    if a.is_ok() {
         octets::put(old, b, &new[f..]);
     }
     a

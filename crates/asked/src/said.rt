@@ -1,13 +1,15 @@
 // What an ask for a Marker answers.
 ghost use Rattle.std.specs.Prelude.{◌≡◌};
-ghost use Rattle.asked.specs.Ask.{said_number};
+ghost use Rattle.asked.specs.declared.said.AskRefusal.TheVariants.{Plain};
+ghost use Rattle.asked.specs.Ask.{ask_number};
 
-use control::answer::Answer;
+use control::answer::{Numbered, Reason};
 
-#[derive(Clone, Copy)]
-pub enum Said {
-    // What other calls answer too.
-    Plain(Answer),
+// Why an ask was refused.
+#[derive(Clone, Copy, PartialEq, Eq)]
+pub enum AskRefusal {
+    // Why other calls are refused too.
+    Plain(Reason),
     // The waiting time is out of range.
     Wait,
     // The port does not distribute.
@@ -16,16 +18,23 @@ pub enum Said {
     Awaiting,
 }
 
-impl Said {
-    // The answer number.
-    pub fn number(self) -> u8
-        ensures { result ≡ said_number self }
-    {
+impl From<Reason> for AskRefusal {
+    ghost from_gives = { λ reason refusal. refusal ≡ Plain reason };
+
+    fn from(reason: Reason) -> AskRefusal {
+        AskRefusal::Plain(reason)
+    }
+}
+
+impl Numbered for AskRefusal {
+    ghost number_of = { ask_number };
+
+    fn number(self) -> u8 {
         match self {
-            Said::Plain(a) => a.number(),
-            Said::Wait => 4,
-            Said::NotDistributing => 13,
-            Said::Awaiting => 14,
+            AskRefusal::Plain(reason) => reason.number(),
+            AskRefusal::Wait => 4,
+            AskRefusal::NotDistributing => 13,
+            AskRefusal::Awaiting => 14,
         }
     }
 }

@@ -1,10 +1,9 @@
 -- The counters of a port's page (30.7.3; M-100): what a receive and a fetch add to them, by their answers.
-use Rattle.std.specs.Prelude.{ℕ, ◌+◌, Bool, true, false, cond, ◌||◌, eqb}
+use Rattle.std.specs.Prelude.{ℕ, ◌+◌, Bool, true, false, cond, ◌||◌, eqb, Ok, Err}
 use Rattle.machine.specs.Count.{counted}
-use Rattle.control.specs.declared.answer.Answer.{Answer}
-use Rattle.control.specs.declared.answer.Answer.TheVariants.{Done, Lacpdu, Marker, Refused}
+use Rattle.control.specs.declared.answer.Accepted.TheVariants.{Done, Lacpdu, Marker}
 use Rattle.control.specs.Accepted.{accepted, is_lacpdu}
-use Rattle.control.specs.Answer.{answer_number}
+use Rattle.control.specs.Answer.{Answer, answer_number}
 use Rattle.counters.specs.declared.Counters.{Counters}
 
 abbrev pub counted_if : Bool → ℕ → ℕ
@@ -12,17 +11,17 @@ counted_if b n = cond b (counted n) n
 
 -- an accepted Marker
 abbrev pub is_marker : Answer → Bool
-is_marker Done = false
-is_marker Lacpdu = false
-is_marker Marker = true
-is_marker (Refused r) = false
+is_marker (Ok Done) = false
+is_marker (Ok Lacpdu) = false
+is_marker (Ok Marker) = true
+is_marker (Err r) = false
 
 -- an accepted Response: no other receive is answered so
 abbrev pub is_done : Answer → Bool
-is_done Done = true
-is_done Lacpdu = false
-is_done Marker = false
-is_done (Refused r) = false
+is_done (Ok Done) = true
+is_done (Ok Lacpdu) = false
+is_done (Ok Marker) = false
+is_done (Err r) = false
 
 -- which answers to a receive count where: 0 by the frame's kind, 5 as LACPDU, 9 as Marker, 12 as Response, 7 as unknown, 8 as illegal
 abbrev pub as_lacpdu : Answer → Bool

@@ -1,5 +1,6 @@
 -- What the wrappers rest on: memory with monitors is a table without them and the rest, a call on the first leaves the size and the port count, and so what
 -- is put together again is what the definitions say. Assumes nothing.
+use Rattle.std.specs.Prelude.{Ok, Err}
 use Prim.Native.Nat.{ℕ, ◌+◌, ◌-◌, ◌≤◌, ◌<◌}
 use mathlib.Core.Path.{◌≡◌, refl, sym, ap, ◌∙◌}
 use mathlib.Core.Bool.{Bool, true, false, cond, not, ◌&&◌, false≢true}
@@ -25,11 +26,10 @@ use Rattle.table.proofs.RuleLaws.{absent_zeros}
 use Rattle.churn.specs.Group.{group_size}
 use Rattle.churn.specs.Whole.{whole_size, base_of, group_at, groups_in_range, has_monitors}
 use Rattle.churn.proofs.WholeLaws.{base-count}
-use Rattle.control.specs.declared.answer.Answer.{Answer}
-use Rattle.control.specs.declared.answer.Answer.TheVariants.{Done, Lacpdu, Marker, Refused}
+use Rattle.control.specs.declared.answer.Accepted.TheVariants.{Done, Lacpdu, Marker}
 use Rattle.control.specs.declared.answer.Reason.TheVariants as reason
 use Rattle.control.specs.Accepted.{accepted}
-use Rattle.control.specs.Answer.{is_number, on_port}
+use Rattle.control.specs.Answer.{Answer, is_number, on_port}
 use Rattle.control.specs.Call.{Call, start, report, is_start}
 use Rattle.control.specs.After.{answer, unless, after, buffer_of, outgoing}
 use Rattle.control.specs.Report.{port_report}
@@ -62,11 +62,11 @@ joined-size w u count size same kept =
 -- ---- a call that finds its room, and one that does not
 
 module _ (c : Call) (w : List ℕ) where
-  pub roomless : has_room c w ≡ false → Meets c w (Refused reason.Table) w
+  pub roomless : has_room c w ≡ false → Meets c w (Err reason.Table) w
   unfolding whole_answer whole_after
   roomless e = (rw e, rw e)
 
-  pub roomless-out : has_room c w ≡ false → MeetsOut c w (Refused reason.Table) w (buffer_of c)
+  pub roomless-out : has_room c w ≡ false → MeetsOut c w (Err reason.Table) w (buffer_of c)
   unfolding whole_answer whole_after whole_outgoing
   roomless-out e = (rw e, rw e, rw e)
 
@@ -117,16 +117,16 @@ rejoined c s w has b is u same left =
 
 -- whether there is such a port does not matter to a call that is refused then
 pub same-settles : (a : Answer) (r s : Bool) → (accepted a ≡ true → r ≡ s) → accepted a && not r ≡ accepted a && not s
-same-settles Done r s f = ap not (f refl)
-same-settles Lacpdu r s f = ap not (f refl)
-same-settles Marker r s f = ap not (f refl)
-same-settles (Refused x) r s f = refl
+same-settles (Ok Done) r s f = ap not (f refl)
+same-settles (Ok Lacpdu) r s f = ap not (f refl)
+same-settles (Ok Marker) r s f = ap not (f refl)
+same-settles (Err x) r s f = refl
 
 -- an accepted call on a port has one
 pub accepted-number : (t : List ℕ) (n : ℕ) (rest : Answer) → accepted (on_port t n rest) ≡ true → is_number t n ≡ true
 accepted-number t n rest e = by (table_in_range t) (is_number t n) e
   where
-    by : (x y : Bool) → accepted (cond x (cond y rest (Refused reason.Number)) (Refused reason.Table)) ≡ true → y ≡ true
+    by : (x y : Bool) → accepted (cond x (cond y rest (Err reason.Number)) (Err reason.Table)) ≡ true → y ≡ true
     by true true f = refl
     by true false f = absurd (false≢true f)
     by false y f = absurd (false≢true f)
@@ -223,10 +223,10 @@ record_parts n w e = rw e (by (answer (report n) (take (place (count_in w)) w)) 
     by : (a : Answer) → answer (report n) (take (place (count_in w)) w) ≡ a
         → unless a (replicate whole_record_size 0) (encoded (port_report n (take (place (count_in w)) w)) ++ group_at w (n - 1))
         ≡ encoded (port_report n (take (place (count_in w)) w)) ++ unless a (replicate group_size 0) (group_at w (n - 1))
-    by Done f = refl
-    by Lacpdu f = refl
-    by Marker f = refl
-    by (Refused r) f =
+    by (Ok Done) f = refl
+    by (Ok Lacpdu) f = refl
+    by (Ok Marker) f = refl
+    by (Err r) f =
         let none = refused-port (take (place (count_in w)) w) n r f in
         sym (ap (λ (p : Port). encoded p ++ replicate group_size 0) none ∙ ap (λ (l : List ℕ). l ++ replicate group_size 0) absent_zeros)
 
@@ -269,7 +269,7 @@ module _ (n : ℕ) (w m : List ℕ) (has : has_monitors w ≡ true) (b : ℕ) (i
             ∙ ap (λ (x : List ℕ). fitted (s ++ x) m) same ∙ sym (ap (λ (x : List ℕ). fitted x m) (record_parts n w has)),
       )
 
-pub report-roomless : (n : ℕ) (w m r : List ℕ) → has_monitors w ≡ false → r ≡ fitted (replicate whole_record_size 0) m → MeetsPort n w m (Refused reason.Table) r
+pub report-roomless : (n : ℕ) (w m r : List ℕ) → has_monitors w ≡ false → r ≡ fitted (replicate whole_record_size 0) m → MeetsPort n w m (Err reason.Table) r
 unfolding whole_answer whole_record
 report-roomless n w m r e left = (rw e, left ∙ rw e)
 
@@ -277,17 +277,17 @@ report-roomless n w m r e left = (rw e, left ∙ rw e)
 pub group-there : (n : ℕ) (w : List ℕ) → has_monitors w ≡ true → accepted (answer (report n) (take (place (count_in w)) w)) ≡ true → (1 ≤ n) × (n ≤ count_in w)
 unfolding answer base_of
 group-there n w has e =
-    let h = within-true 1 n (count_in (base_of w)) (accepted-number (base_of w) n Done e) in
+    let h = within-true 1 n (count_in (base_of w)) (accepted-number (base_of w) n (Ok Done) e) in
     (h.0, rw (base-count w) at h.1)
 
 pub given_back : {A : Type 0} (x y : A) (a : Answer) → accepted a ≡ true → unless a x y ≡ y
-given_back x y Done e = refl
-given_back x y Lacpdu e = refl
-given_back x y Marker e = refl
-given_back x y (Refused r) e = absurd (false≢true e)
+given_back x y (Ok Done) e = refl
+given_back x y (Ok Lacpdu) e = refl
+given_back x y (Ok Marker) e = refl
+given_back x y (Err r) e = absurd (false≢true e)
 
 pub taken_back : {A : Type 0} (x y : A) (a : Answer) → accepted a ≡ false → unless a x y ≡ x
-taken_back x y Done e = absurd (false≢true (sym e))
-taken_back x y Lacpdu e = absurd (false≢true (sym e))
-taken_back x y Marker e = absurd (false≢true (sym e))
-taken_back x y (Refused r) e = refl
+taken_back x y (Ok Done) e = absurd (false≢true (sym e))
+taken_back x y (Ok Lacpdu) e = absurd (false≢true (sym e))
+taken_back x y (Ok Marker) e = absurd (false≢true (sym e))
+taken_back x y (Err r) e = refl

@@ -1,4 +1,5 @@
 -- A call on a table with monitors finds its room or not; where it does, it is the call on the front, and a refused one leaves all as it came. Assumes nothing.
+use Rattle.std.specs.Prelude.{Err}
 use Prim.Native.Nat.{ℕ}
 use mathlib.Core.Path.{◌≡◌, refl, sym, ap, ◌∙◌}
 use mathlib.Core.Bool.{Bool, true, false, false≢true, true≢false}
@@ -7,8 +8,7 @@ use lib.ListN.{take, drop, take-append-drop}
 use Rattle.table.specs.Layout.{place}
 use Rattle.table.specs.Table.{count_in}
 use Rattle.churn.specs.Whole.{has_monitors}
-use Rattle.control.specs.declared.answer.Answer.{Answer}
-use Rattle.control.specs.declared.answer.Answer.TheVariants.{Refused}
+use Rattle.control.specs.Answer.{Answer}
 use Rattle.control.specs.declared.answer.Reason.{Reason}
 use Rattle.control.specs.declared.answer.Reason.TheVariants as reason
 use Rattle.control.specs.Accepted.{accepted}
@@ -43,7 +43,7 @@ plain-room (aggregator k) s w = refl
 plain-room due s w = refl
 
 -- a refused call did no work
-refused-idle : (c : Call) (t : List ℕ) (r : Reason) → settles c t (Refused r) ≡ false
+refused-idle : (c : Call) (t : List ℕ) (r : Reason) → settles c t (Err r) ≡ false
 refused-idle (start count system delay x) t r = refl
 refused-idle (receive n frame out) t r = refl
 refused-idle tick t r = refl
@@ -60,7 +60,7 @@ module _ (c : Call) (w : List ℕ) where
   unfolding whole_after
   lost_after e = rw e
 
-  pub lost_answer : has_room c w ≡ false → whole_answer c w ≡ Refused reason.Table
+  pub lost_answer : has_room c w ≡ false → whole_answer c w ≡ Err reason.Table
   unfolding whole_answer
   lost_answer e = rw e
 
@@ -91,7 +91,7 @@ module _ (c : Call) (w : List ℕ) where
     front-after =
         rw room (ap (λ (n : ℕ). watched_if (settles c (take (place n) w) (answer c (take (place n) w))) (stage_of c) (after c (take (place n) w) ++ drop (place n) w)) is)
 
-    refused-front : {r : Reason} → answer c (take (place count) w) ≡ Refused r → whole_after c w ≡ w
+    refused-front : {r : Reason} → answer c (take (place count) w) ≡ Err r → whole_after c w ≡ w
     refused-front {r} e =
         front-after
         ∙ ap (λ (a : Answer). watched_if (settles c (take (place count) w) a) (stage_of c) (after c (take (place count) w) ++ drop (place count) w)) e
@@ -99,7 +99,7 @@ module _ (c : Call) (w : List ℕ) where
         ∙ ap (λ (u : List ℕ). u ++ drop (place count) w) (refused-table c (take (place count) w) e) ∙ take-append-drop (place count) w
 
 -- a refusal, in any memory
-pub whole-refused : (c : Call) (w : List ℕ) (r : Reason) → whole_answer c w ≡ Refused r → (whole_after c w ≡ w) × (whole_outgoing c w ≡ buffer_of c)
+pub whole-refused : (c : Call) (w : List ℕ) (r : Reason) → whole_answer c w ≡ Err r → (whole_after c w ≡ w) × (whole_outgoing c w ≡ buffer_of c)
 whole-refused c w r e = by (has_room c w) refl
   where
     by : (b : Bool) → has_room c w ≡ b → (whole_after c w ≡ w) × (whole_outgoing c w ≡ buffer_of c)

@@ -1,5 +1,6 @@
 -- A move forward: the source over the front of the target, and a run of machines that begin anew, which looks at nothing that the target held. There and back gives
 -- the same table, and back and there keeps all but the monitors. Assumes nothing.
+use Rattle.std.specs.Prelude.{Ok, Err}
 use Prim.Native.Nat.{ℕ, ◌<◌}
 use mathlib.Core.Path.{◌≡◌, refl, sym, ap, ◌∙◌}
 use mathlib.Core.Bool.{Bool, true, false, cond, ◌&&◌, false≢true}
@@ -22,7 +23,7 @@ use Rattle.churn.specs.Whole.{whole_size, base_of, monitors_at, has_monitors, wi
 use Rattle.churn.proofs.ChurnLaws.{watching-fit, begun-fit}
 use Rattle.churn.proofs.WholeLaws.{base-count, base-length}
 use Rattle.churn.proofs.MadeLaws.{made-base, made-count, made-has, made-monitors, made-octets}
-use Rattle.control.specs.declared.answer.Answer.TheVariants.{Done, Refused}
+use Rattle.control.specs.declared.answer.Accepted.TheVariants.{Done}
 use Rattle.control.specs.declared.answer.Reason.TheVariants as reason
 use Rattle.control.specs.Accepted.{accepted}
 use Rattle.whole.specs.Moves.{is_new, moved_forward, goes_forward, goes_back, forward_answer, forward_to, back_answer, back_to, MeetsForward, MeetsBack, ThereAndBack, BackAndThere}
@@ -31,11 +32,11 @@ use Rattle.whole.proofs.JoinLaws.{joined-base, joined-whole}
 
 -- ---- refusals
 
-pub forward-refused : (t u : List ℕ) → goes_forward t u ≡ false → MeetsForward t u (Refused reason.Table) u
+pub forward-refused : (t u : List ℕ) → goes_forward t u ≡ false → MeetsForward t u (Err reason.Table) u
 unfolding forward_answer forward_to
 forward-refused t u e = (rw e, rw e)
 
-pub back-refused : (w u : List ℕ) → goes_back w u ≡ false → MeetsBack w u (Refused reason.Table) u
+pub back-refused : (w u : List ℕ) → goes_back w u ≡ false → MeetsBack w u (Err reason.Table) u
 unfolding back_answer back_to
 back-refused w u e = (rw e, rw e)
 
@@ -62,7 +63,7 @@ module _ (t u : List ℕ) (goes : goes_forward t u ≡ true) where
   unfolding watched_all watched_at moved_forward
   begun-is l e = λ k. with_monitors (e k) (λ i. watching (port_at (e k) i) both_begun)
 
-  pub forward-done : (v : List ℕ) → v ≡ watched_all stage.Start (put_at 0 t u) → MeetsForward t u Done v
+  pub forward-done : (v : List ℕ) → v ≡ watched_all stage.Start (put_at 0 t u) → MeetsForward t u (Ok Done) v
   unfolding forward_answer forward_to
   forward-done v e =
       (rw goes, e ∙ begun-is (put_at 0 t u) (ap base_of put_is ∙ joined-base u t (count_in t) target_size source-size refl) ∙ rw goes)
@@ -76,7 +77,7 @@ module _ (w u : List ℕ) (goes : goes_back w u ≡ true) where
   pub back-size : length u ≡ place (count_in w)
   back-size = eqb-true (length u) (place (count_in w)) (both (is_new w) (eqb (length u) (place (count_in w))) goes).1
 
-  pub back_done : (b : ℕ) → b ≡ place (count_in w) → (v : List ℕ) → v ≡ put_at 0 (take b w) u → MeetsBack w u Done v
+  pub back_done : (b : ℕ) → b ≡ place (count_in w) → (v : List ℕ) → v ≡ put_at 0 (take b w) u → MeetsBack w u (Ok Done) v
   unfolding back_answer back_to
   back_done b is v e =
       let l = base-length w (whole-size w back-has) in
@@ -133,24 +134,24 @@ module _ (t : List ℕ) (ranged : table_in_range t ≡ true) where
 -- ---- there and back
 
 -- who is answered 0 has gone
-has-gone : (b : Bool) → cond b Done (Refused reason.Table) ≡ Done → b ≡ true
+has-gone : (b : Bool) → cond b (Ok Done) (Err reason.Table) ≡ Ok Done → b ≡ true
 has-gone true e = refl
 has-gone false e = absurd (false≢true (ap accepted e))
 
-gone-forward : (t u : List ℕ) → forward_answer t u ≡ Done → goes_forward t u ≡ true
+gone-forward : (t u : List ℕ) → forward_answer t u ≡ Ok Done → goes_forward t u ≡ true
 unfolding forward_answer
 gone-forward t u e = has-gone (goes_forward t u) e
 
-gone-back : (w u : List ℕ) → back_answer w u ≡ Done → goes_back w u ≡ true
+gone-back : (w u : List ℕ) → back_answer w u ≡ Ok Done → goes_back w u ≡ true
 unfolding back_answer
 gone-back w u e = has-gone (goes_back w u) e
 
 -- and who may go is answered 0
-pub forward-goes : (t u : List ℕ) → goes_forward t u ≡ true → (forward_answer t u ≡ Done) × (forward_to t u ≡ moved_forward t)
+pub forward-goes : (t u : List ℕ) → goes_forward t u ≡ true → (forward_answer t u ≡ Ok Done) × (forward_to t u ≡ moved_forward t)
 unfolding forward_answer forward_to
 forward-goes t u e = (rw e, rw e)
 
-pub back-goes : (w u : List ℕ) → goes_back w u ≡ true → (back_answer w u ≡ Done) × (back_to w u ≡ base_of w)
+pub back-goes : (w u : List ℕ) → goes_back w u ≡ true → (back_answer w u ≡ Ok Done) × (back_to w u ≡ base_of w)
 unfolding back_answer back_to
 back-goes w u e = (rw e, rw e)
 

@@ -3,9 +3,7 @@
 use Prim.Native.Nat.{ℕ}
 use mathlib.Core.Path.{◌≡◌, sym, ◌∙◌}
 use mathlib.Core.List.{List}
-use Rattle.control.specs.declared.answer.Answer.{Answer}
-use Rattle.control.specs.declared.answer.AggregatorReport.{AggregatorReport}
-use Rattle.control.specs.declared.answer.DueReport.{DueReport}
+use Rattle.control.specs.Answer.{Answer}
 use Rattle.control.specs.Call.{Call}
 use Rattle.whole.specs.Meets.{Meets, MeetsOut, MeetsPort}
 use Rattle.whole.specs.Moves.{MeetsForward, MeetsBack}

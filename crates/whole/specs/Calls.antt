@@ -1,6 +1,6 @@
 -- The calls on a table with its monitors: each is the call on the table without them, and where that did steps 3 to 6, the machines of 43.4.17 then run on
 -- what stands. So with the monitors dropped it is that call (promises: `base-calls`).
-use Rattle.std.specs.Prelude.{ℕ, ◌-◌, Bool, false, cond, not, ◌&&◌, List, ◌++◌, length, take, drop, eqb}
+use Rattle.std.specs.Prelude.{ℕ, ◌-◌, Bool, false, cond, not, ◌&&◌, List, ◌++◌, length, take, drop, eqb, Result, Ok, Err}
 use Rattle.octets.specs.Octets.{within}
 use Rattle.machine.specs.States.{same_line}
 use Rattle.settings.specs.Settings.{same_settings}
@@ -9,8 +9,8 @@ use Rattle.table.specs.Table.{count_in, port_at}
 use Rattle.churn.specs.declared.Stage.{Stage}
 use Rattle.churn.specs.declared.Stage.TheVariants as stage
 use Rattle.churn.specs.Whole.{whole_size, has_monitors, watched_all}
-use Rattle.control.specs.declared.answer.Answer.{Answer}
-use Rattle.control.specs.declared.answer.Answer.TheVariants.{Refused}
+use Rattle.control.specs.Answer.{Answer}
+use Rattle.control.specs.declared.answer.Reason.{Reason}
 use Rattle.control.specs.declared.answer.Reason.TheVariants as reason
 use Rattle.control.specs.Accepted.{accepted, is_lacpdu}
 use Rattle.control.specs.Call.{Call, start, receive, tick, line, configure, fetch, report, aggregator, due}
@@ -51,6 +51,10 @@ has_room (report n) w = has_monitors w
 has_room (aggregator k) w = has_monitors w
 has_room due w = has_monitors w
 
+-- what the code finds by it: answer 1, or the octets of the table without monitors
+unfoldable pub base_found : List ℕ → Result ℕ Reason
+base_found w = cond (has_monitors w) (Ok (place (count_in w))) (Err reason.Table)
+
 -- whether a call with this answer did steps 3 to 6 on table t
 abbrev pub settles : Call → List ℕ → Answer → Bool
 settles (start count system delay s) t a = accepted a
@@ -81,7 +85,7 @@ watched_if b s w = cond b (watched_all s w) w
 -- ---- answer, table and buffer afterwards
 
 unfoldable pub whole_answer : Call → List ℕ → Answer
-whole_answer c w = cond (has_room c w) (answer c (base_for c w)) (Refused reason.Table)
+whole_answer c w = cond (has_room c w) (answer c (base_for c w)) (Err reason.Table)
 
 unfoldable pub whole_after : Call → List ℕ → List ℕ
 whole_after c w =

@@ -1,6 +1,6 @@
 -- What a call promises: its answer, and every octet that it leaves. The contracts of the calls say no more and no less.
 use Rattle.std.specs.Prelude.{ℕ, ◌≡◌, List}
-use Rattle.control.specs.declared.answer.Answer.{Answer}
+use Rattle.control.specs.Answer.{Answer}
 use Rattle.octets.specs.Octets.{fitted}
 use Rattle.control.specs.Call.{Call, report}
 use Rattle.whole.specs.Calls.{whole_answer, whole_after, whole_outgoing}

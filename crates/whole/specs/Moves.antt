@@ -1,12 +1,12 @@
 -- Moves between the two forms of a table (M-106): the old form, without monitors, and the new, with them. A move is lent the source and the target; it
 -- leaves the source as it is, and what the target held does not matter.
-use Rattle.std.specs.Prelude.{ℕ, ◌≡◌, Bool, cond, ◌&&◌, List, length, eqb}
+use Rattle.std.specs.Prelude.{ℕ, ◌≡◌, Bool, cond, ◌&&◌, List, length, eqb, Ok, Err}
 use Rattle.table.specs.Layout.{place}
 use Rattle.table.specs.Table.{count_in, port_at, table_in_range}
 use Rattle.churn.specs.Churn.{watching, both_begun}
 use Rattle.churn.specs.Whole.{whole_size, base_of, has_monitors, with_monitors}
-use Rattle.control.specs.declared.answer.Answer.{Answer}
-use Rattle.control.specs.declared.answer.Answer.TheVariants.{Done, Refused}
+use Rattle.control.specs.Answer.{Answer}
+use Rattle.control.specs.declared.answer.Accepted.TheVariants.{Done}
 use Rattle.control.specs.declared.answer.Reason.TheVariants as reason
 use Rattle.control.specs.After.{unless}
 
@@ -27,10 +27,10 @@ goes_back w u = is_new w && eqb (length u) (place (count_in w))
 
 -- answer 1 otherwise
 unfoldable pub forward_answer : List ℕ → List ℕ → Answer
-forward_answer t u = cond (goes_forward t u) Done (Refused reason.Table)
+forward_answer t u = cond (goes_forward t u) (Ok Done) (Err reason.Table)
 
 unfoldable pub back_answer : List ℕ → List ℕ → Answer
-back_answer w u = cond (goes_back w u) Done (Refused reason.Table)
+back_answer w u = cond (goes_back w u) (Ok Done) (Err reason.Table)
 
 -- the target afterwards
 unfoldable pub forward_to : List ℕ → List ℕ → List ℕ
@@ -50,9 +50,9 @@ MeetsBack w u a v = (a ≡ back_answer w u) × (v ≡ back_to w u)
 
 -- a table of the old form that goes forward and back is the same table, octet for octet, whatever the memory of either move held
 abbrev pub ThereAndBack : Type 0
-ThereAndBack = (t u v : List ℕ) → forward_answer t u ≡ Done → length v ≡ length t → (back_answer (forward_to t u) v ≡ Done) × (back_to (forward_to t u) v ≡ t)
+ThereAndBack = (t u v : List ℕ) → forward_answer t u ≡ Ok Done → length v ≡ length t → (back_answer (forward_to t u) v ≡ Ok Done) × (back_to (forward_to t u) v ≡ t)
 
 -- and one of the new form that goes back and forward keeps everything but the monitors, which have begun afresh
 abbrev pub BackAndThere : Type 0
-BackAndThere = (w u v : List ℕ) → back_answer w u ≡ Done → length v ≡ length w
-    → (forward_answer (back_to w u) v ≡ Done) × (base_of (forward_to (back_to w u) v) ≡ base_of w) × (forward_to (back_to w u) v ≡ moved_forward (base_of w))
+BackAndThere = (w u v : List ℕ) → back_answer w u ≡ Ok Done → length v ≡ length w
+    → (forward_answer (back_to w u) v ≡ Ok Done) × (base_of (forward_to (back_to w u) v) ≡ base_of w) × (forward_to (back_to w u) v ≡ moved_forward (base_of w))

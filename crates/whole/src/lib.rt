@@ -2,38 +2,40 @@
 // the churn detection machines then run.
 #![tactic(auto)]
 
-ghost use Rattle.std.specs.Prelude.{◌≡◌, ◌-◌, ◌≤◌, true, length};
+ghost use Rattle.std.specs.Prelude.{◌≡◌, ◌-◌, true, length};
 ghost use Rattle.machine.specs.States.{same_line};
 ghost use Rattle.settings.specs.Settings.{same_settings};
 ghost use Rattle.table.specs.Layout.{place};
 ghost use Rattle.table.specs.Table.{count_in, port_at};
-ghost use Rattle.churn.specs.Whole.{whole_size, has_monitors};
+ghost use Rattle.churn.specs.Whole.{whole_size};
 ghost use Rattle.control.specs.Call.{start as call_start, receive as call_receive, tick as call_tick, line as call_line, configure as call_configure, fetch as call_fetch};
 ghost use Rattle.control.specs.Answer.{is_number};
-ghost use Rattle.whole.specs.Calls.{is_whole_room, watched_if};
+ghost use Rattle.whole.specs.Calls.{is_whole_room, base_found, watched_if};
 ghost use Rattle.whole.specs.Meets.{Meets, MeetsOut, MeetsPort};
 ghost use Rattle.whole.specs.Moves.{goes_forward, goes_back, MeetsForward, MeetsBack};
 ghost use Rattle.whole.specs.Report.{whole_aggregator, whole_due, whole_published};
 
 use churn::Stage;
 use churn::group::GROUP;
-use control::answer::{AggregatorReport, Answer, DueReport, Reason};
-use control::constants::no_sets;
+use control::answer::{Accepted, Answer, Reason};
 use frame::block::SystemId;
 use frame::wire::TensOfMicroseconds;
 use machine::states::Line;
+use report::Sets;
 use settings::Settings;
 use table::layout::{RECORD, place_of};
 
 // The octets of a record with its monitors.
 pub const WHOLE_RECORD: usize = 71;
 
-// The octets of the table without its monitors.
-fn base_size(table: &[u8]) -> usize
-    requires { has_monitors table.now ≡ true }
-    ensures { (result ≡ place (count_in table.now)) × (result ≤ length table.now) }
+// Answer 1, or the octets of the table without its monitors.
+fn base_size(table: &[u8]) -> Result<usize, Reason>
+    ensures { result ≡ base_found table.now }
 {
-    place_of(table[0] as usize)
+    if !churn::has_monitors(table) {
+        return Err(Reason::Table);
+    }
+    Ok(place_of(table[0] as usize))
 }
 
 // The machines of every port, if the call did steps 3 to 6.
@@ -50,12 +52,9 @@ fn watch_if(table: &mut [u8], settled: bool, stage: Stage)
 pub fn tick(table: &mut [u8]) -> Answer
     ensures { Meets call_tick table.old result table.new }
 {
-    if !churn::has_monitors(table) {
-        return Answer::Refused(Reason::Table);
-    }
-    let b = base_size(table);
+    let b = base_size(table)?;
     let a = control::tick(&mut table[..b]);
-    watch_if(table, a.is_accepted(), Stage::Tick);
+    watch_if(table, a.is_ok(), Stage::Tick);
     a
 }
 
@@ -63,12 +62,9 @@ pub fn tick(table: &mut [u8]) -> Answer
 pub fn receive(table: &mut [u8], n: u32, frame: &[u8], out: &mut [u8]) -> Answer
     ensures { MeetsOut (call_receive n frame.now out.old) table.old result table.new out.new }
 {
-    if !churn::has_monitors(table) {
-        return Answer::Refused(Reason::Table);
-    }
-    let b = base_size(table);
+    let b = base_size(table)?;
     let a = control::receive(&mut table[..b], n, frame, out);
-    watch_if(table, a.is_lacpdu(), Stage::Other);
+    watch_if(table, a == Ok(Accepted::Lacpdu), Stage::Other);
     a
 }
 
@@ -76,10 +72,7 @@ pub fn receive(table: &mut [u8], n: u32, frame: &[u8], out: &mut [u8]) -> Answer
 pub fn fetch(table: &mut [u8], n: u32, out: &mut [u8]) -> Answer
     ensures { MeetsOut (call_fetch n out.old) table.old result table.new out.new }
 {
-    if !churn::has_monitors(table) {
-        return Answer::Refused(Reason::Table);
-    }
-    let b = base_size(table);
+    let b = base_size(table)?;
     control::fetch(&mut table[..b], n, out)
 }
 
@@ -88,15 +81,11 @@ fn has_line(table: &[u8], n: u32, line: Line) -> bool
     requires { length table.now ≡ place (count_in table.now) }
     ensures { is_number table.now n ≡ true → result ≡ same_line line (port_at table.now (n - 1)).line }
 {
-    let count = table[0] as u32;
-    if n < 1 {
-        return false;
-    }
-    if count < n {
+    if !(1..=u32::from(table[0])).contains(&n) {
         return false;
     }
     let i = n - 1;
-    line.same(table::record::line_in(table::record_at(table, i as usize)))
+    line == table::record::line_in(table::record_at(table, i as usize))
 }
 
 // Whether port n, if there is one, has these settings.
@@ -104,11 +93,7 @@ fn has_settings(table: &[u8], n: u32, settings: Settings) -> bool
     requires { length table.now ≡ place (count_in table.now) }
     ensures { is_number table.now n ≡ true → result ≡ same_settings settings (port_at table.now (n - 1)) }
 {
-    let count = table[0] as u32;
-    if n < 1 {
-        return false;
-    }
-    if count < n {
+    if !(1..=u32::from(table[0])).contains(&n) {
         return false;
     }
     let i = n - 1;
@@ -116,16 +101,13 @@ fn has_settings(table: &[u8], n: u32, settings: Settings) -> bool
 }
 
 // The link of port n is up or down now, and its duplex full or half.
-pub fn line(table: &mut [u8], n: u32, up: bool, full: bool) -> Answer
-    ensures { Meets (call_line n (record { up = up; full = full })) table.old result table.new }
+pub fn line(table: &mut [u8], n: u32, line: Line) -> Answer
+    ensures { Meets (call_line n line) table.old result table.new }
 {
-    if !churn::has_monitors(table) {
-        return Answer::Refused(Reason::Table);
-    }
-    let b = base_size(table);
-    let same = has_line(&table[..b], n, Line { up, full });
-    let a = control::line(&mut table[..b], n, up, full);
-    watch_if(table, a.is_accepted() & !same, Stage::Other);
+    let b = base_size(table)?;
+    let same = has_line(&table[..b], n, line);
+    let a = control::line(&mut table[..b], n, line);
+    watch_if(table, a.is_ok() & !same, Stage::Other);
     a
 }
 
@@ -133,13 +115,10 @@ pub fn line(table: &mut [u8], n: u32, up: bool, full: bool) -> Answer
 pub fn configure(table: &mut [u8], n: u32, settings: Settings) -> Answer
     ensures { Meets (call_configure n settings) table.old result table.new }
 {
-    if !churn::has_monitors(table) {
-        return Answer::Refused(Reason::Table);
-    }
-    let b = base_size(table);
+    let b = base_size(table)?;
     let same = has_settings(&table[..b], n, settings);
     let a = control::configure(&mut table[..b], n, settings);
-    watch_if(table, a.is_accepted() & !same, Stage::Other);
+    watch_if(table, a.is_ok() & !same, Stage::Other);
     a
 }
 
@@ -147,10 +126,7 @@ pub fn configure(table: &mut [u8], n: u32, settings: Settings) -> Answer
 fn is_room(table: &[u8], count: u32) -> bool
     ensures { result ≡ is_whole_room table.now count }
 {
-    if count < 1 {
-        return false;
-    }
-    if 32 < count {
+    if !(1..=32).contains(&count) {
         return false;
     }
     table.len() == churn::whole_size(count as usize)
@@ -167,11 +143,11 @@ pub fn start(
     ensures { Meets (call_start count system delay settings) table.old result table.new }
 {
     if !is_room(table, count) {
-        return Answer::Refused(Reason::Table);
+        return Err(Reason::Table);
     }
     let b = place_of(count as usize);
     let a = control::start(&mut table[..b], count, system, delay, settings);
-    watch_if(table, a.is_accepted(), Stage::Start);
+    watch_if(table, a.is_ok(), Stage::Start);
     a
 }
 
@@ -179,16 +155,18 @@ pub fn start(
 pub fn report_port(table: &[u8], n: u32, record: &mut [u8]) -> Answer
     ensures { MeetsPort n table.now «record».old result «record».new }
 {
-    if !churn::has_monitors(table) {
-        octets::put_fitting(record, &[0; WHOLE_RECORD]);
-        return Answer::Refused(Reason::Table);
-    }
-    let b = base_size(table);
+    let b = match base_size(table) {
+        Ok(b) => b,
+        Err(why) => {
+            octets::put_fitting(record, &[0; WHOLE_RECORD]);
+            return Err(why);
+        }
+    };
     let a = control::report_port(&table[..b], n, record);
     if record.len() < RECORD {
         return a;
     }
-    if a.is_accepted() {
+    if a.is_ok() {
         let i = n - 1;
         octets::put_fitting(&mut record[RECORD..], churn::group_at(table, i as usize));
         return a;
@@ -198,30 +176,18 @@ pub fn report_port(table: &[u8], n: u32, record: &mut [u8]) -> Answer
 }
 
 // The ports that hold aggregator n, are attached to it and distribute.
-pub fn report_aggregator(table: &[u8], n: u32) -> AggregatorReport
+pub fn report_aggregator(table: &[u8], n: u32) -> Result<Sets, Reason>
     ensures { result ≡ whole_aggregator n table.now }
 {
-    if !churn::has_monitors(table) {
-        return AggregatorReport {
-            answer: Answer::Refused(Reason::Table),
-            sets: no_sets(),
-        };
-    }
-    let b = base_size(table);
+    let b = base_size(table)?;
     control::report_aggregator(&table[..b], n)
 }
 
 // The ports that have something to send: those whose fetch would be answered 0.
-pub fn report_due(table: &[u8]) -> DueReport
+pub fn report_due(table: &[u8]) -> Result<u32, Reason>
     ensures { result ≡ whole_due table.now }
 {
-    if !churn::has_monitors(table) {
-        return DueReport {
-            answer: Answer::Refused(Reason::Table),
-            ports: 0,
-        };
-    }
-    let b = base_size(table);
+    let b = base_size(table)?;
     control::report_due(&table[..b])
 }
 
@@ -229,10 +195,7 @@ pub fn report_due(table: &[u8]) -> DueReport
 pub fn table_size(count: u32) -> u32
     ensures { result ≡ whole_published count }
 {
-    if count < 1 {
-        return 0;
-    }
-    if 32 < count {
+    if !(1..=32).contains(&count) {
         return 0;
     }
     churn::whole_size(count as usize) as u32
@@ -255,25 +218,21 @@ pub fn forward(old: &[u8], new: &mut [u8]) -> Answer
     ensures { MeetsForward old.now new.old result new.new }
 {
     if !goes_forward(old, new) {
-        return Answer::Refused(Reason::Table);
+        return Err(Reason::Table);
     }
     octets::put(new, 0, old);
     churn::watch_all(new, Stage::Start);
-    Answer::Done
+    Ok(Accepted::Done)
 }
 
 // Whether `new` is a table with monitors, and the other memory has the size of the same table without them.
 fn goes_back(new: &[u8], old: &[u8]) -> bool
     ensures { result ≡ goes_back new.now old.now }
 {
-    if !churn::has_monitors(new) {
-        return false;
+    match base_size(new) {
+        Ok(b) => table::is_table(&new[..b]) & (old.len() == b),
+        Err(_) => false,
     }
-    let b = base_size(new);
-    if !table::is_table(&new[..b]) {
-        return false;
-    }
-    old.len() == b
 }
 
 // A table with monitors is turned into one without them.
@@ -281,9 +240,9 @@ pub fn back(new: &[u8], old: &mut [u8]) -> Answer
     ensures { MeetsBack new.now old.old result old.new }
 {
     if !goes_back(new, old) {
-        return Answer::Refused(Reason::Table);
+        return Err(Reason::Table);
     }
-    let b = base_size(new);
+    let b = base_size(new)?;
     octets::put(old, 0, &new[..b]);
-    Answer::Done
+    Ok(Accepted::Done)
 }

@@ -1,4 +1,5 @@
 -- `configure` meets its contract: the base's call, and the machines where the settings are others. Assumes nothing.
+use Rattle.std.specs.Prelude.{Ok}
 use mathlib.Core.Path.{◌≡◌, refl, sym, ap, ◌∙◌}
 use lib.ListN.{length, take}
 use lib.Seq.{length-take-le}
@@ -8,7 +9,7 @@ use mathlib.Core.Bool.{Bool, not, ◌&&◌}
 use Rattle.settings.specs.Settings.{same_settings}
 use Rattle.control.specs.Answer.{with_default}
 use Rattle.table.specs.Table.{port_at}
-use Rattle.control.specs.declared.answer.Answer.TheVariants.{Done}
+use Rattle.control.specs.declared.answer.Accepted.TheVariants.{Done}
 use Rattle.control.specs.Accepted.{accepted}
 use Rattle.control.specs.After.{answer}
 use Rattle.whole.proofs.CallLaws.{roomless, finished, rejoined, base-whole, same-settles, accepted-number}
@@ -52,5 +53,5 @@ returns c =
     let n = c.base_size-b.result in
     let is = c.base_size-b.ensures.0 in
     let same = c.has_settings-same.ensures in
-    let ran = ap (λ (x : Bool). x && not c.has_settings-same.result) c.is_accepted.ensures ∙ same-settles c.configure-a.result _ _ (λ e. same (accepted-number (take n w) a.n (with_default a.settings Done) (ap accepted (sym told.0) ∙ e)) ∙ ap (λ (k : ℕ). same_settings a.settings (port_at (take k w) (a.n - 1))) is) in
+    let ran = ap (λ (x : Bool). x && not c.has_settings-same.result) c.is_accepted.ensures ∙ same-settles c.configure-a.result _ _ (λ e. same (accepted-number (take n w) a.n (with_default a.settings (Ok Done)) (ap accepted (sym told.0) ∙ e)) ∙ ap (λ (k : ℕ). same_settings a.settings (port_at (take k w) (a.n - 1))) is) in
     finished (call.configure a.n a.settings) w n is _ _ _ _ has told.0 told.1 ran c.watch_if.ensures

@@ -1,4 +1,5 @@
 -- `line` meets its contract: the base's call, and the machines where the line is another. Assumes nothing.
+use Rattle.std.specs.Prelude.{Ok}
 use mathlib.Core.Path.{◌≡◌, refl, sym, ap, ◌∙◌}
 use lib.ListN.{length, take}
 use lib.Seq.{length-take-le}
@@ -7,7 +8,7 @@ use Prim.Native.Nat.{ℕ, ◌-◌}
 use mathlib.Core.Bool.{Bool, not, ◌&&◌}
 use Rattle.machine.specs.States.{same_line}
 use Rattle.table.specs.Table.{port_at}
-use Rattle.control.specs.declared.answer.Answer.TheVariants.{Done}
+use Rattle.control.specs.declared.answer.Accepted.TheVariants.{Done}
 use Rattle.control.specs.Accepted.{accepted}
 use Rattle.control.specs.After.{answer}
 use Rattle.whole.proofs.CallLaws.{roomless, finished, rejoined, base-whole, same-settles, accepted-number}
@@ -51,5 +52,5 @@ returns c =
     let n = c.base_size-b.result in
     let is = c.base_size-b.ensures.0 in
     let same = c.has_line-same.ensures in
-    let ran = ap (λ (x : Bool). x && not c.has_line-same.result) c.is_accepted.ensures ∙ same-settles c.line-a.result _ _ (λ e. same (accepted-number (take n w) a.n Done (ap accepted (sym told.0) ∙ e)) ∙ ap (λ (k : ℕ). same_line (record { up = a.up; full = a.full }) (port_at (take k w) (a.n - 1)).line) is) in
+    let ran = ap (λ (x : Bool). x && not c.has_line-same.result) c.is_accepted.ensures ∙ same-settles c.line-a.result _ _ (λ e. same (accepted-number (take n w) a.n (Ok Done) (ap accepted (sym told.0) ∙ e)) ∙ ap (λ (k : ℕ). same_line (record { up = a.up; full = a.full }) (port_at (take k w) (a.n - 1)).line) is) in
     finished (call.line a.n (record { up = a.up; full = a.full })) w n is _ _ _ _ has told.0 told.1 ran c.watch_if.ensures
