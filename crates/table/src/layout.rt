@@ -14,7 +14,7 @@ pub const RECORD: usize = 57;
 // The most ports that a table has.
 pub(crate) const MOST_PORTS: u8 = 32;
 
-#[derive(Clone, Copy)]
+#[derive(Clone, Copy, PartialEq, Eq)]
 pub struct Header {
     pub count: u8,
     pub system: SystemId,
@@ -47,15 +47,13 @@ pub fn read_header(table: &[u8]) -> Header
     requires { table_in_range table.now ≡ true }
     ensures { result ≡ header_of table.now }
 {
-    let system = SystemId {
-        priority: octets::number(table, 1),
-        address: Address::read(table, 3),
-    };
-    let delay = TensOfMicroseconds(octets::number(table, 9));
     Header {
         count: table[0],
-        system,
-        delay,
+        system: SystemId {
+            priority: octets::number(table, 1),
+            address: Address::read(table, 3),
+        },
+        delay: TensOfMicroseconds(octets::number(table, 9)),
     }
 }
 
@@ -66,7 +64,6 @@ pub(crate) fn write_header(table: &mut [u8], header: Header)
 {
     octets::put(table, 0, &[header.count]);
     octets::put_number(table, 1, header.system.priority);
-    let address = header.system.address;
-    address.write(table, 3);
+    header.system.address.write(table, 3);
     octets::put_number(table, 9, header.delay.0);
 }

@@ -17,8 +17,8 @@ ghost use Rattle.table.specs.Leaves.{Holds, Repeated, Became};
 use crate::layout::{HEADER, Header, MOST_PORTS, RECORD, place_of, write_header};
 use crate::range::{is_record, within};
 use crate::record::{
-    Keys, aggregator_in, keys_in, ntt_in, phase_in, read_record, timers_in, write_ages,
-    write_current, write_record, write_timers,
+    AGES, Keys, TIMERS, ages_octets, aggregator_in, keys_in, ntt_in, phase_in, read_record,
+    timers_in, timers_octets, write_record,
 };
 use machine::states::{Ages, Phase, Ticks, Timers};
 use port::record::Port;
@@ -112,8 +112,7 @@ pub fn store_timers(table: &mut [u8], i: usize, timers: Timers)
     requires { InTable table.old i × (timers_in_range timers ≡ true) }
     ensures { Became table.old table.new i (with_timers (port_at table.old i) timers) }
 {
-    let at = place_of(i);
-    write_timers(timers, &mut table[at..at + RECORD]);
+    octets::put(table, place_of(i) + TIMERS, &timers_octets(timers));
 }
 
 // The current-while timer of port `i`, from 0, is started with a time that it may have; all else stays.
@@ -121,8 +120,7 @@ pub fn store_current(table: &mut [u8], i: usize, time: Ticks)
     requires { InTable table.old i × (leb time.0 long_timeout_time ≡ true) }
     ensures { Became table.old table.new i (with_current (port_at table.old i) time) }
 {
-    let at = place_of(i);
-    write_current(time, &mut table[at..at + RECORD]);
+    octets::put_number(table, place_of(i) + TIMERS, time.0);
 }
 
 // Port `i`, from 0, remembers sends of these ages; all else stays.
@@ -130,8 +128,7 @@ pub fn store_ages(table: &mut [u8], i: usize, ages: Ages)
     requires { InTable table.old i × (ages_in_range ages ≡ true) }
     ensures { Became table.old table.new i (with_ages (port_at table.old i) ages) }
 {
-    let at = place_of(i);
-    write_ages(ages, &mut table[at..at + RECORD]);
+    octets::put(table, place_of(i) + AGES, &ages_octets(ages));
 }
 
 // Writes record `i`, from 0, of a table or of what becomes one; every other octet stays.

@@ -17,8 +17,13 @@ use frame::state::PortState;
 use machine::states::{Ages, Line, Mux, Periodic, Phase, Receive, Selection, Ticks, Timers};
 use port::record::{Own, Port};
 
+// Where the timers begin in a record, the first of them current-while.
+pub(crate) const TIMERS: usize = 9;
+// Where the ages of sends begin.
+pub(crate) const AGES: usize = 14;
+
 // What the selection rule compares (R10): own key and Aggregation, and the partner's system, key and Aggregation.
-#[derive(Clone, Copy)]
+#[derive(Clone, Copy, PartialEq, Eq)]
 pub struct Keys {
     pub key: u16,
     pub aggregation: bool,
@@ -56,21 +61,16 @@ pub(crate) fn keys_in(s: &[u8; RECORD]) -> Keys
     }
 }
 
-// Writes octets 0 to 3: receive state, periodic state, mux state, Selected.
-fn write_phase(phase: Phase, out: &mut [u8])
-    requires { length out.old ≡ record_size }
-    ensures { out.new ≡ put_at 0 (phase_octets phase) out.old }
+// Octets 0 to 3: receive state, periodic state, mux state, Selected.
+fn phase_octets(phase: Phase) -> [u8; 4]
+    ensures { result ≡ phase_octets phase }
 {
-    octets::put(
-        out,
-        0,
-        &[
-            u8::from(phase.receive),
-            u8::from(phase.periodic),
-            u8::from(phase.mux),
-            u8::from(phase.selected),
-        ],
-    );
+    [
+        u8::from(phase.receive),
+        u8::from(phase.periodic),
+        u8::from(phase.mux),
+        u8::from(phase.selected),
+    ]
 }
 
 // The states in octets 0 to 3.
@@ -85,22 +85,17 @@ pub fn phase_in(s: &[u8; RECORD]) -> Phase
     }
 }
 
-// Writes octets 4 to 8: aggregator held, NTT, link, duplex, Actor_Oper_Port_State.
-fn write_status(aggregator: u8, ntt: bool, line: Line, actor: PortState, out: &mut [u8])
-    requires { length out.old ≡ record_size }
-    ensures { out.new ≡ put_at 4 (status_octets aggregator ntt line actor) out.old }
+// Octets 4 to 8: aggregator held, NTT, link, duplex, Actor_Oper_Port_State.
+fn status_octets(p: Port) -> [u8; 5]
+    ensures { result ≡ status_octets p.aggregator p.ntt p.line p.actor }
 {
-    octets::put(
-        out,
-        4,
-        &[
-            aggregator,
-            u8::from(ntt),
-            u8::from(line.up),
-            u8::from(line.full),
-            actor.octet(),
-        ],
-    );
+    [
+        p.aggregator,
+        u8::from(p.ntt),
+        u8::from(p.line.up),
+        u8::from(p.line.full),
+        p.actor.octet(),
+    ]
 }
 
 // The aggregator held in octet 4.
@@ -134,59 +129,32 @@ pub fn actor_in(s: &[u8; RECORD]) -> PortState
     PortState::of_octet(s[8])
 }
 
-// Writes octets 9 and 10: current-while.
-pub(crate) fn write_current(time: Ticks, out: &mut [u8])
-    requires { length out.old ≡ record_size }
-    ensures { out.new ≡ put_at 9 (number_octets time.0) out.old }
+// Octets 9 to 13: current-while, periodic timer, and the wait timer, of which the low octet is kept.
+pub(crate) fn timers_octets(timers: Timers) -> [u8; 5]
+    ensures { result ≡ timers_octets timers }
 {
-    octets::put_number(out, 9, time.0);
-}
-
-// Writes octets 9 to 13: current-while, periodic timer, and the wait timer, of which the low octet is kept.
-pub(crate) fn write_timers(timers: Timers, out: &mut [u8])
-    requires { length out.old ≡ record_size }
-    ensures { out.new ≡ put_at 9 (timers_octets timers) out.old }
-{
-    octets::put(
-        out,
-        9,
-        &[
-            octets::high_octet(timers.current.0),
-            octets::low_octet(timers.current.0),
-            octets::high_octet(timers.periodic.0),
-            octets::low_octet(timers.periodic.0),
-            octets::low_octet(timers.wait.0),
-        ],
-    );
-}
-
-// An octet as a number of ticks.
-fn wide(n: u8) -> u16
-    ensures { result ≡ n }
-{
-    n as u16
+    let [current_high, current_low] = timers.current.0.to_be_bytes();
+    let [periodic_high, periodic_low] = timers.periodic.0.to_be_bytes();
+    let [_, wait] = timers.wait.0.to_be_bytes();
+    [current_high, current_low, periodic_high, periodic_low, wait]
 }
 
 // The timers in octets 9 to 13.
 pub fn timers_in(s: &[u8; RECORD]) -> Timers
     ensures { result ≡ timers_in s.now }
 {
-    let current = Ticks(octets::number(s, 9));
-    let periodic = Ticks(octets::number(s, 11));
-    let wait = Ticks(wide(s[13]));
     Timers {
-        current,
-        periodic,
-        wait,
+        current: Ticks(octets::number(s, 9)),
+        periodic: Ticks(octets::number(s, 11)),
+        wait: Ticks(u16::from(s[13])),
     }
 }
 
-// Writes octets 14 to 16: the ages of sends.
-pub(crate) fn write_ages(ages: Ages, out: &mut [u8])
-    requires { length out.old ≡ record_size }
-    ensures { out.new ≡ put_at 14 (ages_octets ages) out.old }
+// Octets 14 to 16: the ages of sends.
+pub(crate) fn ages_octets(ages: Ages) -> [u8; 3]
+    ensures { result ≡ ages_octets ages }
 {
-    octets::put(out, 14, &[ages.first, ages.second, ages.third]);
+    [ages.first, ages.second, ages.third]
 }
 
 // The ages in octets 14 to 16.
@@ -205,12 +173,10 @@ fn write_own(own: Own, out: &mut [u8])
     requires { length out.old ≡ record_size }
     ensures { out.new ≡ put_at 17 (own_octets own) out.old }
 {
-    let address = own.address;
-    address.write(out, 17);
+    own.address.write(out, 17);
     octets::put_number(out, 23, own.key);
     octets::put_number(out, 25, own.priority);
-    let default = own.default;
-    default.write(&mut out[27..42]);
+    own.default.write(&mut out[27..42]);
 }
 
 // The settings in octets 17 to 41.
@@ -244,19 +210,12 @@ pub(crate) fn write_record(p: Port, out: &mut [u8])
     requires { length out.old ≡ record_size }
     ensures { out.new ≡ encoded p }
 {
-    let phase = p.phase;
-    write_phase(phase, out);
-    let line = p.line;
-    let actor = p.actor;
-    write_status(p.aggregator, p.ntt, line, actor, out);
-    let timers = p.timers;
-    write_timers(timers, out);
-    let ages = p.ages;
-    write_ages(ages, out);
-    let own = p.own;
-    write_own(own, out);
-    let partner = p.partner;
-    partner.write(&mut out[42..RECORD]);
+    octets::put(out, 0, &phase_octets(p.phase));
+    octets::put(out, 4, &status_octets(p));
+    octets::put(out, TIMERS, &timers_octets(p.timers));
+    octets::put(out, AGES, &ages_octets(p.ages));
+    write_own(p.own, out);
+    p.partner.write(&mut out[42..RECORD]);
 }
 
 // The record that octets tell of.

@@ -2,4 +2,4 @@
 use Rattle.table.proofs.record.timers_in.Goals as goal
 
 pub returns : goal.returns
-returns c = simp (c.wide.ensures, c.number-2.ensures, c.number.ensures)
+returns c = simp (c.from.ensures, c.number-2.ensures, c.number.ensures)

@@ -20,10 +20,14 @@ returns c =
     rw (
       c.write.ensures,
       c.write_own.ensures,
-      c.write_ages.ensures,
-      c.write_timers.ensures,
-      c.write_status.ensures,
-      c.write_phase.ensures,
+      c.put-4.ensures,
+      c.ages_octets.ensures,
+      c.put-3.ensures,
+      c.timers_octets.ensures,
+      c.put-2.ensures,
+      c.status_octets.ensures,
+      c.put.ensures,
+      c.phase_octets.ensures,
     )
     (put-part 42 57 (block_octets p.partner) front refl
     ∙ written
