@@ -79,6 +79,9 @@ in_range_is t r =
     (both_true (within-is 1 (count_in t) most_ports r.least r.most)
     (both_true (eq-eqb (length t) (table_size (count_in t)) r.size) (first-all (count_in t) (count_in t) t r.records)))
 
+pub headed : (t : List ℕ) → table_in_range t ≡ true → header_size ≤ length t
+headed t e = (in_range t e).header
+
 -- a record whose number is below the count lies within the table
 pub inside : (t : List ℕ) → InRange t → (i : ℕ) → i < count_in t → place i + record_size ≤ length t
 inside t r i h = let s : length t ≡ table_size (count_in t) = r.size in omega arith

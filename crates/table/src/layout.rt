@@ -4,8 +4,9 @@ ghost use Rattle.octets.specs.Octets.{put_at};
 ghost use Rattle.table.specs.Layout.{header_size, place, published_size, header_of, header_octets};
 ghost use Rattle.table.specs.Table.{table_in_range};
 
-use frame::block::{Address, SystemId};
+use frame::block::SystemId;
 use frame::wire::TensOfMicroseconds;
+use octets::InOctets;
 
 // The octets of the header.
 pub(crate) const HEADER: usize = 11;
@@ -33,26 +34,23 @@ pub fn place_of(i: usize) -> usize
 pub fn table_size(count: u32) -> u32
     ensures { result ≡ published_size count }
 {
-    if count < 1 {
-        return 0;
+    // Kept: a number and no Option, since `published_size` and R22.1 in docs/RULES.md say 0, as C gets it.
+    if (1..=u32::from(MOST_PORTS)).contains(&count) {
+        place_of(count as usize) as u32
+    } else {
+        0
     }
-    if (MOST_PORTS as u32) < count {
-        return 0;
-    }
-    place_of(count as usize) as u32
 }
 
 // The header at the front of a table.
+#[tactic(auto, using(crate::proofs::TableLaws::headed))]
 pub fn read_header(table: &[u8]) -> Header
     requires { table_in_range table.now ≡ true }
     ensures { result ≡ header_of table.now }
 {
     Header {
         count: table[0],
-        system: SystemId {
-            priority: octets::number(table, 1),
-            address: Address::read(table, 3),
-        },
+        system: SystemId::read(table, 1),
         delay: TensOfMicroseconds(octets::number(table, 9)),
     }
 }
@@ -63,7 +61,6 @@ pub(crate) fn write_header(table: &mut [u8], header: Header)
     ensures { table.new ≡ put_at 0 (header_octets header) table.old }
 {
     octets::put(table, 0, &[header.count]);
-    octets::put_number(table, 1, header.system.priority);
-    header.system.address.write(table, 3);
+    header.system.write(table, 1);
     octets::put_number(table, 9, header.delay.0);
 }

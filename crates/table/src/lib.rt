@@ -15,7 +15,7 @@ ghost use Rattle.table.specs.Table.{count_in, port_at, record_at, first_in_range
 ghost use Rattle.table.specs.Leaves.{Holds, Repeated, Became};
 
 use crate::layout::{HEADER, Header, MOST_PORTS, RECORD, place_of, write_header};
-use crate::range::{is_record, within};
+use crate::range::is_record;
 use crate::record::{
     AGES, Keys, TIMERS, ages_octets, aggregator_in, keys_in, ntt_in, phase_in, read_record,
     timers_in, timers_octets, write_record,
@@ -28,19 +28,21 @@ mod range;
 pub mod record;
 
 // The port count in the header.
+#[tactic(auto, using(crate::proofs::TableLaws::headed))]
 pub fn count(table: &[u8]) -> usize
     requires { table_in_range table.now ≡ true }
     ensures { result ≡ count_in table.now }
 {
-    table[0] as usize
+    usize::from(table[0])
 }
 
 // The part of the table that is record `i`, from 0.
+#[tactic(auto, unfolding(crate::specs::Table::record_at))]
 pub fn record_at(table: &[u8], i: usize) -> &[u8; RECORD]
     requires { place i + record_size ≤ length table.now }
     ensures { result.now ≡ record_at table.now i }
 {
-    table[place_of(i)..].first_chunk().unwrap()
+    octets::chunk(table, place_of(i))
 }
 
 // The octets of port `i`, from 0, for a look at some of them.
@@ -52,51 +54,57 @@ pub fn look(table: &[u8], i: usize) -> &[u8; RECORD]
 }
 
 // The record of port `i`, from 0.
+#[tactic(auto, unfolding(crate::specs::Record::decoded))]
 pub fn load(table: &[u8], i: usize) -> Port
     requires { InTable table.now i }
     ensures { result ≡ port_at table.now i }
 {
-    read_record(record_at(table, i))
+    read_record(look(table, i))
 }
 
 // The states of port `i`, from 0, without the rest of its record.
+#[tactic(auto, unfolding(crate::specs::Record::decoded))]
 pub fn phase(table: &[u8], i: usize) -> Phase
     requires { InTable table.now i }
     ensures { result ≡ (port_at table.now i).phase }
 {
-    phase_in(record_at(table, i))
+    phase_in(look(table, i))
 }
 
 // The aggregator that port `i`, from 0, holds.
+#[tactic(auto, unfolding(crate::specs::Record::decoded))]
 pub fn aggregator(table: &[u8], i: usize) -> u8
     requires { InTable table.now i }
     ensures { result ≡ (port_at table.now i).aggregator }
 {
-    aggregator_in(record_at(table, i))
+    aggregator_in(look(table, i))
 }
 
 // NTT of port `i`, from 0.
+#[tactic(auto, unfolding(crate::specs::Record::decoded))]
 pub fn ntt(table: &[u8], i: usize) -> bool
     requires { InTable table.now i }
     ensures { result ≡ (port_at table.now i).ntt }
 {
-    ntt_in(record_at(table, i))
+    ntt_in(look(table, i))
 }
 
 // What the selection rule compares of port `i`, from 0.
+#[tactic(auto, unfolding(crate::specs::Record::decoded))]
 pub fn keys(table: &[u8], i: usize) -> Keys
     requires { InTable table.now i }
     ensures { compared_by result ≡ compared (port_at table.now i) }
 {
-    keys_in(record_at(table, i))
+    keys_in(look(table, i))
 }
 
 // The timers of port `i`, from 0.
+#[tactic(auto, unfolding(crate::specs::Record::decoded))]
 pub fn timers(table: &[u8], i: usize) -> Timers
     requires { InTable table.now i }
     ensures { result ≡ (port_at table.now i).timers }
 {
-    timers_in(record_at(table, i))
+    timers_in(look(table, i))
 }
 
 // The record of port `i`, from 0, becomes p, which is in range; every other one stays.
@@ -155,11 +163,8 @@ fn repeat_first(table: &mut [u8])
     requires { place 1 ≤ length table.old }
     ensures { Repeated table.old table.new }
 {
-    let n = table.len();
-    let mut j = HEADER + RECORD;
-    while j < n {
+    for j in HEADER + RECORD..table.len() {
         table[j] = table[j - RECORD];
-        j += 1;
     }
 }
 
@@ -168,13 +173,10 @@ fn has_records(table: &[u8], count: u8) -> bool
     requires { table_size count ≤ length table.now }
     ensures { result ≡ first_in_range count count table.now }
 {
-    let n = count as usize;
-    let mut i: usize = 0;
-    while i < n {
+    for i in 0..usize::from(count) {
         if !is_record(count, record_at(table, i)) {
             return false;
         }
-        i += 1;
     }
     true
 }
@@ -187,24 +189,12 @@ pub fn is_table(table: &[u8]) -> bool
         return false;
     }
     let count = table[0];
-    if !within(1, count, MOST_PORTS) {
-        return false;
-    }
-    if table.len() != place_of(count as usize) {
-        return false;
-    }
-    has_records(table, count)
+    is_room(table, u32::from(count)) && has_records(table, count)
 }
 
 // Whether memory has the size of a table of `count` ports, of which there are 1 to 32.
 pub fn is_room(table: &[u8], count: u32) -> bool
     ensures { result ≡ is_room table.now count }
 {
-    if count < 1 {
-        return false;
-    }
-    if (MOST_PORTS as u32) < count {
-        return false;
-    }
-    table.len() == place_of(count as usize)
+    (1..=u32::from(MOST_PORTS)).contains(&count) && table.len() == place_of(count as usize)
 }

@@ -1,6 +1,5 @@
 // Answer 1's ranges of a record's octets.
 ghost use Rattle.std.specs.Prelude.{◌≡◌};
-ghost use Rattle.octets.specs.Octets.{within as octets_within};
 ghost use Rattle.port.specs.Range.{timers_in_range, age_in_range, ages_in_range};
 ghost use Rattle.table.specs.Range.{codes_in_range, record_in_range};
 
@@ -11,13 +10,6 @@ use machine::entry::AGGREGATE_WAIT_TIME;
 use machine::periodic::SLOW_PERIODIC_TIME;
 use machine::receive::LONG_TIMEOUT_TIME;
 use machine::states::{Ages, Timers};
-
-// Whether n is neither below `low` nor above `high`.
-pub fn within(low: u8, n: u8, high: u8) -> bool
-    ensures { result ≡ octets_within low n high }
-{
-    (low <= n) & (n <= high)
-}
 
 // The highest bit of each of four octets.
 const HIGHEST: u64 = 0x80808080;
@@ -37,6 +29,7 @@ fn codes_in_range(s: &[u8; RECORD]) -> bool
 }
 
 // Each timer at most the longest time with which it is started.
+#[tactic(auto, unfolding(port::specs::Range::timers_in_range))]
 fn timers_in_range(timers: Timers) -> bool
     ensures { result ≡ timers_in_range timers }
 {
@@ -52,6 +45,7 @@ fn age_in_range(age: u8) -> bool
 }
 
 // Each of the three ages.
+#[tactic(auto, unfolding(port::specs::Range::ages_in_range))]
 fn ages_in_range(ages: Ages) -> bool
     ensures { result ≡ ages_in_range ages }
 {
@@ -59,10 +53,11 @@ fn ages_in_range(ages: Ages) -> bool
 }
 
 // Whether the octets of a record, in a table of `count` ports, are in range.
+#[tactic(auto, unfolding(crate::specs::Range::record_in_range, port::specs::Range::values_in_range, crate::specs::Record::decoded))]
 pub fn is_record(count: u8, s: &[u8; RECORD]) -> bool
     ensures { result ≡ record_in_range count s.now }
 {
     codes_in_range(s)
-        & (within(1, aggregator_in(s), count)
+        & ((1..=count).contains(&aggregator_in(s))
             & (timers_in_range(timers_in(s)) & ages_in_range(ages_in(s))))
 }

@@ -15,6 +15,7 @@ use crate::layout::RECORD;
 use frame::block::{Address, Block, SystemId};
 use frame::state::PortState;
 use machine::states::{Ages, Line, Mux, Periodic, Phase, Receive, Selection, Ticks, Timers};
+use octets::InOctets;
 use port::record::{Own, Port};
 
 // Where the timers begin in a record, the first of them current-while.
@@ -32,32 +33,18 @@ pub struct Keys {
     pub willing: bool,
 }
 
-// Aggregation in a state octet.
-fn aggregation_of(o: u8) -> bool
-    ensures { result ≡ (port_state_of o).aggregation }
-{
-    o / 4 % 2 == 1
-}
-
 // They are in octets 8, 23 and 24, and in the partner block, 42 to 56.
+#[tactic(auto, unfolding(crate::specs::Record::decoded))]
 pub(crate) fn keys_in(s: &[u8; RECORD]) -> Keys
     ensures { compared_by result ≡ compared (decoded s.now) }
 {
-    let key = octets::number(s, 23);
-    let aggregation = aggregation_of(s[8]);
     let partner = &s[42..57];
-    let system = SystemId {
-        priority: octets::number(partner, 0),
-        address: Address::read(partner, 2),
-    };
-    let theirs = octets::number(partner, 8);
-    let willing = aggregation_of(partner[14]);
     Keys {
-        key,
-        aggregation,
-        system,
-        theirs,
-        willing,
+        key: octets::number(s, 23),
+        aggregation: PortState::from(s[8]).aggregation,
+        system: SystemId::read(partner, 0),
+        theirs: octets::number(partner, 8),
+        willing: PortState::from(partner[14]).aggregation,
     }
 }
 
@@ -94,7 +81,7 @@ fn status_octets(p: Port) -> [u8; 5]
         u8::from(p.ntt),
         u8::from(p.line.up),
         u8::from(p.line.full),
-        p.actor.octet(),
+        u8::from(p.actor),
     ]
 }
 
@@ -126,7 +113,7 @@ pub fn line_in(s: &[u8; RECORD]) -> Line
 pub fn actor_in(s: &[u8; RECORD]) -> PortState
     ensures { result ≡ port_state_of (get_or s.now 8 0) }
 {
-    PortState::of_octet(s[8])
+    PortState::from(s[8])
 }
 
 // Octets 9 to 13: current-while, periodic timer, and the wait timer, of which the low octet is kept.
@@ -187,7 +174,7 @@ fn own_in(s: &[u8; RECORD]) -> Own
         address: Address::read(s, 17),
         key: octets::number(s, 23),
         priority: octets::number(s, 25),
-        default: Block::read(&s[27..42]),
+        default: Block::read(octets::chunk(s, 27)),
     }
 }
 
@@ -195,7 +182,7 @@ fn own_in(s: &[u8; RECORD]) -> Own
 pub fn partner_in(s: &[u8; RECORD]) -> PortState
     ensures { result ≡ (block_of (part 42 57 s.now)).state }
 {
-    PortState::of_octet(s[56])
+    PortState::from(s[56])
 }
 
 // The lowest two octets of the partner's system address, 48 and 49: what tells most neighbours apart.
@@ -219,6 +206,7 @@ pub(crate) fn write_record(p: Port, out: &mut [u8])
 }
 
 // The record that octets tell of.
+#[tactic(auto, unfolding(crate::specs::Record::decoded))]
 pub fn read_record(s: &[u8; RECORD]) -> Port
     ensures { result ≡ decoded s.now }
 {
@@ -227,10 +215,10 @@ pub fn read_record(s: &[u8; RECORD]) -> Port
         aggregator: s[4],
         ntt: s[5] == 1,
         line: line_in(s),
-        actor: PortState::of_octet(s[8]),
+        actor: PortState::from(s[8]),
         timers: timers_in(s),
         ages: ages_in(s),
         own: own_in(s),
-        partner: Block::read(&s[42..RECORD]),
+        partner: Block::read(octets::chunk(s, 42)),
     }
 }

@@ -3,7 +3,6 @@
 use mathlib.Core.Path.{◌≡◌, refl, sym, ap, ◌∙◌}
 use native.Mathlib.Omega.{arith}
 use native.Mathlib.Numerals.{add-one}
-use borrow.Author.Rules.{rules}
 use Rattle.octets.proofs.RangeLaws.{both_true}
 use Rattle.table.specs.Range.{record_in_range}
 use Rattle.table.specs.Table.{first_in_range}
@@ -12,7 +11,7 @@ use Rattle.table.proofs.has_records.Goals as goal
 
 pub loop-i-init : goal.loop-i-init
 unfolding first_in_range
-loop-i-init c = (search rules, refl)
+loop-i-init c = refl
 
 pub returns-then-not-is_record : goal.returns-then-not-is_record
 returns-then-not-is_record c =
@@ -26,9 +25,9 @@ unfolding first_in_range
 loop-i-preserved c =
     let a = c.args in
     let good = sym (c.is_record.ensures ∙ ap (record_in_range a.count) c.record_at.ensures) ∙ c.if-not-is_record.false in
-    (search rules, rw add-one (both_true c.loop-i.invariant.1 good))
+    rw add-one (both_true c.loop-i.invariant good)
 
 pub returns : goal.returns
 returns c =
     let all : c.loop-i.i ≡ c.args.count = omega arith in
-    sym (rw all at c.loop-i.invariant.1)
+    sym (rw all at c.loop-i.invariant)

@@ -53,7 +53,4 @@ module _ (t : List ℕ) (j : ℕ) (u : List ℕ) (d : Done t j u) (from : place 
           other k low ∙ d.rest k a low ∙ sym (other (k - record_size) (omega arith))
 
 abbrev pub invariant-loop-j : goal.invariant-loop-j
-invariant-loop-j l = (place 1 ≤ l.j) × (length l.initial.table ≡ l.n) × Done l.initial.table l.j l.table
-
-abbrev pub decreases-loop-j : goal.decreases-loop-j
-decreases-loop-j l = l.n - l.j
+invariant-loop-j l = Done l.initial.table l.j l.table

@@ -1,10 +1,10 @@
--- `write_header` meets its contract: four pieces, written one after the other from the front on, are the header.
+-- `write_header` meets its contract: three pieces, written one after the other from the front on, are the header.
 -- Assumes nothing.
 use mathlib.Core.Path.{◌∙◌}
 use mathlib.Core.List.{[], ◌∷◌}
 use Rattle.octets.specs.Octets.{number_octets}
 use Rattle.octets.proofs.Laws.{written, over-put}
-use Rattle.frame.specs.Block.{address_octets}
+use Rattle.frame.specs.Block.{system_octets}
 use Rattle.table.specs.Layout.{header_octets}
 use Rattle.table.proofs.layout.write_header.Goals as goal
 
@@ -13,11 +13,10 @@ returns c =
     let h = c.args.header in
     let l = c.args.table.now in
     rw (
-      c.put_number-2.ensures,
-      c.write.ensures,
       c.put_number.ensures,
+      c.write.ensures,
       c.put.ensures,
     )
     (written
-    ((h.count ∷ []) ∷ number_octets h.system.priority ∷ address_octets h.system.address ∷ number_octets h.delay.0 ∷ []) l
+    ((h.count ∷ []) ∷ system_octets h.system ∷ number_octets h.delay.0 ∷ []) l
     ∙ over-put (header_octets h) l)

@@ -9,4 +9,4 @@ use Rattle.table.proofs.record.partner_in.Goals as goal
 pub returns : goal.returns
 returns c =
     let l = c.args.s.now in
-    c.of_octet.ensures ∙ ap port_state_of (sym (get_or-take 15 (drop 42 l) 14 0 (omega arith) ∙ get_or-drop 42 l 14 0))
+    c.from.ensures ∙ ap port_state_of (sym (get_or-take 15 (drop 42 l) 14 0 (omega arith) ∙ get_or-drop 42 l 14 0))
