@@ -16,18 +16,16 @@ pub fn put(dst: &mut [u8], at: usize, src: &[u8])
 }
 
 // Writes as many octets of src as fit over dst's, from the front; what is behind them stays.
+#[tactic(auto, unfolding(crate::specs::Octets::fitted))]
 pub fn put_fitting(dst: &mut [u8], src: &[u8])
     ensures { dst.new ≡ fitted src.now dst.old }
 {
-    let n = dst.len();
-    if n < src.len() {
-        dst.copy_from_slice(&src[..n]);
-        return;
-    }
-    dst[..src.len()].copy_from_slice(src);
+    let n = src.len().min(dst.len());
+    dst[..n].copy_from_slice(&src[..n]);
 }
 
 // Whether a and b hold the same octets.
+#[tactic(auto, using(crate::proofs::CopyLaws::pointwise_octets))]
 pub fn same(a: &[u8], b: &[u8]) -> bool
     ensures { result ≡ same_octets a.now b.now }
 {

@@ -3,6 +3,7 @@ ghost use Rattle.std.specs.Prelude.{◌≡◌, false, ◌&&◌, ◌||◌, ℕ, �
 ghost use Rattle.octets.specs.Sets.{member, end_of};
 
 // Whether number i is in the set.
+#[tactic(auto, unfolding(crate::specs::Sets::member))]
 pub fn has(set: u32, i: usize) -> bool
     requires { i < 32 }
     ensures { result ≡ member set i }
@@ -11,6 +12,7 @@ pub fn has(set: u32, i: usize) -> bool
 }
 
 // The least number above all of the set, 0 for none.
+#[tactic(auto, using(crate::proofs::SetLaws::beyond_end), unfolding(crate::specs::Sets::end_of))]
 pub fn end(set: u32) -> usize
     ensures { (result ≡ end_of set) × ((m : ℕ) → result ≤ m → member set m ≡ false) }
 {
@@ -18,6 +20,7 @@ pub fn end(set: u32) -> usize
 }
 
 // The set with number i too.
+#[tactic(auto, using(crate::proofs::SetLaws::with_member))]
 pub fn with(set: u32, i: usize) -> u32
     requires { i < 32 }
     ensures { (m : ℕ) → member result m ≡ (eqb m i || member set m) }
