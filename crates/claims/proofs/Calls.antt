@@ -6,76 +6,62 @@ use mathlib.Core.Bool.{Bool, true, false, cond, ◌&&◌, ◌||◌, true≢false
 use mathlib.Core.List.{List, [], ◌∷◌, ◌++◌}
 use lib.ListN.{length}
 use lib.Dec.{ltb}
+use Rattle.std.specs.Prelude.{Result, Ok, Err}
 use Rattle.octets.specs.Octets.{Octets}
-use Rattle.frame.specs.declared.class.Class.{Class}
-use Rattle.frame.specs.declared.class.Class.TheVariants as class
-use Rattle.frame.specs.Class.{class_of, frame_size}
+use Rattle.frame.specs.declared.class.Kind.TheVariants as kind
+use Rattle.frame.specs.Class.{Class, class_of, frame_size}
 use Rattle.machine.specs.declared.states.Line.{Line}
 use Rattle.machine.specs.declared.states.Mux.{Mux}
 use Rattle.machine.specs.Mux.{collects, distributes}
-use Rattle.port.specs.declared.transmit.Due.{Due}
-use Rattle.port.specs.declared.transmit.Due.TheVariants as due
+use Rattle.port.specs.declared.transmit.Undue.{Undue}
+use Rattle.port.specs.declared.transmit.Undue.TheVariants as undue
 use Rattle.port.specs.Transmit.{due as due_of}
 use Rattle.frame.specs.declared.block.SystemId.{SystemId}
 use Rattle.frame.specs.declared.wire.TensOfMicroseconds.{TensOfMicroseconds}
 use Rattle.settings.specs.declared.Settings.{Settings}
 use Rattle.settings.specs.Settings.{lawful}
 use Rattle.table.proofs.FillLaws.{room-is}
-use Rattle.table.specs.Table.{is_room, table_in_range, port_at, on_octets}
-use Rattle.control.specs.declared.answer.Answer.{Answer}
-use Rattle.control.specs.declared.answer.Answer.TheVariants.{Done, Lacpdu, Marker, Refused}
+use Rattle.table.specs.Table.{is_room, table_in_range, port_at}
+use Rattle.control.specs.Answer.{Answer, is_number, on_port, with_room, with_default, frame_answer, due_answer}
+use Rattle.control.specs.declared.answer.Accepted.TheVariants.{Done, Lacpdu, Marker}
 use Rattle.control.specs.declared.answer.Reason.{Reason}
 use Rattle.control.specs.declared.answer.Reason.TheVariants as reason
-use Rattle.control.specs.Answer.{is_number, on_port, with_room, with_default, frame_answer, due_answer}
 use Rattle.control.specs.Call.{Call, start, receive, tick, line, configure, fetch, report, aggregator, due as dueCall, is_start}
-use Rattle.control.specs.After.{answer, after_frame, changed_by, unless, after, effect}
+use Rattle.control.specs.After.{answer, changed_by, after, effect}
 use Rattle.control.specs.Accepted.{accepted}
 use Rattle.claims.specs.Run.{Takes, AllTake, run, Made}
 use Rattle.control.proofs.CallLaws.{if-accepted, named, received-on, after-accepted, refused-table, refused-buffer}
 use Rattle.claims.specs.AtRest.{Sound}
 use Rattle.claims.specs.Claims.{NeverStuck, NoAnswerOne, RefusalsSilent}
-use Rattle.claims.proofs.Sound.{unmoved, send_sound, line-sound, settings-sound, received-sound, tick-sound, start-sound}
+use Rattle.claims.proofs.Sound.{unmoved, call-left, frame-left, send_sound, line-sound, settings-sound, received-sound, tick-sound, start-sound}
 
 -- ---- each call keeps a table sound
-
-frame-sound : (t : List ℕ) (s : Sound t) (n : ℕ) (frame out : List ℕ) → Octets frame → (a : Answer) → answer (receive n frame out) t ≡ a
-    → Sound (on_octets (after_frame a (n - 1) frame) t)
-frame-sound t s n frame out o Done e = unmoved Sound t s s
-frame-sound t s n frame out o Lacpdu e =
-    let h = received-on t n frame out e in
-    received-sound t s (n - 1) h.below frame o h.up h.full
-frame-sound t s n frame out o Marker e = unmoved Sound t s s
-frame-sound t s n frame out o (Refused r) e = unmoved Sound t s s
 
 -- an accepted start makes a sound table of any memory
 pub started-sound : (t : List ℕ) (count : ℕ) (system : SystemId) (delay : TensOfMicroseconds) (x : Settings) → Takes (start count system delay x)
     → accepted (answer (start count system delay x) t) ≡ true → Sound (changed_by (start count system delay x) t)
 unfolding answer effect
 started-sound t count system delay x k e =
-    let room = room-is t count (if-accepted (is_room t count) (with_default x Done) reason.Table e).0 in
+    let room = room-is t count (if-accepted (is_room t count) (with_default x (Ok Done)) reason.Table e).0 in
     start-sound (record { count = count; system = system; delay = delay }) x k.0 k.1 room.some room.few
 
 pub changed-sound : (t : List ℕ) → Sound t → (c : Call) → Takes c → accepted (answer c t) ≡ true → Sound (changed_by c t)
 unfolding answer effect
 changed-sound t s (start count system delay x) k e = started-sound t count system delay x k e
-changed-sound t s (receive n frame out) k e = frame-sound t s n frame out k.0 (answer (receive n frame out) t) refl
+changed-sound t s (receive n frame out) k e =
+    frame-left Sound (answer (receive n frame out) t) (n - 1) frame t (unmoved Sound t s s)
+    (λ a. let h = received-on t n frame out a in received-sound t s (n - 1) h.below frame k.0 h.up h.full)
 changed-sound t s tick k e = tick-sound t s
-changed-sound t s (line n l) k e = line-sound t s (n - 1) (named t n Done e) l
-changed-sound t s (configure n x) k e = settings-sound t s (n - 1) (named t n (with_default x Done) e) x k
+changed-sound t s (line n l) k e = line-sound t s (n - 1) (named t n (Ok Done) e) l
+changed-sound t s (configure n x) k e = settings-sound t s (n - 1) (named t n (with_default x (Ok Done)) e) x k
 changed-sound t s (fetch n out) k e = send_sound t s (n - 1) (named t n (with_room out (due_answer (due_of (port_at t (n - 1))))) e)
 changed-sound t s (report n) k e = unmoved Sound t s s
 changed-sound t s (aggregator n) k e = unmoved Sound t s s
 changed-sound t s dueCall k e = unmoved Sound t s s
 
-unless-sound : (a : Answer) (t u : List ℕ) → Sound t → (accepted a ≡ true → Sound u) → Sound (unless a t u)
-unless-sound Done t u s f = f refl
-unless-sound Lacpdu t u s f = f refl
-unless-sound Marker t u s f = f refl
-unless-sound (Refused r) t u s f = s
-
 pub call-sound : (t : List ℕ) → Sound t → (c : Call) → Takes c → Sound (after c t)
 unfolding after
-call-sound t s c k = unless-sound (answer c t) t (changed_by c t) s (λ e. changed-sound t s c k e)
+call-sound t s c k = call-left Sound (answer c t) t (changed_by c t) s (λ e. changed-sound t s c k e)
 
 -- ---- runs
 
@@ -149,10 +135,8 @@ is_table reason.Barred = false
 is_table reason.Response = false
 
 abbrev answers_one : Answer → Bool
-answers_one Done = false
-answers_one Lacpdu = false
-answers_one Marker = false
-answers_one (Refused r) = is_table r
+answers_one (Ok x) = false
+answers_one (Err r) = is_table r
 
 -- of two answers neither of which is 1
 neither : (b : Bool) (x y : Answer) → answers_one x ≡ false → answers_one y ≡ false → answers_one (cond b x y) ≡ false
@@ -161,19 +145,19 @@ neither false x y e f = f
 
 port-not-one : (t : List ℕ) → table_in_range t ≡ true → (n : ℕ) (rest : Answer) → answers_one rest ≡ false → answers_one (on_port t n rest) ≡ false
 port-not-one t r n rest e =
-    ap (λ (b : Bool). answers_one (cond b (cond (is_number t n) rest (Refused reason.Number)) (Refused reason.Table))) r
-    ∙ neither (is_number t n) rest (Refused reason.Number) e refl
+    ap (λ (b : Bool). answers_one (cond b (cond (is_number t n) rest (Err reason.Number)) (Err reason.Table))) r
+    ∙ neither (is_number t n) rest (Err reason.Number) e refl
 
 frame-not-one : (k : Class) (l : Line) (m : Mux) → answers_one (frame_answer k l m) ≡ false
-frame-not-one class.Lacpdu l m = neither (l.up && l.full) Lacpdu (Refused reason.Disabled) refl refl
-frame-not-one class.Marker l m = neither (collects m || distributes m) Marker (Refused reason.NotCollecting) refl refl
-frame-not-one class.Response l m = refl
-frame-not-one (class.Refused r) l m = refl
+frame-not-one (Ok kind.Lacpdu) l m = neither (l.up && l.full) (Ok Lacpdu) (Err reason.Disabled) refl refl
+frame-not-one (Ok kind.Marker) l m = neither (collects m || distributes m) (Ok Marker) (Err reason.NotCollecting) refl refl
+frame-not-one (Ok kind.Response) l m = refl
+frame-not-one (Err r) l m = refl
 
-due-not-one : (k : Due) → answers_one (due_answer k) ≡ false
-due-not-one due.Nothing = refl
-due-not-one due.Barred = refl
-due-not-one due.Lacpdu = refl
+due-not-one : (k : Result (Unit {0}) Undue) → answers_one (due_answer k) ≡ false
+due-not-one (Ok x) = refl
+due-not-one (Err undue.Nothing) = refl
+due-not-one (Err undue.Barred) = refl
 
 not-one : (t : List ℕ) → table_in_range t ≡ true → (c : Call) → is_start c ≡ false → answers_one (answer c t) ≡ false
 unfolding answer
@@ -182,16 +166,16 @@ not-one t r (receive n frame out) s =
     let l = (port_at t (n - 1)).line in
     let m = (port_at t (n - 1)).phase.mux in
     let a = frame_answer (class_of frame) l m in
-    port-not-one t r n (with_room out a) (neither (ltb (length out) frame_size) (Refused reason.Buffer) a refl (frame-not-one (class_of frame) l m))
-not-one t r tick s = ap (λ (b : Bool). answers_one (cond b Done (Refused reason.Table))) r
-not-one t r (line n l) s = port-not-one t r n Done refl
-not-one t r (configure n x) s = port-not-one t r n (with_default x Done) (neither (lawful x) Done (Refused reason.Default) refl refl)
+    port-not-one t r n (with_room out a) (neither (ltb (length out) frame_size) (Err reason.Buffer) a refl (frame-not-one (class_of frame) l m))
+not-one t r tick s = ap (λ (b : Bool). answers_one (cond b (Ok Done) (Err reason.Table))) r
+not-one t r (line n l) s = port-not-one t r n (Ok Done) refl
+not-one t r (configure n x) s = port-not-one t r n (with_default x (Ok Done)) (neither (lawful x) (Ok Done) (Err reason.Default) refl refl)
 not-one t r (fetch n out) s =
     let a = due_answer (due_of (port_at t (n - 1))) in
-    port-not-one t r n (with_room out a) (neither (ltb (length out) frame_size) (Refused reason.Buffer) a refl (due-not-one (due_of (port_at t (n - 1)))))
-not-one t r (report n) s = port-not-one t r n Done refl
-not-one t r (aggregator n) s = port-not-one t r n Done refl
-not-one t r dueCall s = ap (λ (b : Bool). answers_one (cond b Done (Refused reason.Table))) r
+    port-not-one t r n (with_room out a) (neither (ltb (length out) frame_size) (Err reason.Buffer) a refl (due-not-one (due_of (port_at t (n - 1)))))
+not-one t r (report n) s = port-not-one t r n (Ok Done) refl
+not-one t r (aggregator n) s = port-not-one t r n (Ok Done) refl
+not-one t r dueCall s = ap (λ (b : Bool). answers_one (cond b (Ok Done) (Err reason.Table))) r
 
 pub no_answer-one : NoAnswerOne
 no_answer-one t m c s e = true≢false (ap answers_one (sym e) ∙ not-one t (never_stuck t m).ranged c s)

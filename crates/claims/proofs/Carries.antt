@@ -9,6 +9,8 @@ use native.Mathlib.Omega.{arith}
 use lib.Dec.{eqb, ltb}
 use lib.ListN.{length, get_or}
 use borrow.Author.Tests.{eqb-true, eqb-false, eq-eqb, ltb-true, ltb-false}
+use Rattle.std.specs.Prelude.{None, Ok}
+use Rattle.std.proofs.lemmas.Option.{none-some}
 use Rattle.octets.specs.Octets.{within}
 use Rattle.octets.specs.Lists.{Each}
 use Rattle.octets.proofs.RangeLaws.{within-true, within-is}
@@ -16,8 +18,6 @@ use Rattle.frame.specs.State.{weighed}
 use Rattle.machine.specs.declared.states.Mux.{Mux}
 use Rattle.machine.specs.declared.states.Mux.TheVariants.{Detached, Waiting, Attached, Collecting, Distributing}
 use Rattle.machine.specs.declared.states.Selection.TheVariants.{Selected}
-use Rattle.machine.specs.declared.mux.MuxStep.{MuxStep}
-use Rattle.machine.specs.declared.mux.MuxStep.TheVariants.{Stay, Enter}
 use Rattle.machine.specs.Mux.{mux_next, waits, is_attached, distributes}
 use Rattle.port.specs.declared.record.Port.{Port}
 use Rattle.port.specs.Mux.{mux_choice}
@@ -31,30 +31,25 @@ use Rattle.trunk.specs.Ready.{waits_for, has_waiting, holds_back, held_back, rea
 use Rattle.trunk.specs.Settled.{Chosen}
 use Rattle.trunk.proofs.EachLaws.{Fits}
 use Rattle.trunk.proofs.ReadyLaws.{some-waits, waits-own}
+use Rattle.control.specs.declared.answer.Accepted.TheVariants.{Done}
+use Rattle.control.specs.Call.{aggregator}
 use Rattle.control.specs.After.{answer}
-use Rattle.control.specs.Report.{aggregator_report}
+use Rattle.control.specs.Report.{aggregator_report, sets_told}
 use Rattle.claims.specs.AtRest.{Sound}
 use Rattle.claims.specs.Reports.{sends_on, SetsTrue}
 use Rattle.claims.specs.Carries.{DistributingGiven, WaitingForSomeone, counts_to, carries, Register, RegisterAddsUp}
 use Rattle.claims.proofs.Sound.{in_ports, port-fits, table_fits}
 use Rattle.claims.proofs.Calls.{never_stuck}
 use Rattle.claims.proofs.Rule.{port_firm}
-use Rattle.claims.proofs.Reports.{aggregator-true}
+use Rattle.claims.proofs.Reports.{told-true}
 
 -- ---- distributing is given
 
-pub entered : {A : Type 0} {m : Mux} → Enter m ≡ Stay → A
-entered e = absurd (true≢false (ap moves e))
-  where
-    moves : MuxStep → Bool
-    moves Stay = false
-    moves (Enter m) = true
-
-stays-given : (m : Mux) → is_attached m ≡ true → mux_next m Selected false true true ≡ Stay → distributes m ≡ true
+stays-given : (m : Mux) → is_attached m ≡ true → mux_next m Selected false true true ≡ None → distributes m ≡ true
 stays-given Detached a e = absurd (false≢true a)
 stays-given Waiting a e = absurd (false≢true a)
-stays-given Attached a e = entered e
-stays-given Collecting a e = entered e
+stays-given Attached a e = absurd (none-some Collecting (sym e))
+stays-given Collecting a e = absurd (none-some Distributing (sym e))
 stays-given Distributing a e = refl
 
 pub distributing-given : DistributingGiven
@@ -178,8 +173,11 @@ exclusive a k l d differ = by (eqb a k) refl (eqb a l) refl d
     by false x c y d = refl
 
 module _ (t : List ℕ) (s : Sound t) where
-  reported : (k : ℕ) → 1 ≤ k → k ≤ count_in t → SetsTrue k t (aggregator_report k t).sets
-  reported k low high = aggregator-true t k (unfold answer in rw (s.ranged, within-is 1 k (count_in t) low high))
+  reported : (k : ℕ) → 1 ≤ k → k ≤ count_in t → SetsTrue k t (sets_told (aggregator_report k t))
+  unfolding aggregator_report
+  reported k low high =
+      let done : answer (aggregator k) t ≡ Ok Done = unfold answer in rw (s.ranged, within-is 1 k (count_in t) low high) in
+      rw done (told-true t k Done done)
 
   counts_are : (n : ℕ) → n ≤ count_in t → counts_to t n ≡ counted (up_to n) (ports t)
   unfolding counts_to
@@ -198,7 +196,7 @@ module _ (t : List ℕ) (s : Sound t) where
   }
     where
       apart : (k l : ℕ) → 1 ≤ k → k ≤ count_in t → 1 ≤ l → l ≤ count_in t → k ≢ l → (i : ℕ) (b : Bool) → ltb i (count_in t) ≡ b
-          → member (aggregator_report k t).sets.distributing i && member (aggregator_report l t).sets.distributing i ≡ false
+          → member (sets_told (aggregator_report k t)).distributing i && member (sets_told (aggregator_report l t)).distributing i ≡ false
       apart k l a b c d differ i true e =
           let h = ltb-true i (count_in t) e in
           rw ((reported k a b).distributing i h, (reported l c d).distributing i h) (exclusive (port_at t i).aggregator k l (carries (port_at t i)) differ)

@@ -8,6 +8,7 @@ use native.Mathlib.Omega.{arith}
 use lib.ListN.{length}
 use lib.Dec.{eqb}
 use borrow.Author.Tests.{eqb-true}
+use Rattle.std.specs.Prelude.{Ok, Err}
 use Rattle.octets.specs.Octets.{within}
 use Rattle.octets.proofs.RangeLaws.{both}
 use Rattle.frame.specs.declared.block.SystemId.{SystemId}
@@ -16,10 +17,9 @@ use Rattle.settings.specs.declared.Settings.{Settings}
 use Rattle.table.specs.Layout.{most_ports, table_size}
 use Rattle.table.specs.Table.{count_in, is_room}
 use Rattle.table.proofs.TableLaws.{in_range}
-use Rattle.control.specs.declared.answer.Answer.{Answer}
-use Rattle.control.specs.declared.answer.Answer.TheVariants.{Done, Lacpdu, Marker, Refused}
+use Rattle.control.specs.Answer.{Answer, with_default}
+use Rattle.control.specs.declared.answer.Accepted.TheVariants.{Done}
 use Rattle.control.specs.declared.answer.Reason.TheVariants as reason
-use Rattle.control.specs.Answer.{with_default}
 use Rattle.control.specs.Call.{Call, start, receive, tick, line, configure, fetch, report, aggregator, due, is_start}
 use Rattle.control.specs.After.{answer, after}
 use Rattle.control.specs.Accepted.{accepted}
@@ -36,10 +36,10 @@ pub start-room : (t : List ℕ) (count : ℕ) (system : SystemId) (delay : TensO
     → accepted (answer (start count system delay x) t) ≡ true → (within 1 count most_ports ≡ true) × (length t ≡ table_size count)
 unfolding answer
 start-room t count system delay x e =
-    let r = both (within 1 count most_ports) (eqb (length t) (table_size count)) (if-room (is_room t count) (with_default x Done) e) in
+    let r = both (within 1 count most_ports) (eqb (length t) (table_size count)) (if-room (is_room t count) (with_default x (Ok Done)) e) in
     (r.0, eqb-true (length t) (table_size count) r.1)
   where
-    if-room : (b : Bool) (a : Answer) → accepted (cond b a (Refused reason.Table)) ≡ true → b ≡ true
+    if-room : (b : Bool) (a : Answer) → accepted (cond b a (Err reason.Table)) ≡ true → b ≡ true
     if-room true a f = refl
     if-room false a f = absurd (false≢true f)
 
@@ -54,10 +54,8 @@ accepted-kept t s count system delay x e =
 
 -- so one that is accepted on a table leaves its count
 start-kept : (t : List ℕ) → Sound t → (c : Call) → is_start c ≡ true → (a : Answer) → answer c t ≡ a → count_in (after c t) ≡ count_in t
-start-kept t s (start count system delay x) e (Refused r) f = ap count_in (refused-table (start count system delay x) t f)
-start-kept t s (start count system delay x) e Done f = accepted-kept t s count system delay x (ap accepted f)
-start-kept t s (start count system delay x) e Lacpdu f = accepted-kept t s count system delay x (ap accepted f)
-start-kept t s (start count system delay x) e Marker f = accepted-kept t s count system delay x (ap accepted f)
+start-kept t s (start count system delay x) e (Err r) f = ap count_in (refused-table (start count system delay x) t f)
+start-kept t s (start count system delay x) e (Ok k) f = accepted-kept t s count system delay x (ap accepted f)
 start-kept t s (receive n frame out) e a f = absurd (false≢true e)
 start-kept t s tick e a f = absurd (false≢true e)
 start-kept t s (line n l) e a f = absurd (false≢true e)

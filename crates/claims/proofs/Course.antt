@@ -8,6 +8,7 @@ use lib.ListN.{length, get_or, set, length-map, length-set}
 use lib.Seq.{get_or-set_same}
 use lib.Dec.{eqb}
 use borrow.Author.Tests.{eqb-true}
+use Rattle.std.specs.Prelude.{Ok}
 use Rattle.octets.proofs.ListLaws.{map_at}
 use Rattle.octets.specs.Octets.{Octets}
 use Rattle.frame.specs.declared.block.Block.{Block}
@@ -29,9 +30,8 @@ use Rattle.trunk.specs.Displaced.{is_displaced, displaced_if, displaced}
 use Rattle.trunk.specs.Settled.{settled}
 use Rattle.trunk.proofs.MoveLaws.{displaced-at}
 use Rattle.work.specs.Work.{worked, after_one, received_at, after_received, after_tick, after_line, after_settings, after_send}
-use Rattle.control.specs.declared.answer.Answer.{Answer}
-use Rattle.control.specs.declared.answer.Answer.TheVariants.{Done, Lacpdu, Marker, Refused}
 use Rattle.control.specs.Answer.{with_room, with_default, due_answer}
+use Rattle.control.specs.declared.answer.Accepted.TheVariants.{Done}
 use Rattle.control.specs.Call.{Call, start, receive, tick, line, configure, fetch, report, aggregator, due as dueCall, is_start}
 use Rattle.control.specs.After.{answer, after_frame, changed_by, after, effect}
 use Rattle.control.specs.Accepted.{accepted}
@@ -39,7 +39,7 @@ use Rattle.control.proofs.CallLaws.{named, received-on, after-accepted}
 use Rattle.control.proofs.CountLaws.{kept_if}
 use Rattle.claims.specs.Run.{Takes}
 use Rattle.claims.specs.AtRest.{Sound}
-use Rattle.claims.proofs.Sound.{Before, in_ports, work_ports, tick-before, line_before, settings-before, received-before, send_ports, sound_back}
+use Rattle.claims.proofs.Sound.{frame-left, Before, in_ports, work_ports, tick-before, line_before, settings-before, received-before, send_ports, sound_back}
 use Rattle.claims.proofs.Locality.{again-at, set-kept}
 
 -- what the call's own rule makes of port i, from 0, before its periodic machine and steps 3 to 6
@@ -157,23 +157,22 @@ module _ (t : List ℕ) (s : Sound t) (i : ℕ) (h : i < count_in t) where
           subst (λ (p : Port). Own (receive n frame out) t i (cond (not (eqb i (n - 1)) && is_displaced a p) (moved p) p))
           (sym (set-kept t (n - 1) q i h e)) (rw e (other (is_displaced a (port_at t i)) refl))
 
-  frame-course : (n : ℕ) (frame out : List ℕ) → Octets frame → (a : Answer) → answer (receive n frame out) t ≡ a
-      → Course (receive n frame out) t (on_octets (after_frame a (n - 1) frame) t) i
-  frame-course n frame out o Done e = stays same-port
-  frame-course n frame out o Lacpdu e = unfold after_received in
+  frame-course : (n : ℕ) (frame out : List ℕ) → Octets frame
+      → Course (receive n frame out) t (on_octets (after_frame (answer (receive n frame out) t) (n - 1) frame) t) i
+  frame-course n frame out o =
+      frame-left (λ u. Course (receive n frame out) t u i) (answer (receive n frame out) t) (n - 1) frame t (stays same-port)
+      (λ e. unfold after_received in
       let x = received-on t n frame out e in
       works (displaced (n - 1) (block_of (actor_part frame)) (set (ports t) (n - 1) (received_at (n - 1) frame (state_of t))))
-      (received-before t s (n - 1) x.below frame o x.up x.full) refl (displaced-own n frame out)
-  frame-course n frame out o Marker e = stays same-port
-  frame-course n frame out o (Refused r) e = stays same-port
+      (received-before t s (n - 1) x.below frame o x.up x.full) refl (displaced-own n frame out))
 
   changed-course : (c : Call) → Takes c → accepted (answer c t) ≡ true → is_start c ≡ false → Course c t (changed_by c t) i
   unfolding answer effect
   changed-course (start count system delay x) k e f = absurd (true≢false f)
-  changed-course (receive n frame out) k e f = frame-course n frame out k.0 (answer (receive n frame out) t) refl
+  changed-course (receive n frame out) k e f = frame-course n frame out k.0
   changed-course tick k e f = tick-course
-  changed-course (line n l) k e f = line-course n l (named t n Done e)
-  changed-course (configure n x) k e f = settings-course n x k (named t n (with_default x Done) e)
+  changed-course (line n l) k e f = line-course n l (named t n (Ok Done) e)
+  changed-course (configure n x) k e f = settings-course n x k (named t n (with_default x (Ok Done)) e)
   changed-course (fetch n out) k e f = send_course n out (named t n (with_room out (due_answer (due (port_at t (n - 1))))) e)
   changed-course (report n) k e f = stays same-port
   changed-course (aggregator n) k e f = stays same-port

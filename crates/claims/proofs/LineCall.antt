@@ -8,6 +8,7 @@ use native.Mathlib.Omega.{arith}
 use lib.ListN.{length, get_or, set, length-set}
 use lib.Dec.{eqb}
 use borrow.Author.Tests.{eqb-true, eq-eqb}
+use Rattle.std.specs.Prelude.{Result, Ok, Err}
 use Rattle.octets.proofs.ListLaws.{map_at, sweep_at}
 use Rattle.octets.specs.Octets.{Octets, within}
 use Rattle.octets.proofs.RangeLaws.{within-true}
@@ -18,8 +19,8 @@ use Rattle.machine.specs.declared.states.Line.{Line}
 use Rattle.machine.specs.States.{same_line}
 use Rattle.machine.proofs.CompareLaws.{line-true, line_refl}
 use Rattle.port.specs.declared.record.Port.{Port}
-use Rattle.port.specs.declared.transmit.Due.{Due}
-use Rattle.port.specs.declared.transmit.Due.TheVariants.{Nothing}
+use Rattle.port.specs.declared.transmit.Undue.{Undue}
+use Rattle.port.specs.declared.transmit.Undue.TheVariants.{Nothing}
 use Rattle.port.specs.Record.{with_line, with_ntt, with_actor, with_own, actor_block}
 use Rattle.port.specs.Receive.{record_default, unselected, initialized, port_disabled, current, receive_run, moved, received, down, lined}
 use Rattle.port.specs.Transmit.{due, sent, silent, ntt_cleared, ticked, advanced}
@@ -32,10 +33,9 @@ use Rattle.table.specs.Table.{count_in, port_at, ports, ours, again, on_octets, 
 use Rattle.table.proofs.StoreLaws.{ports-length, ports-at}
 use Rattle.trunk.specs.Displaced.{is_displaced, displaced_if, displaced}
 use Rattle.work.specs.Work.{worked, after_one, received_at, after_received, after_tick, after_line, after_settings, after_send}
-use Rattle.control.specs.declared.answer.Answer.{Answer}
-use Rattle.control.specs.declared.answer.Answer.TheVariants.{Done, Lacpdu, Marker, Refused}
-use Rattle.control.specs.declared.answer.Reason.TheVariants as reason
 use Rattle.control.specs.Answer.{is_number, with_room, with_default, due_answer}
+use Rattle.control.specs.declared.answer.Accepted.TheVariants.{Done}
+use Rattle.control.specs.declared.answer.Reason.TheVariants as reason
 use Rattle.control.specs.Call.{Call, start, receive, tick, line, configure, fetch, report, aggregator, due as dueCall}
 use Rattle.control.specs.After.{answer, after_frame, changed_by, unless, after, effect}
 use Rattle.control.specs.Accepted.{accepted}
@@ -45,7 +45,7 @@ use Rattle.control.proofs.CallLaws.{named, numbered, received-on, after-accepted
 use Rattle.control.proofs.CountLaws.{kept_if}
 use Rattle.claims.specs.AtRest.{Sound}
 use Rattle.claims.specs.LineCall.{LineTaken, LineRepeated, Silent, HalfSilent, relines, NoneRelines, StaysSilent}
-use Rattle.claims.proofs.Sound.{Before, in_ports, tick-before, line_before, settings-before, received-before, send_ports, sound_back}
+use Rattle.claims.proofs.Sound.{call-left, frame-left, Before, in_ports, tick-before, line_before, settings-before, received-before, send_ports, sound_back}
 use Rattle.claims.proofs.Calls.{call-sound, run_sound, never_stuck}
 use Rattle.claims.proofs.Rule.{port_firm}
 use Rattle.claims.proofs.Counts.{call-count, run-count}
@@ -54,19 +54,13 @@ use Rattle.claims.proofs.Views.{work_view, set_view}
 
 -- ---- both values as they are
 
-unless-same : (a : Answer) (t u : List ℕ) → (accepted a ≡ true → u ≡ t) → unless a t u ≡ t
-unless-same Done t u f = f refl
-unless-same Lacpdu t u f = f refl
-unless-same Marker t u f = f refl
-unless-same (Refused r) t u f = refl
-
 pub line-repeated : LineRepeated
 unfolding after effect after_line
 line-repeated t o n =
     let p = port_at t (n - 1) in
     let c = line n p.line in
     ap (λ (b : Bool). unless (answer c t) t (octets_of (cond b (state_of t) (after_one (n - 1) (lined p.line p) (state_of t))))) (line_refl p.line)
-    ∙ unless-same (answer c t) t (octets_of (state_of t)) (λ e. octets-back t (unfold answer in in_table t n Done e) o)
+    ∙ call-left (λ u. u ≡ t) (answer c t) t (octets_of (state_of t)) refl (λ e. octets-back t (unfold answer in in_table t n (Ok Done) e) o)
 
 -- ---- half duplex
 
@@ -78,7 +72,7 @@ half_clear : (p : Port) → p.line.full ≡ false → ntt_cleared p ≡ p → p.
 unfolding ntt_cleared
 half_clear p f e = ap (λ (q : Port). q.ntt) (sym e) ∙ ap (λ (b : Bool). (cond b (with_ntt p false) p).ntt) (half_off p f)
 
-nothing-due : (p : Port) → p.ntt ≡ false → due p ≡ Nothing
+nothing-due : (p : Port) → p.ntt ≡ false → due p ≡ Err Nothing
 unfolding due
 nothing-due p e = rw e
 
@@ -94,8 +88,8 @@ sound-silent t s n e f =
       ntt = clear;
       fetched = λ out.
           let a = with_room out (due_answer (due p)) in
-          ap (λ (b : Bool). cond b (cond (is_number t n) a (Refused reason.Number)) (Refused reason.Table)) s.ranged
-          ∙ ap (λ (b : Bool). cond b a (Refused reason.Number)) e ∙ ap (λ (d : Due). with_room out (due_answer d)) (nothing-due p clear);
+          ap (λ (b : Bool). cond b (cond (is_number t n) a (Err reason.Number)) (Err reason.Table)) s.ranged
+          ∙ ap (λ (b : Bool). cond b a (Err reason.Number)) e ∙ ap (λ (d : Result (Unit {0}) Undue). with_room out (due_answer d)) (nothing-due p clear);
     }
 
 pub half_silent : HalfSilent
@@ -204,26 +198,25 @@ module _ (t : List ℕ) (s : Sound t) (i : ℕ) (h : i < count_in t) where
       ∙ ap (λ (p : Port). p.line) (map_at advanced (ports t) i (decoded []) (decoded []) (in_ports t s i h))
       ∙ advanced-line (get_or (ports t) i (decoded [])) ∙ ap (λ (p : Port). p.line) (ports-at t i (decoded []) h)
 
-  frame-line : (n : ℕ) (frame out : List ℕ) → Octets frame → (a : Answer) → answer (receive n frame out) t ≡ a
-      → (port_at (on_octets (after_frame a (n - 1) frame) t) i).line ≡ (port_at t i).line
-  frame-line n frame out o Done e = same_line_lem
-  frame-line n frame out o Lacpdu e = unfold after_received in
+  frame-line : (n : ℕ) (frame out : List ℕ) → Octets frame
+      → (port_at (on_octets (after_frame (answer (receive n frame out) t) (n - 1) frame) t) i).line ≡ (port_at t i).line
+  frame-line n frame out o =
+      frame-left (λ u. (port_at u i).line ≡ (port_at t i).line) (answer (receive n frame out) t) (n - 1) frame t same_line_lem
+      (λ e. unfold after_received in
       let x = received-on t n frame out e in
       let a = block_of (actor_part frame) in
       let q = received_at (n - 1) frame (state_of t) in
       let here : i < length (set (ports t) (n - 1) q) = rw (length-set (ports t) (n - 1) q, ports-length) h in
       work_line (displaced (n - 1) a (set (ports t) (n - 1) q)) (received-before t s (n - 1) x.below frame o x.up x.full)
-      ∙ displaced-line (n - 1) a (set (ports t) (n - 1) q) i (decoded []) here ∙ set_line (n - 1) q (λ y. received_at-line t (n - 1) frame)
-  frame-line n frame out o Marker e = same_line_lem
-  frame-line n frame out o (Refused r) e = same_line_lem
+      ∙ displaced-line (n - 1) a (set (ports t) (n - 1) q) i (decoded []) here ∙ set_line (n - 1) q (λ y. received_at-line t (n - 1) frame))
 
   changed-keeps : (c : Call) → Takes c → accepted (answer c t) ≡ true → relines c i ≡ false → (port_at (changed_by c t) i).line ≡ (port_at t i).line
   unfolding effect
   changed-keeps (start count system delay x) k e f = absurd (true≢false f)
-  changed-keeps (receive n frame out) k e f = frame-line n frame out k.0 (answer (receive n frame out) t) refl
+  changed-keeps (receive n frame out) k e f = frame-line n frame out k.0
   changed-keeps tick k e f = tick-line
-  changed-keeps (line n l) k e f = other-line (n - 1) (unfold answer in named t n Done e) l f
-  changed-keeps (configure n x) k e f = settings-line (n - 1) (unfold answer in named t n (with_default x Done) e) x k
+  changed-keeps (line n l) k e f = other-line (n - 1) (unfold answer in named t n (Ok Done) e) l f
+  changed-keeps (configure n x) k e f = settings-line (n - 1) (unfold answer in named t n (with_default x (Ok Done)) e) x k
   changed-keeps (fetch n out) k e f = send_line (n - 1) (unfold answer in named t n (with_room out (due_answer (due (port_at t (n - 1))))) e)
   changed-keeps (report n) k e f = same_line_lem
   changed-keeps (aggregator n) k e f = same_line_lem
@@ -231,14 +224,7 @@ module _ (t : List ℕ) (s : Sound t) (i : ℕ) (h : i < count_in t) where
 
   call-keeps : (c : Call) → Takes c → relines c i ≡ false → (port_at (after c t) i).line ≡ (port_at t i).line
   unfolding after
-  call-keeps c k f = by (answer c t) (λ e. changed-keeps c k e f)
-    where
-      by : (a : Answer) → (accepted a ≡ true → (port_at (changed_by c t) i).line ≡ (port_at t i).line)
-          → (port_at (unless a t (changed_by c t)) i).line ≡ (port_at t i).line
-      by Done g = g refl
-      by Lacpdu g = g refl
-      by Marker g = g refl
-      by (Refused r) g = refl
+  call-keeps c k f = call-left (λ u. (port_at u i).line ≡ (port_at t i).line) (answer c t) t (changed_by c t) refl (λ e. changed-keeps c k e f)
 
 -- ---- runs
 
@@ -251,7 +237,7 @@ run-keeps i t (c ∷ cs) s h k f =
 after_line_lem : (t : List ℕ) → Sound t → (n : ℕ) (l : Line) → accepted (answer (line n l) t) ≡ true → (port_at (after (line n l) t) (n - 1)).line ≡ l
 unfolding effect
 after_line_lem t s n l e =
-    ap (λ (u : List ℕ). (port_at u (n - 1)).line) (after-accepted t (line n l) e) ∙ given t s (n - 1) (unfold answer in named t n Done e) l
+    ap (λ (u : List ℕ). (port_at u (n - 1)).line) (after-accepted t (line n l) e) ∙ given t s (n - 1) (unfold answer in named t n (Ok Done) e) l
 
 pub line_taken : LineTaken
 line_taken t m n l e = after_line_lem t (never_stuck t m) n l e
@@ -261,8 +247,8 @@ stays-silent t m n l e f cs k r =
     let s = never_stuck t m in
     let u = after (line n l) t in
     let sound : Sound u = call-sound t s (line n l) tt in
-    let here : n - 1 < count_in u = rw (call-count t s (line n l)) (unfold answer in named t n Done e) in
+    let here : n - 1 < count_in u = rw (call-count t s (line n l)) (unfold answer in named t n (Ok Done) e) in
     let number : is_number (run u cs) n ≡ true =
-    ap (λ (c : ℕ). within 1 n c) (run-count u sound cs k ∙ call-count t s (line n l)) ∙ (unfold answer in numbered t n Done e) in
+    ap (λ (c : ℕ). within 1 n c) (run-count u sound cs k ∙ call-count t s (line n l)) ∙ (unfold answer in numbered t n (Ok Done) e) in
     sound-silent (run u cs) (run_sound u sound cs k) n number
     (ap (λ (x : Line). x.full) (run-keeps (n - 1) u cs sound here k r ∙ after_line_lem t s n l e) ∙ f)

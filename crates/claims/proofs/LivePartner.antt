@@ -10,6 +10,8 @@ use lib.ListN.{length, get_or, set, length-set}
 use lib.Seq.{get_or-set_same}
 use lib.Dec.{eqb}
 use borrow.Author.Tests.{eqb-true, eqb-false, eq-eqb}
+use Rattle.std.specs.Prelude.{Ok, Err, Option, Some, None}
+use Rattle.std.proofs.lemmas.Option.{none-some}
 use Rattle.octets.proofs.ListLaws.{map_at}
 use Rattle.octets.specs.Octets.{Octets}
 use Rattle.frame.specs.declared.block.Block.{Block}
@@ -18,8 +20,6 @@ use Rattle.frame.specs.Wire.{actor_part}
 use Rattle.machine.specs.declared.states.Line.{Line}
 use Rattle.machine.specs.declared.states.Receive.{Receive}
 use Rattle.machine.specs.declared.states.Receive.TheVariants.{Initialize, PortDisabled, Expired, LacpDisabled, Defaulted, Current}
-use Rattle.machine.specs.declared.receive.ReceiveStep.{ReceiveStep}
-use Rattle.machine.specs.declared.receive.ReceiveStep.TheVariants.{Stay, Enter}
 use Rattle.machine.specs.Receive.{receive_next}
 use Rattle.machine.specs.States.{same_line}
 use Rattle.machine.specs.Time.{ran_out}
@@ -40,17 +40,16 @@ use Rattle.table.proofs.StoreLaws.{ports-length, ports-at}
 use Rattle.trunk.specs.Displaced.{is_displaced, displaced_if, displaced}
 use Rattle.trunk.proofs.MoveLaws.{displaced-at}
 use Rattle.work.specs.Work.{worked, after_one, received_at, after_received, after_tick, after_line, after_settings, after_send}
-use Rattle.control.specs.declared.answer.Answer.{Answer}
-use Rattle.control.specs.declared.answer.Answer.TheVariants.{Done, Lacpdu, Marker, Refused}
-use Rattle.control.specs.Answer.{with_room, with_default, due_answer}
+use Rattle.control.specs.Answer.{Answer, with_room, with_default, due_answer}
+use Rattle.control.specs.declared.answer.Accepted.TheVariants.{Done, Lacpdu, Marker}
 use Rattle.control.specs.Call.{Call, start, receive, tick, line, configure, fetch, report, aggregator, due as dueCall}
-use Rattle.control.specs.After.{answer, after_frame, changed_by, unless, after, effect}
+use Rattle.control.specs.After.{answer, after_frame, changed_by, after, effect}
 use Rattle.control.specs.Accepted.{is_lacpdu, accepted}
 use Rattle.claims.specs.Run.{Takes, AllTake, run}
 use Rattle.control.proofs.CallLaws.{named, received-on, after-accepted}
 use Rattle.claims.specs.AtRest.{Sound}
 use Rattle.claims.specs.LivePartner.{lasting, Live, is_expired, to_half, ends, NoneEnds, LivePartner}
-use Rattle.claims.proofs.Sound.{Before, in_ports, port-standing, tick-before, line_before, settings-before, received-before, send_ports, unmoved}
+use Rattle.claims.proofs.Sound.{call-left, Before, in_ports, port-standing, tick-before, line_before, settings-before, received-before, send_ports, unmoved}
 use Rattle.claims.proofs.Calls.{call-sound, never_stuck}
 use Rattle.control.proofs.CountLaws.{again-count, kept_if}
 use Rattle.claims.proofs.Locality.{again-at, displaced-kept}
@@ -74,16 +73,16 @@ live-is frame p q e l = record {
 -- ---- the receive machine
 
 -- a choice that records no default: to stay, or to enter EXPIRED
-data Gentle (k : ReceiveStep) : Type 0 where
-  stays : k ≡ Stay → Gentle k
-  expires : k ≡ Enter Expired → Gentle k
+data Gentle (k : Option Receive) : Type 0 where
+  stays : k ≡ None → Gentle k
+  expires : k ≡ Some Expired → Gentle k
 
 -- EXPIRED has started its timer
-after-expired : (p : Port) → p.line.up ≡ true → receive_choice (expired p) ≡ Stay
+after-expired : (p : Port) → p.line.up ≡ true → receive_choice (expired p) ≡ None
 unfolding receive_choice expired
 after-expired p u = rw u
 
-after_disabled : (p : Port) → p.line.up ≡ false → receive_choice (port_disabled p) ≡ Stay
+after_disabled : (p : Port) → p.line.up ≡ false → receive_choice (port_disabled p) ≡ None
 unfolding receive_choice port_disabled
 after_disabled p u = rw u
 
@@ -101,10 +100,10 @@ run-lasting p u (stays e) = ap (λ (x : Port). lasting_of x) (run-stays p e)
 run-lasting p u (expires e) = ap (λ (x : Port). lasting_of x) (run_enters p Expired e (after-expired p u)) ∙ expired-lasting p
 
 -- and so does one with the link down
-still-lasting : (p : Port) → receive_choice p ≡ Stay → lasting_of (receive_run p) ≡ lasting_of p
+still-lasting : (p : Port) → receive_choice p ≡ None → lasting_of (receive_run p) ≡ lasting_of p
 still-lasting p e = ap (λ (x : Port). lasting_of x) (run-stays p e)
 
-falls-lasting : (p : Port) → p.line.up ≡ false → receive_choice p ≡ Enter PortDisabled → lasting_of (receive_run p) ≡ lasting_of p
+falls-lasting : (p : Port) → p.line.up ≡ false → receive_choice p ≡ Some PortDisabled → lasting_of (receive_run p) ≡ lasting_of p
 falls-lasting p u e = ap (λ (x : Port). lasting_of x) (run_enters p PortDisabled e (after_disabled p u)) ∙ disabled_lasting p
 
 -- ---- a tick
@@ -116,12 +115,8 @@ ran_before n a b =
     let y : n ≡ 0 → ⊥ = eqb-false n 0 b in
     eq-eqb n 1 (omega arith)
 
-stay_is : (k : ReceiveStep) → Bool
-stay_is Stay = true
-stay_is (Enter s) = false
-
-expired-next : (before now : Bool) → receive_next Expired true true before ≡ Stay → (now ≡ true → before ≡ false → ⊥) → receive_next Expired true true now ≡ Stay
-expired-next true now e f = absurd (false≢true (unfold stay_is in ap stay_is e))
+expired-next : (before now : Bool) → receive_next Expired true true before ≡ None → (now ≡ true → before ≡ false → ⊥) → receive_next Expired true true now ≡ None
+expired-next true now e f = absurd (none-some Defaulted (sym e))
 expired-next false true e f = absurd (f refl refl)
 expired-next false false e f = refl
 
@@ -130,7 +125,7 @@ current-next true = expires refl
 current-next false = stays refl
 
 -- the choice after a tick, of a port that was at rest with its link up
-tick_chooses : (s : Receive) (full : Bool) (n : ℕ) → goes_with (record { up = true; full = full }) s ≡ true → receive_next s true full (eqb n 0) ≡ Stay
+tick_chooses : (s : Receive) (full : Bool) (n : ℕ) → goes_with (record { up = true; full = full }) s ≡ true → receive_next s true full (eqb n 0) ≡ None
     → is_expired s && eqb n 1 ≡ false → Gentle (receive_next s true full (eqb (n - 1) 0))
 tick_chooses Initialize full n g r e = absurd (false≢true g)
 tick_chooses PortDisabled full n g r e = absurd (false≢true g)
@@ -154,7 +149,7 @@ ticked-line : (p : Port) → (ticked p).line ≡ p.line
 unfolding ticked
 ticked-line p = refl
 
-down_chooses : (s : Receive) (full out : Bool) → goes_with (record { up = false; full = full }) s ≡ true → receive_next s false full out ≡ Stay
+down_chooses : (s : Receive) (full out : Bool) → goes_with (record { up = false; full = full }) s ≡ true → receive_next s false full out ≡ None
 down_chooses Initialize full out g = absurd (false≢true g)
 down_chooses PortDisabled full out g = refl
 down_chooses Expired full out g = absurd (false≢true g)
@@ -189,7 +184,7 @@ advanced-lasting p r e = by p.line.up refl ∙ ticked-lasting p
 -- ---- a link or duplex change
 
 fall_chooses : (s : Receive) (l : Line) (full out : Bool) → goes_with l s ≡ true
-    → (receive_next s false full out ≡ Stay) ⊎ (receive_next s false full out ≡ Enter PortDisabled)
+    → (receive_next s false full out ≡ None) ⊎ (receive_next s false full out ≡ Some PortDisabled)
 fall_chooses Initialize l full out g = absurd (false≢true g)
 fall_chooses PortDisabled l full out g = inl refl
 fall_chooses Expired l full out g = inr refl
@@ -201,8 +196,8 @@ fall_lasting : (p : Port) → ReceiveRests (receive_part p) → lasting_of (rece
 unfolding receive_choice
 fall_lasting p r = by (fall_chooses p.phase.receive p.line p.line.full (ran_out p.timers.current) r.state)
   where
-    by : (receive_next p.phase.receive false p.line.full (ran_out p.timers.current) ≡ Stay)
-        ⊎ (receive_next p.phase.receive false p.line.full (ran_out p.timers.current) ≡ Enter PortDisabled)
+    by : (receive_next p.phase.receive false p.line.full (ran_out p.timers.current) ≡ None)
+        ⊎ (receive_next p.phase.receive false p.line.full (ran_out p.timers.current) ≡ Some PortDisabled)
         → lasting_of (receive_run (with_line p (down p.line))) ≡ lasting_of p
     by (inl e) = still-lasting (with_line p (down p.line)) e
     by (inr e) = falls-lasting (with_line p (down p.line)) refl e
@@ -312,14 +307,14 @@ module _ (t : List ℕ) (s : Sound t) (i : ℕ) (h : i < count_in t) where
 
   frame-goes : (n : ℕ) (frame out : List ℕ) → Octets frame → (a : Answer) → answer (receive n frame out) t ≡ a
       → is_lacpdu a && (eqb i (n - 1) || is_displaced (block_of (actor_part frame)) (port_at t i)) ≡ false → Goes t (on_octets (after_frame a (n - 1) frame) t) i
-  frame-goes n frame out o Done e f = same-goes
-  frame-goes n frame out o Lacpdu e f = unfold after_received in
+  frame-goes n frame out o (Ok Done) e f = same-goes
+  frame-goes n frame out o (Ok Lacpdu) e f = unfold after_received in
       let x = received-on t n frame out e in
       let a = block_of (actor_part frame) in
       work_goes (displaced (n - 1) a (set (ports t) (n - 1) (received_at (n - 1) frame (state_of t)))) (received-before t s (n - 1) x.below frame o x.up x.full)
       (ap (λ (y : Port). lasting_of y) (displaced-kept t s i h (n - 1) (received_at (n - 1) frame (state_of t)) a i h f))
-  frame-goes n frame out o Marker e f = same-goes
-  frame-goes n frame out o (Refused r) e f = same-goes
+  frame-goes n frame out o (Ok Marker) e f = same-goes
+  frame-goes n frame out o (Err r) e f = same-goes
 
   -- a test under an acceptance that holds
   under : (a b : Bool) → a ≡ true → a && b ≡ false → b ≡ false
@@ -335,21 +330,15 @@ module _ (t : List ℕ) (s : Sound t) (i : ℕ) (h : i < count_in t) where
   changed-goes (receive n frame out) k e f = frame-goes n frame out k.0 (answer (receive n frame out) t) refl f
   changed-goes tick k e f = tick_goes f
   changed-goes (line n l) k e f =
-      line-goes (n - 1) (unfold answer in named t n Done e) l (half_at (n - 1) l (under (accepted (answer (line n l) t)) _ e f))
-  changed-goes (configure n x) k e f = settings-goes (n - 1) (unfold answer in named t n (with_default x Done) e) x k
+      line-goes (n - 1) (unfold answer in named t n (Ok Done) e) l (half_at (n - 1) l (under (accepted (answer (line n l) t)) _ e f))
+  changed-goes (configure n x) k e f = settings-goes (n - 1) (unfold answer in named t n (with_default x (Ok Done)) e) x k
   changed-goes (fetch n out) k e f = send_goes (n - 1) (unfold answer in named t n (with_room out (due_answer (due (port_at t (n - 1))))) e)
   changed-goes (report n) k e f = same-goes
   changed-goes (aggregator n) k e f = same-goes
   changed-goes dueCall k e f = same-goes
 
-  unless-goes : (a : Answer) (u : List ℕ) → (accepted a ≡ true → Goes t u i) → Goes t (unless a t u) i
-  unless-goes Done u f = f refl
-  unless-goes Lacpdu u f = f refl
-  unless-goes Marker u f = f refl
-  unless-goes (Refused r) u f = unchanged t i
-
   pub call-goes : (c : Call) → Takes c → ends c t i ≡ false → Goes t (after c t) i
-  call-goes c k f = unfold after in unless-goes (answer c t) (changed_by c t) (λ e. changed-goes c k e f)
+  call-goes c k f = unfold after in call-left (λ u. Goes t u i) (answer c t) t (changed_by c t) (unchanged t i) (λ e. changed-goes c k e f)
 
 -- ---- runs
 
@@ -384,7 +373,7 @@ module _ (t : List ℕ) (s : Sound t) (i : ℕ) (h : i < count_in t) (frame : Li
   received-count = again-count t (worked (ours t) (displaced i (block_of (actor_part frame)) (set (ports t) i (received_at i frame (state_of t)))))
 
 -- what an accepted LACPDU leaves
-pub after-received : (t : List ℕ) (n : ℕ) (frame out : List ℕ) → answer (receive n frame out) t ≡ Lacpdu → after (receive n frame out) t ≡ on_octets (after_received (n - 1) frame) t
+pub after-received : (t : List ℕ) (n : ℕ) (frame out : List ℕ) → answer (receive n frame out) t ≡ Ok Lacpdu → after (receive n frame out) t ≡ on_octets (after_received (n - 1) frame) t
 unfolding effect
 after-received t n frame out e =
     after-accepted t (receive n frame out) (ap accepted e) ∙ ap (λ (a : Answer). on_octets (after_frame a (n - 1) frame) t) e

@@ -8,6 +8,7 @@ use lib.ListN.{length, get_or, set, length-map, length-set}
 use lib.Seq.{get_or-set_other}
 use lib.Dec.{eqb}
 use borrow.Author.Tests.{eqb-false}
+use Rattle.std.specs.Prelude.{Ok, Err}
 use Rattle.octets.proofs.ListLaws.{map_at}
 use Rattle.octets.specs.Octets.{Octets}
 use Rattle.frame.specs.declared.block.Block.{Block}
@@ -34,17 +35,16 @@ use Rattle.trunk.proofs.SettledLaws.{settled_compares}
 use Rattle.trunk.proofs.DependLaws.{settled_reach}
 use Rattle.trunk.proofs.MoveLaws.{displaced-at}
 use Rattle.work.specs.Work.{worked, after_one, received_at, after_received, after_line, after_settings, after_send}
-use Rattle.control.specs.declared.answer.Answer.{Answer}
-use Rattle.control.specs.declared.answer.Answer.TheVariants.{Done, Lacpdu, Marker, Refused}
-use Rattle.control.specs.Answer.{with_room, with_default, due_answer}
+use Rattle.control.specs.Answer.{Answer, with_room, with_default, due_answer}
+use Rattle.control.specs.declared.answer.Accepted.TheVariants.{Done, Lacpdu, Marker}
 use Rattle.control.specs.Call.{Call, start, receive, tick, line, configure, fetch, report, aggregator, due as dueCall}
-use Rattle.control.specs.After.{answer, after_frame, changed_by, unless, after, effect}
+use Rattle.control.specs.After.{answer, after_frame, changed_by, after, effect}
 use Rattle.control.specs.Accepted.{accepted, is_lacpdu}
 use Rattle.claims.specs.Run.{Takes}
 use Rattle.control.proofs.CallLaws.{named, received-on, after-accepted}
 use Rattle.claims.specs.AtRest.{Sound}
 use Rattle.claims.specs.Locality.{touches, Apart, Locality}
-use Rattle.claims.proofs.Sound.{Before, in_ports, port-resting, work_ports, line_before, settings-before, received-before, send_ports, sound_back}
+use Rattle.claims.proofs.Sound.{call-left, Before, in_ports, port-resting, work_ports, line_before, settings-before, received-before, send_ports, sound_back}
 use Rattle.claims.proofs.Calls.{never_stuck}
 use Rattle.control.proofs.CountLaws.{again-count, kept_if}
 
@@ -191,16 +191,16 @@ module _ (t : List ℕ) (s : Sound t) (j : ℕ) (h : j < count_in t) where
   frame_local : (n : ℕ) (frame out : List ℕ) → Octets frame → (a : Answer) → answer (receive n frame out) t ≡ a
       → ((k : ℕ) → k < count_in t → eqb k (n - 1) || (is_lacpdu a && is_displaced (block_of (actor_part frame)) (port_at t k)) ≡ true
       → ApartIn t (on_octets (after_frame a (n - 1) frame) t) j k) → port_at (on_octets (after_frame a (n - 1) frame) t) j ≡ port_at t j
-  frame_local n frame out o Done e f = same-port
-  frame_local n frame out o Lacpdu e f = unfold after_received in
+  frame_local n frame out o (Ok Done) e f = same-port
+  frame_local n frame out o (Ok Lacpdu) e f = unfold after_received in
       let x = received-on t n frame out e in
       let a = block_of (actor_part frame) in
       let i = n - 1 in
       work_local t s (displaced i a (set (ports t) i (received_at i frame (state_of t)))) (received-before t s i x.below frame o x.up x.full)
       (λ k. eqb k i || is_displaced a (port_at t k)) (λ k g y. displaced-kept i (received_at i frame (state_of t)) a k g y) j h
       (λ k g y. (f k g y).before) (λ k g y. (f k g y).then)
-  frame_local n frame out o Marker e f = same-port
-  frame_local n frame out o (Refused r) e f = same-port
+  frame_local n frame out o (Ok Marker) e f = same-port
+  frame_local n frame out o (Err r) e f = same-port
 
   changed_local : (c : Call) → Takes c → accepted (answer c t) ≡ true
       → ((k : ℕ) → k < count_in t → touches c t k ≡ true → ApartIn t (changed_by c t) j k) → port_at (changed_by c t) j ≡ port_at t j
@@ -208,25 +208,18 @@ module _ (t : List ℕ) (s : Sound t) (j : ℕ) (h : j < count_in t) where
   changed_local (start count system delay x) k e f = absurd (not_itself (changed_by (start count system delay x) t) (f j h refl))
   changed_local (receive n frame out) k e f = frame_local n frame out k.0 (answer (receive n frame out) t) refl f
   changed_local tick k e f = absurd (not_itself (changed_by tick t) (f j h refl))
-  changed_local (line n l) k e f = line_local (n - 1) (named t n Done e) l f
-  changed_local (configure n x) k e f = settings_local (n - 1) (named t n (with_default x Done) e) x k f
+  changed_local (line n l) k e f = line_local (n - 1) (named t n (Ok Done) e) l f
+  changed_local (configure n x) k e f = settings_local (n - 1) (named t n (with_default x (Ok Done)) e) x k f
   changed_local (fetch n out) k e f = send_local (n - 1) (named t n (with_room out (due_answer (due (port_at t (n - 1))))) e) f
   changed_local (report n) k e f = same-port
   changed_local (aggregator n) k e f = same-port
   changed_local dueCall k e f = same-port
 
--- a refused call changes nothing, an accepted one what it changes
-unless_local : (a : Answer) (t u : List ℕ) (j : ℕ) → (accepted a ≡ true → port_at u j ≡ port_at t j) → port_at (unless a t u) j ≡ port_at t j
-unless_local Done t u j f = f refl
-unless_local Lacpdu t u j f = f refl
-unless_local Marker t u j f = f refl
-unless_local (Refused r) t u j f = refl
-
 sound_local : (t : List ℕ) → Sound t → (c : Call) → Takes c → (j : ℕ) → j < count_in t
     → ((k : ℕ) → k < count_in t → touches c t k ≡ true → Apart c t j k) → port_at (after c t) j ≡ port_at t j
 sound_local t s c k j h f =
     unfold after in
-    unless_local (answer c t) t (changed_by c t) j
+    call-left (λ u. port_at u j ≡ port_at t j) (answer c t) t (changed_by c t) refl
     (λ e. changed_local t s j h c k e (λ m g y. record { before = (f m g y).before; then = rw (after-accepted t c e) at (f m g y).then }))
 
 pub locality : Locality

@@ -8,6 +8,7 @@ use mathlib.Core.List.{List, [], map}
 use lib.ListN.{length, get_or, set, replicate, length-set, length-replicate}
 use lib.Dec.{eqb}
 use borrow.Author.Tests.{ne_eqb}
+use Rattle.std.specs.Prelude.{Ok, Err}
 use Rattle.octets.proofs.ListLaws.{each-alike}
 use Rattle.octets.specs.Octets.{Octets}
 use Rattle.frame.specs.declared.block.Block.{Block}
@@ -41,10 +42,9 @@ use Rattle.trunk.specs.Settled.{must_move, settled}
 use Rattle.trunk.proofs.BesideLaws.{beside_settled, settled-beside}
 use Rattle.trunk.proofs.MoveLaws.{settled-moves, settled-held, moves-aggregator, moves-waiting, displaced-at}
 use Rattle.work.specs.Work.{worked, received_at, after_received}
-use Rattle.control.specs.declared.answer.Answer.{Answer}
-use Rattle.control.specs.declared.answer.Answer.TheVariants.{Done, Lacpdu, Marker, Refused}
+use Rattle.control.specs.Answer.{Answer, with_default}
+use Rattle.control.specs.declared.answer.Accepted.TheVariants.{Done}
 use Rattle.control.specs.declared.answer.Reason.TheVariants as reason
-use Rattle.control.specs.Answer.{with_default}
 use Rattle.control.specs.Call.{Call, start, receive, tick, line, configure, fetch, report, aggregator, due, is_start}
 use Rattle.control.specs.After.{answer, changed_by, after, effect}
 use Rattle.control.specs.Accepted.{accepted}
@@ -177,7 +177,7 @@ unfolding answer effect
 start-at t count system delay x f e i h =
     let c = start count system delay x in
     let then : after c t ≡ changed_by c t = after-accepted t c e in
-    let room = room-is t count (if-accepted (is_room t count) (with_default x Done) reason.Table e).0 in
+    let room = room-is t count (if-accepted (is_room t count) (with_default x (Ok Done)) reason.Table e).0 in
     let few : i < count_in (changed_by c t) = rw then at h in
     record {
       few = rw (started-count t count system delay x) at few;
@@ -230,10 +230,8 @@ one-aggregator t m c k i h differ = by (answer c t) refl
         record { begins = x.0; down = λ g. x.1 }
 
     by : (a : Answer) → answer c t ≡ a → MovedOver c t i
-    by Done e = moves-over (ap accepted e) (is_start c) refl
-    by Lacpdu e = moves-over (ap accepted e) (is_start c) refl
-    by Marker e = moves-over (ap accepted e) (is_start c) refl
-    by (Refused r) e = absurd (differ (ap (λ (u : List ℕ). (port_at u i).aggregator) (refused-table c t e)))
+    by (Ok x) e = moves-over (ap accepted e) (is_start c) refl
+    by (Err r) e = absurd (differ (ap (λ (u : List ℕ). (port_at u i).aggregator) (refused-table c t e)))
 
 -- ---- an LACPDU, and the ports that it does not name
 

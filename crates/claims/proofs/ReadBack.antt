@@ -5,6 +5,7 @@ use mathlib.Core.Path.{◌≡◌, ap, ◌∙◌}
 use mathlib.Core.List.{List}
 use native.Mathlib.Omega.{arith}
 use lib.ListN.{drop}
+use Rattle.std.specs.Prelude.{Ok}
 use Rattle.frame.specs.Class.{frame_size}
 use Rattle.frame.proofs.WireLaws.{actor-back, partner-back, lacpdu-passes}
 use Rattle.port.specs.Record.{actor_block}
@@ -12,16 +13,15 @@ use Rattle.port.specs.Transmit.{due}
 use Rattle.table.specs.Layout.{header_of}
 use Rattle.table.specs.Table.{port_at, ours, state_of}
 use Rattle.work.specs.Work.{lacpdu_of, written_over}
-use Rattle.control.specs.declared.answer.Answer.{Answer}
-use Rattle.control.specs.declared.answer.Answer.TheVariants.{Done}
-use Rattle.control.specs.Answer.{with_room, due_answer}
+use Rattle.control.specs.Answer.{Answer, with_room, due_answer}
+use Rattle.control.specs.declared.answer.Accepted.TheVariants.{Done}
 use Rattle.control.specs.Call.{fetch}
 use Rattle.control.specs.After.{answer, unless, written_by, outgoing}
 use Rattle.control.specs.Accepted.{accepted}
 use Rattle.control.proofs.CallLaws.{on-port}
 use Rattle.claims.specs.ReadBack.{Reads, ReadBack}
 
-module _ (t : List ℕ) (n : ℕ) (out : List ℕ) (e : answer (fetch n out) t ≡ Done) where
+module _ (t : List ℕ) (n : ℕ) (out : List ℕ) (e : answer (fetch n out) t ≡ Ok Done) where
   number : (n - 1) + 1 ≡ n
   unfolding answer
   number = let some : 1 ≤ n = (on-port t n (with_room out (due_answer (due (port_at t (n - 1))))) (ap accepted e)).0.some in omega arith

@@ -1,11 +1,12 @@
 -- The reports are the truth: a port report answers the record, and an aggregator report the sets of the records, of which the count and
 -- the lowest are by the laws of sets. Assumes nothing.
 use Prim.Native.Nat.{ℕ, ◌-◌, ◌<◌, ◌≤◌}
-use mathlib.Core.Path.{◌≡◌, ap, ◌∙◌}
+use mathlib.Core.Path.{◌≡◌, refl, ap, ◌∙◌}
 use mathlib.Core.Bool.{Bool, true, false}
 use mathlib.Core.List.{List, []}
 use native.Mathlib.Omega.{arith}
 use lib.ListN.{length}
+use Rattle.std.specs.Prelude.{Ok, Err, MatchResult}
 use Rattle.port.specs.declared.record.Port.{Port}
 use Rattle.report.specs.declared.Role.TheVariants.{Holds, Attached, Distributes}
 use Rattle.report.specs.Sets.{stands, set_of, sets_of}
@@ -16,11 +17,13 @@ use Rattle.table.specs.Record.{decoded}
 use Rattle.table.specs.Table.{table_in_range, count_in, ports, port_at}
 use Rattle.table.proofs.StoreLaws.{ports-length, ports-at}
 use Rattle.table.proofs.TableLaws.{in_range}
-use Rattle.control.specs.declared.answer.Answer.{Answer}
-use Rattle.control.specs.declared.answer.Answer.TheVariants.{Done}
+use Rattle.control.specs.Answer.{Answer}
+use Rattle.control.specs.declared.answer.Accepted.{Accepted}
+use Rattle.control.specs.declared.answer.Accepted.TheVariants.{Done}
+use Rattle.control.specs.Call.{aggregator}
 use Rattle.control.specs.After.{answer, unless}
 use Rattle.port.specs.Absent.{no_port}
-use Rattle.control.specs.Report.{no_sets, port_report, aggregator_report}
+use Rattle.control.specs.Report.{port_report, answered_with, aggregator_report}
 use Rattle.control.specs.Accepted.{accepted}
 use Rattle.control.proofs.CallLaws.{in_table}
 use Rattle.control.proofs.DueLaws.{due-fetched}
@@ -58,11 +61,19 @@ module _ (t : List ℕ) (ranged : table_in_range t ≡ true) (k : ℕ) where
         (λ j g. let below : j < count_in t = omega arith in ap (stands Distributes k) (ports-at t j (decoded []) below) ∙ f j g);
   }
 
+-- one that is accepted
+pub told-true : (t : List ℕ) (k : ℕ) (a : Accepted) → answer (aggregator k) t ≡ Ok a → SetsTrue k t (sets_of k (ports t))
+unfolding answer
+told-true t k a e = sets_true t (in_table t k (Ok Done) (ap accepted e)) k
+
 pub aggregator-true : AggregatorTrue
 unfolding aggregator_report
-aggregator-true t k e =
-    let is : (aggregator_report k t).sets ≡ sets_of k (ports t) = ap (λ (a : Answer). unless a no_sets (sets_of k (ports t))) e in
-    rw is (sets_true t (in_table t k Done (unfold answer in ap accepted e)) k)
+aggregator-true t k = by (answer (aggregator k) t) refl
+  where
+    by : (a : Answer) → answer (aggregator k) t ≡ a
+        → MatchResult (answered_with a (sets_of k (ports t))) (λ s. SetsTrue k t s) (λ r. answer (aggregator k) t ≡ Err r)
+    by (Ok a) e = told-true t k a e
+    by (Err r) e = e
 
 pub due-true : DueTrue
 due-true t i out room = due-fetched t i out room

@@ -5,13 +5,13 @@ use mathlib.Core.Path.{◌≡◌, refl, sym, ap, ◌∙◌, subst}
 use mathlib.Core.Bool.{Bool, true, false, true≢false, false≢true}
 use mathlib.Core.List.{List, [], map}
 use lib.ListN.{get_or}
+use Rattle.std.specs.Prelude.{None}
+use Rattle.std.proofs.lemmas.Option.{none-some}
 use Rattle.octets.proofs.ListLaws.{map_same}
 use Rattle.machine.specs.declared.states.Mux.{Mux}
 use Rattle.machine.specs.declared.states.Mux.TheVariants.{Detached, Waiting, Attached, Collecting, Distributing}
 use Rattle.machine.specs.declared.states.Selection.{Selection}
 use Rattle.machine.specs.declared.states.Selection.TheVariants.{Selected}
-use Rattle.machine.specs.declared.mux.MuxStep.{MuxStep}
-use Rattle.machine.specs.declared.mux.MuxStep.TheVariants.{Stay, Enter}
 use Rattle.machine.specs.Mux.{mux_next, distributes}
 use Rattle.port.specs.declared.record.Port.{Port}
 use Rattle.port.specs.Compared.{compared}
@@ -55,23 +55,16 @@ rule-afresh t m i h = sound-ruled t (never_stuck t m) i h
 -- ---- distributing is earned
 
 -- a SELECTED port that distributes at rest
-stays-earned : (m : Mux) (sync coll : Bool) → distributes m ≡ true → mux_next m Selected false sync coll ≡ Stay → (sync ≡ true) × (coll ≡ true)
+stays-earned : (m : Mux) (sync coll : Bool) → distributes m ≡ true → mux_next m Selected false sync coll ≡ None → (sync ≡ true) × (coll ≡ true)
 stays-earned Detached sync coll d e = absurd (false≢true d)
 stays-earned Waiting sync coll d e = absurd (false≢true d)
 stays-earned Attached sync coll d e = absurd (false≢true d)
 stays-earned Collecting sync coll d e = absurd (false≢true d)
 stays-earned Distributing true true d e = (refl, refl)
-stays-earned Distributing true false d e = (refl, cc)
-stays-earned Distributing false coll d e = absurd (entering e)
-  where
-    is_stay : MuxStep → Bool
-    is_stay Stay = true
-    is_stay (Enter n) = false
+stays-earned Distributing true false d e = absurd (none-some Collecting (sym e))
+stays-earned Distributing false coll d e = absurd (none-some Collecting (sym e))
 
-    entering : Enter Collecting ≡ Stay → ⊥
-    entering x = false≢true (ap is_stay x)
-
-pub port-earned : (p : Port) → Chosen p → mux_choice false p ≡ Stay → distributes p.phase.mux ≡ true
+pub port-earned : (p : Port) → Chosen p → mux_choice false p ≡ None → distributes p.phase.mux ≡ true
     → (p.partner.state.synchronization ≡ true) × (p.partner.state.collecting ≡ true)
 unfolding mux_choice Chosen
 port-earned p s e d =

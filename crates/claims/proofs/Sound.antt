@@ -1,10 +1,11 @@
 -- Each piece of work leaves a sound table of a sound one, and start makes one. Before settling, it leaves records in range whose receive
 -- machines rest; the periodic machines and steps 3 to 6 bring the others to rest and keep the range. Assumes nothing.
 use Prim.Native.Nat.{ℕ, ◌+◌, ◌<◌, ◌≤◌}
-use mathlib.Core.Path.{◌≡◌, sym, ap, ◌∙◌, subst}
+use mathlib.Core.Path.{◌≡◌, refl, sym, ap, ◌∙◌, subst}
 use mathlib.Core.Bool.{Bool, true, false}
 use mathlib.Core.List.{List, [], map}
 use lib.ListN.{length, get_or, set, replicate, length-map, length-set, length-replicate}
+use Rattle.std.specs.Prelude.{Ok, Err}
 use Rattle.octets.specs.Lists.{Each}
 use Rattle.octets.proofs.ListLaws.{sweep_length, each_map, each_sweep, each_set, each-alike}
 use Rattle.octets.specs.Octets.{Octets}
@@ -41,6 +42,10 @@ use Rattle.trunk.proofs.RestLaws.{settled-twice}
 use Rattle.trunk.proofs.RestingLaws.{displaced-standing, settled-resting}
 use Rattle.trunk.proofs.RangeKept.{displaced-ranged}
 use Rattle.work.specs.Work.{worked, after_one, after_start, received_at, after_received, after_tick, after_line, after_settings, after_send}
+use Rattle.control.specs.declared.answer.Accepted.TheVariants.{Done, Lacpdu, Marker}
+use Rattle.control.specs.Answer.{Answer}
+use Rattle.control.specs.Accepted.{accepted}
+use Rattle.control.specs.After.{after_frame, unless}
 use Rattle.control.proofs.CountLaws.{kept_if}
 use Rattle.settings.proofs.RangeLaws.{configured-ranged, started-ranged}
 use Rattle.trunk.proofs.Settles.{Settles, settles, settles-is, sent-settles}
@@ -117,6 +122,19 @@ sound_back t s = octets-back t s.ranged s.octets
 
 pub unmoved : (P : List ℕ → Type 0) (t : List ℕ) → Sound t → P t → P (octets_of (state_of t))
 unmoved P t s x = subst P (sym (sound_back t s)) x
+
+-- a call that is refused leaves the table, and one that is accepted what it makes of it
+pub call-left : (P : List ℕ → Type 0) (a : Answer) (t u : List ℕ) → P t → (accepted a ≡ true → P u) → P (unless a t u)
+call-left P (Ok x) t u s f = f refl
+call-left P (Err r) t u s f = s
+
+-- a received frame leaves it, but for an LACPDU that is done
+pub frame-left : (P : List ℕ → Type 0) (a : Answer) (i : ℕ) (frame t : List ℕ) → P (octets_of (state_of t))
+    → (a ≡ Ok Lacpdu → P (on_octets (after_received i frame) t)) → P (on_octets (after_frame a i frame) t)
+frame-left P (Ok Done) i frame t s f = s
+frame-left P (Ok Lacpdu) i frame t s f = f refl
+frame-left P (Ok Marker) i frame t s f = s
+frame-left P (Err r) i frame t s f = s
 
 -- the records that a call leaves before settling
 pub record Before (t : List ℕ) (ps : List Port) : Type 0 where

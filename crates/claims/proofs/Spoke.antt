@@ -10,6 +10,7 @@ use lib.ListN.{get_or, set, replicate}
 use lib.Seq.{get_or-set_same}
 use lib.Dec.{eqb}
 use borrow.Author.Tests.{eqb-true, eqb-false, not-true}
+use Rattle.std.specs.Prelude.{Ok, Err, Some, None}
 use Rattle.octets.proofs.ListLaws.{map_at}
 use Rattle.octets.proofs.RangeLaws.{both}
 use Rattle.frame.specs.declared.block.SystemId.{SystemId}
@@ -19,7 +20,6 @@ use Rattle.frame.specs.Wire.{actor_part}
 use Rattle.machine.specs.declared.states.Line.{Line}
 use Rattle.machine.specs.declared.states.Receive.{Receive}
 use Rattle.machine.specs.declared.states.Receive.TheVariants.{Initialize, PortDisabled, Expired, LacpDisabled, Defaulted, Current}
-use Rattle.machine.specs.declared.receive.ReceiveStep.TheVariants.{Stay, Enter}
 use Rattle.machine.specs.Compare.{same_party}
 use Rattle.machine.specs.States.{same_line}
 use Rattle.port.specs.declared.record.Port.{Port}
@@ -38,8 +38,8 @@ use Rattle.table.specs.Table.{count_in, port_at, ports, ours, again, on_octets}
 use Rattle.table.proofs.StoreLaws.{ports-at}
 use Rattle.trunk.specs.Displaced.{is_displaced}
 use Rattle.work.specs.Work.{worked, after_one, after_tick, after_line}
-use Rattle.control.specs.declared.answer.Answer.{Answer}
-use Rattle.control.specs.declared.answer.Answer.TheVariants.{Done, Lacpdu, Marker, Refused}
+use Rattle.control.specs.Answer.{Answer}
+use Rattle.control.specs.declared.answer.Accepted.TheVariants.{Done, Lacpdu, Marker}
 use Rattle.control.specs.Call.{Call, start, receive, tick, line, configure, fetch, report, aggregator, due}
 use Rattle.control.specs.After.{answer, after, effect}
 use Rattle.control.specs.Accepted.{is_lacpdu, accepted}
@@ -81,14 +81,14 @@ selected-line : (b : Bool) (p : Port) → (cond b p (unselected p)).line ≡ p.l
 selected-line true p = refl
 selected-line false p = refl
 
-default-rests : (p : Port) → p.line.up ≡ true → receive_choice (defaulted p) ≡ Stay
+default-rests : (p : Port) → p.line.up ≡ true → receive_choice (defaulted p) ≡ None
 unfolding receive_choice defaulted record_default update_default_selected update_selected
 default-rests p u =
     let up : (cond (same_party p.own.default p.partner) p (unselected p)).line.up ≡ true =
     ap (λ (l : Line). l.up) (selected-line (same_party p.own.default p.partner) p) ∙ u in
     rw up
 
-off_rests : (p : Port) → p.line.up ≡ true → receive_choice (lacp_disabled p) ≡ Stay
+off_rests : (p : Port) → p.line.up ≡ true → receive_choice (lacp_disabled p) ≡ None
 unfolding receive_choice lacp_disabled record_default
 off_rests p u = rw u
 
@@ -112,7 +112,7 @@ is-expired Current e = absurd (false≢true e)
 expired-up : (p : Port) → goes_with p.line p.phase.receive ≡ true → p.phase.receive ≡ Expired → p.line.up ≡ true
 expired-up p g e = (both p.line.up p.line.full (ap (goes_with p.line) (sym e) ∙ g)).0
 
-ticked-ends : (p : Port) → p.phase.receive ≡ Expired → p.line.up ≡ true → p.timers.current.0 ≡ 1 → receive_choice (ticked p) ≡ Enter Defaulted
+ticked-ends : (p : Port) → p.phase.receive ≡ Expired → p.line.up ≡ true → p.timers.current.0 ≡ 1 → receive_choice (ticked p) ≡ Some Defaulted
 unfolding receive_choice ticked
 ticked-ends p e u n = rw (e, u, n)
 
@@ -127,12 +127,12 @@ advanced-default p g e =
     let x = both (is_expired p.phase.receive) (eqb p.timers.current.0 1) e in
     let state : p.phase.receive ≡ Expired = is-expired p.phase.receive x.0 in
     let up : p.line.up ≡ true = expired-up p g state in
-    let ran : receive_choice (ticked p) ≡ Enter Defaulted = ticked-ends p state up (eqb-true p.timers.current.0 1 x.1) in
-    let rests : receive_choice (defaulted (ticked p)) ≡ Stay = default-rests (ticked p) (ap (λ (l : Line). l.up) (ticked-up p) ∙ up) in
+    let ran : receive_choice (ticked p) ≡ Some Defaulted = ticked-ends p state up (eqb-true p.timers.current.0 1 x.1) in
+    let rests : receive_choice (defaulted (ticked p)) ≡ None = default-rests (ticked p) (ap (λ (l : Line). l.up) (ticked-up p) ∙ up) in
     ap (λ (q : Port). is_default q) (run_enters (ticked p) Defaulted ran rests) ∙ default-bit (ticked p)
 
 -- a line that is up at half duplex
-halved-choice : (p : Port) (l : Line) → p.phase.receive ≡ PortDisabled → l.up ≡ true → l.full ≡ false → receive_choice (with_line p l) ≡ Enter LacpDisabled
+halved-choice : (p : Port) (l : Line) → p.phase.receive ≡ PortDisabled → l.up ≡ true → l.full ≡ false → receive_choice (with_line p l) ≡ Some LacpDisabled
 unfolding receive_choice
 halved-choice p l e u f = rw (e, u, f)
 
@@ -185,7 +185,7 @@ module _ (t : List ℕ) (s : Sound t) (i : ℕ) (h : i < count_in t) where
       let x = both (accepted (answer (line n l) t)) _ e in
       let y = both (eqb i (n - 1)) (to_half (port_at t i).line l) x.1 in
       ap (λ (u : List ℕ). is_default (port_at u i)) (after-accepted t (line n l) x.0)
-      ∙ halves (n - 1) (unfold answer in named t n Done x.0) l (sym (eqb-true i (n - 1) y.0)) y.1
+      ∙ halves (n - 1) (unfold answer in named t n (Ok Done) x.0) l (sym (eqb-true i (n - 1) y.0)) y.1
 
 -- ---- along a run
 
@@ -214,10 +214,10 @@ heard-further t i c k e x =
       gives = run_more first x.since c ∙ ap (after c) x.gives;
     }
 
-heard_now : (t : List ℕ) → Made t → (i n : ℕ) (frame out : List ℕ) → n ≡ i + 1 → Takes (receive n frame out) → answer (receive n frame out) t ≡ Lacpdu
+heard_now : (t : List ℕ) → Made t → (i n : ℕ) (frame out : List ℕ) → n ≡ i + 1 → Takes (receive n frame out) → answer (receive n frame out) t ≡ Ok Lacpdu
     → Heard (after (receive n frame out) t) i
 heard_now t m i n frame out is =
-    subst (λ (z : ℕ). Takes (receive z frame out) → answer (receive z frame out) t ≡ Lacpdu → Heard (after (receive z frame out) t) i) (sym is)
+    subst (λ (z : ℕ). Takes (receive z frame out) → answer (receive z frame out) t ≡ Ok Lacpdu → Heard (after (receive z frame out) t) i) (sym is)
     (λ k e. record {
       then = t;
       made = m;
@@ -231,11 +231,11 @@ heard_now t m i n frame out is =
       gives = unfold run in refl;
     })
 
-pub lacpdu-is : (a : Answer) → is_lacpdu a ≡ true → a ≡ Lacpdu
-lacpdu-is Done e = absurd (false≢true e)
-lacpdu-is Lacpdu e = refl
-lacpdu-is Marker e = absurd (false≢true e)
-lacpdu-is (Refused r) e = absurd (false≢true e)
+pub lacpdu-is : (a : Answer) → is_lacpdu a ≡ true → a ≡ Ok Lacpdu
+lacpdu-is (Ok Done) e = absurd (false≢true e)
+lacpdu-is (Ok Lacpdu) e = refl
+lacpdu-is (Ok Marker) e = absurd (false≢true e)
+lacpdu-is (Err r) e = absurd (false≢true e)
 
 module _ (t : List ℕ) (m : Made t) (i : ℕ) (h : i < count_in t) where
   frame-ends : (n : ℕ) (frame out : List ℕ) → Takes (receive n frame out) → ends (receive n frame out) t i ≡ true → Told (after (receive n frame out) t) i
@@ -244,7 +244,7 @@ module _ (t : List ℕ) (m : Made t) (i : ℕ) (h : i < count_in t) where
       x : (is_lacpdu (answer (receive n frame out) t) ≡ true) × (eqb i (n - 1) || is_displaced (block_of (actor_part frame)) (port_at t i) ≡ true)
       x = both (is_lacpdu (answer (receive n frame out) t)) _ e
 
-      heard : answer (receive n frame out) t ≡ Lacpdu
+      heard : answer (receive n frame out) t ≡ Ok Lacpdu
       heard = lacpdu-is (answer (receive n frame out) t) x.0
 
       by : (b : Bool) → eqb i (n - 1) ≡ b → b || is_displaced (block_of (actor_part frame)) (port_at t i) ≡ true → Told (after (receive n frame out) t) i

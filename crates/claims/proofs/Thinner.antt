@@ -9,12 +9,12 @@ use native.Mathlib.Omega.{arith}
 use lib.ListN.{get_or, replicate}
 use lib.Dec.{eqb}
 use borrow.Author.Tests.{eqb-true, eq-eqb, ne_eqb}
+use Rattle.std.specs.Prelude.{Ok, Err, Some, None}
 use Rattle.octets.proofs.RangeLaws.{both}
 use Rattle.frame.specs.declared.block.Block.{Block}
 use Rattle.frame.specs.Block.{block_of}
 use Rattle.frame.specs.Wire.{actor_part, partner_part}
 use Rattle.machine.specs.declared.states.Mux.TheVariants.{Distributing}
-use Rattle.machine.specs.declared.receive.ReceiveStep.TheVariants.{Stay, Enter}
 use Rattle.machine.specs.declared.states.Line.{Line}
 use Rattle.machine.specs.declared.states.Receive.{Receive}
 use Rattle.machine.specs.declared.states.Receive.TheVariants.{Initialize, PortDisabled, Expired, LacpDisabled, Defaulted, Current}
@@ -50,8 +50,7 @@ use Rattle.trunk.specs.Settled.{must_move, muxed, Chosen}
 use Rattle.trunk.proofs.GroupLaws.{Shift, lower_joined, lowest-left, rule_shifts}
 use Rattle.trunk.proofs.MoveLaws.{settled-stays}
 use Rattle.work.specs.Work.{worked, received_at}
-use Rattle.control.specs.declared.answer.Answer.{Answer}
-use Rattle.control.specs.declared.answer.Answer.TheVariants.{Done, Lacpdu, Marker, Refused}
+use Rattle.control.specs.Answer.{Answer}
 use Rattle.control.specs.Call.{Call, start, receive, tick, line, configure, fetch, report, aggregator, due, is_start}
 use Rattle.control.specs.After.{answer, after}
 use Rattle.control.specs.Accepted.{accepted}
@@ -186,7 +185,7 @@ ticked-choice : (p : Port) → eqb p.timers.current.0 1 ≡ false → receive_ch
 unfolding receive_choice ticked
 ticked-choice p e = ap (λ (b : Bool). receive_next p.phase.receive p.line.up p.line.full b) (same_out p.timers.current.0 e)
 
-advanced-is : (p : Port) → receive_choice p ≡ Stay → eqb p.timers.current.0 1 ≡ false → advanced p ≡ ticked p
+advanced-is : (p : Port) → receive_choice p ≡ None → eqb p.timers.current.0 1 ≡ false → advanced p ≡ ticked p
 unfolding advanced
 advanced-is p r e = run-stays (ticked p) (ticked-choice p e ∙ r)
 
@@ -214,11 +213,11 @@ current-runs p r sync e = by p.phase.receive refl r.current
     by Defaulted is w = stopped (w.stopped refl)
     by Current is w = is
 
-ticked-ends : (p : Port) → p.phase.receive ≡ Current → p.line.up ≡ true → p.timers.current.0 ≡ 1 → receive_choice (ticked p) ≡ Enter Expired
+ticked-ends : (p : Port) → p.phase.receive ≡ Current → p.line.up ≡ true → p.timers.current.0 ≡ 1 → receive_choice (ticked p) ≡ Some Expired
 unfolding receive_choice ticked
 ticked-ends p r u e = rw (r, u, e)
 
-after-expired : (p : Port) → p.line.up ≡ true → receive_choice (expired p) ≡ Stay
+after-expired : (p : Port) → p.line.up ≡ true → receive_choice (expired p) ≡ None
 unfolding receive_choice expired
 after-expired p u = rw u
 
@@ -227,7 +226,7 @@ unfolding advanced ticked expired
 advanced-expired p r u e = ap (λ (x : Port). x.phase.receive) (run_enters (ticked p) Expired (ticked-ends p r u e) (after-expired (ticked p) u))
 
 -- a line that is up at full duplex is begun in EXPIRED
-risen_starts : (p : Port) (l : Line) → p.phase.receive ≡ PortDisabled → l.up ≡ true → l.full ≡ true → receive_choice (with_line p l) ≡ Enter Expired
+risen_starts : (p : Port) (l : Line) → p.phase.receive ≡ PortDisabled → l.up ≡ true → l.full ≡ true → receive_choice (with_line p l) ≡ Some Expired
 unfolding receive_choice
 risen_starts p l r u f = rw (r, u, f)
 
@@ -396,10 +395,8 @@ thinner-told t m c k i h d e = by (answer c t) refl
     accepts a false f = went (course t s i h c k a f)
 
     by : (a : Answer) → answer c t ≡ a → Thinned c t i
-    by Done x = accepts (ap accepted x) (is_start c) refl
-    by Lacpdu x = accepts (ap accepted x) (is_start c) refl
-    by Marker x = accepts (ap accepted x) (is_start c) refl
-    by (Refused r) x = same (ap (λ (u : List ℕ). (port_at u i).phase.mux) (refused-table c t x))
+    by (Ok k) x = accepts (ap accepted x) (is_start c) refl
+    by (Err r) x = same (ap (λ (u : List ℕ). (port_at u i).phase.mux) (refused-table c t x))
 
 pub thinner_for_a_reason : ThinnerForAReason
 thinner_for_a_reason t m c k i h d e = (thinner-told t m c k i h d e).event

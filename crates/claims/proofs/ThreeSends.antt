@@ -10,6 +10,7 @@ use native.Mathlib.Nat.{zero-add}
 use lib.Seq.{get_or-append_seam}
 use lib.Dec.{eqb, ltb, leb}
 use borrow.Author.Tests.{eqb-true, eqb-false, eq-eqb, leb-true, leb-false, le-ltb}
+use Rattle.std.specs.Prelude.{Ok, Err}
 use Rattle.frame.specs.Class.{frame_size}
 use Rattle.octets.proofs.ListLaws.{map_at, sweep_at, each-alike}
 use Rattle.octets.specs.Octets.{Octets}
@@ -25,7 +26,7 @@ use Rattle.machine.specs.Ages.{ages, no_send, sent_ages, barred, ages_ticked}
 use Rattle.machine.specs.States.{same_line}
 use Rattle.machine.specs.Time.{fast_periodic_time}
 use Rattle.port.specs.declared.record.Port.{Port}
-use Rattle.port.specs.declared.transmit.Due.TheVariants as due
+use Rattle.port.specs.declared.transmit.Undue.TheVariants.{Nothing, Barred}
 use Rattle.port.specs.Receive.{moved, lined}
 use Rattle.port.specs.Transmit.{due as due_of, sent, advanced}
 use Rattle.port.proofs.RestKept.{received-ages, moved-ages, lined-ages, advanced-ages}
@@ -40,10 +41,9 @@ use Rattle.table.specs.Table.{table_in_range, count_in, port_at, ports, ours, ag
 use Rattle.table.proofs.StoreLaws.{ports-length, ports-at}
 use Rattle.trunk.specs.Displaced.{is_displaced, displaced_if, displaced}
 use Rattle.work.specs.Work.{worked, after_one, after_start, received_at, after_received, after_tick, after_line, after_settings, after_send}
-use Rattle.control.specs.declared.answer.Answer.{Answer}
-use Rattle.control.specs.declared.answer.Answer.TheVariants.{Done, Lacpdu, Marker, Refused}
+use Rattle.control.specs.Answer.{Answer, answer_number, is_number, with_room, with_default, due_answer}
+use Rattle.control.specs.declared.answer.Accepted.TheVariants.{Done}
 use Rattle.control.specs.declared.answer.Reason.TheVariants as reason
-use Rattle.control.specs.Answer.{answer_number, is_number, with_room, with_default, due_answer}
 use Rattle.control.specs.Call.{Call, start, receive, tick, line, configure, fetch, report, aggregator, due as dueCall}
 use Rattle.control.specs.After.{answer, after_frame, changed_by, unless, after, effect}
 use Rattle.control.specs.Accepted.{accepted}
@@ -51,7 +51,7 @@ use Rattle.claims.specs.Run.{Takes, AllTake, run, Made}
 use Rattle.control.proofs.CallLaws.{OnPort, on-port, named, received-on, after-accepted}
 use Rattle.claims.specs.AtRest.{Sound}
 use Rattle.claims.specs.ThreeSends.{sends_by, sends, sends_of, recent, ThreeSends, ticks_in, NoneStarts, FourSendsApart}
-use Rattle.claims.proofs.Sound.{Before, in_ports, tick-before, line_before, settings-before, received-before, send_ports, start-ports, sound_back}
+use Rattle.claims.proofs.Sound.{frame-left, Before, in_ports, tick-before, line_before, settings-before, received-before, send_ports, start-ports, sound_back}
 use Rattle.claims.proofs.Calls.{started-sound, call-sound, never_stuck}
 use Rattle.control.proofs.CountLaws.{started-count, kept_if}
 use Rattle.claims.proofs.Counts.{start-room, call-count, run-count}
@@ -106,10 +106,11 @@ module _ (t : List ℕ) (s : Sound t) (i : ℕ) (h : i < count_in t) where
       by p true = moved-ages p
       by p false = refl
 
-  frame-ages : (n : ℕ) (frame out : List ℕ) → Octets frame → (a : Answer) → answer (receive n frame out) t ≡ a
-      → (port_at (on_octets (after_frame a (n - 1) frame) t) i).ages ≡ (port_at t i).ages
-  frame-ages n frame out o Done e = same-ages
-  frame-ages n frame out o Lacpdu e = unfold after_received received_at in
+  frame-ages : (n : ℕ) (frame out : List ℕ) → Octets frame
+      → (port_at (on_octets (after_frame (answer (receive n frame out) t) (n - 1) frame) t) i).ages ≡ (port_at t i).ages
+  frame-ages n frame out o =
+      frame-left (λ u. (port_at u i).ages ≡ (port_at t i).ages) (answer (receive n frame out) t) (n - 1) frame t same-ages
+      (λ e. unfold after_received received_at in
       let x = received-on t n frame out e in
       let a = block_of (actor_part frame) in
       let b = block_of (partner_part frame) in
@@ -117,9 +118,7 @@ module _ (t : List ℕ) (s : Sound t) (i : ℕ) (h : i < count_in t) where
       let here : i < length (set (ports t) (n - 1) q) = rw (length-set (ports t) (n - 1) q, ports-length) h in
       work_ages (displaced (n - 1) a (set (ports t) (n - 1) q)) (received-before t s (n - 1) x.below frame o x.up x.full)
       ∙ displaced-ages (n - 1) a (set (ports t) (n - 1) q) here
-      ∙ set-ages (n - 1) q (received-ages (ours t).system (n - 1 + 1) a b (port_at t (n - 1)))
-  frame-ages n frame out o Marker e = same-ages
-  frame-ages n frame out o (Refused r) e = same-ages
+      ∙ set-ages (n - 1) q (received-ages (ours t).system (n - 1 + 1) a b (port_at t (n - 1))))
 
   tick-ages : (port_at (on_octets after_tick t) i).ages ≡ ages_ticked (port_at t i).ages
   unfolding after_tick
@@ -160,11 +159,11 @@ start-ages t count system delay x k e i h =
 
 -- ---- a fetch that is answered 0 found a place free
 
-unless-room : (b : Bool) (a : Answer) → accepted (cond b (Refused reason.Buffer) a) ≡ true → accepted a ≡ true
+unless-room : (b : Bool) (a : Answer) → accepted (cond b (Err reason.Buffer) a) ≡ true → accepted a ≡ true
 unless-room true a e = absurd (false≢true e)
 unless-room false a e = e
 
-due_free : (nothing full : Bool) → accepted (due_answer (cond nothing due.Nothing (cond full due.Barred due.Lacpdu))) ≡ true → full ≡ false
+due_free : (nothing full : Bool) → accepted (due_answer (cond nothing (Err Nothing) (cond full (Err Barred) (Ok tt)))) ≡ true → full ≡ false
 due_free true full e = absurd (false≢true e)
 due_free false true e = absurd (false≢true e)
 due_free false false e = refl
@@ -180,10 +179,8 @@ fetch_free t n out e =
 -- ---- each call
 
 refused-is : (a : Answer) (t u : List ℕ) → accepted a ≡ false → unless a t u ≡ t
-refused-is Done t u e = absurd (true≢false e)
-refused-is Lacpdu t u e = absurd (true≢false e)
-refused-is Marker t u e = absurd (true≢false e)
-refused-is (Refused r) t u e = refl
+refused-is (Ok x) t u e = absurd (true≢false e)
+refused-is (Err r) t u e = refl
 
 after-refused : (t : List ℕ) (c : Call) → accepted (answer c t) ≡ false → after c t ≡ t
 unfolding after
@@ -256,7 +253,7 @@ module _ (t : List ℕ) (s : Sound t) (n : ℕ) (some : 1 ≤ n) (h : n - 1 < co
 
   tick-accepted : accepted (answer tick t) ≡ true
   unfolding answer
-  tick-accepted = ap (λ (b : Bool). accepted (cond b Done (Refused reason.Table))) s.ranged
+  tick-accepted = ap (λ (b : Bool). accepted (cond b (Ok Done) (Err reason.Table))) s.ranged
 
   -- a call on port m that leaves the ages of every port
   left : (c : Call) → (accepted (answer c t) ≡ true → (port_at (changed_by c t) (n - 1)).ages ≡ (port_at t (n - 1)).ages) → At l (after c t)
@@ -267,11 +264,11 @@ module _ (t : List ℕ) (s : Sound t) (n : ℕ) (some : 1 ≤ n) (h : n - 1 < co
       either (start count system delay x) (cond (accepted (answer (start count system delay x) t)) [] l)
       (λ e. rw e (start-at count system delay x g e)) (λ e. rw e)
   call_at (receive m frame out) g =
-      left (receive m frame out) (λ e. unfold effect in frame-ages t s (n - 1) h m frame out g.0 (answer (receive m frame out) t) refl)
+      left (receive m frame out) (λ e. unfold effect in frame-ages t s (n - 1) h m frame out g.0)
   call_at tick g = either tick (map suc l) (λ e. tick-at) (λ e. absurd (true≢false (sym tick-accepted ∙ e)))
-  call_at (line m x) g = left (line m x) (λ e. unfold effect in line-ages t s (n - 1) h (m - 1) (unfold answer in named t m Done e) x)
+  call_at (line m x) g = left (line m x) (λ e. unfold effect in line-ages t s (n - 1) h (m - 1) (unfold answer in named t m (Ok Done) e) x)
   call_at (configure m x) g =
-      left (configure m x) (λ e. unfold effect in settings-ages t s (n - 1) h (m - 1) (unfold answer in named t m (with_default x Done) e) x g)
+      left (configure m x) (λ e. unfold effect in settings-ages t s (n - 1) h (m - 1) (unfold answer in named t m (with_default x (Ok Done)) e) x g)
   call_at (fetch m out) g =
       either (fetch m out) (cond (eqb n m && accepted (answer (fetch m out) t)) (0 ∷ l) l)
       (λ e. unfold effect in rw (e, and-true (eqb n m)) (fetch-at m out e)) (λ e. rw (e, and-false (eqb n m)))
@@ -326,7 +323,7 @@ module _ (t : List ℕ) (m : Made t) (n : ℕ) (some : 1 ≤ n) (below : n ≤ c
 -- ---- the answer of a fetch
 
 due-number : (ntt up full three : Bool)
-    → eqb (answer_number (due_answer (cond (not ntt || (not up || not full)) due.Nothing (cond three due.Barred due.Lacpdu)))) 11 ≡ ntt && (up && (full && three))
+    → eqb (answer_number (due_answer (cond (not ntt || (not up || not full)) (Err Nothing) (cond three (Err Barred) (Ok tt))))) 11 ≡ ntt && (up && (full && three))
 due-number false up full three = refl
 due-number true false full three = refl
 due-number true true false three = refl

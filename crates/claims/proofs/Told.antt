@@ -9,8 +9,9 @@ use native.Mathlib.Omega.{arith}
 use lib.Dec.{eqb}
 use lib.ListN.{get_or}
 use borrow.Author.Tests.{eqb-true, eqb-false, eq-eqb, ltb-true, not-true, not-false}
+use Rattle.std.specs.Prelude.{None}
+use Rattle.std.proofs.lemmas.Option.{none-some}
 use Rattle.octets.proofs.RangeLaws.{both, both_true}
-use Rattle.machine.specs.declared.mux.MuxStep.TheVariants.{Stay}
 use Rattle.machine.specs.declared.states.Line.{Line}
 use Rattle.machine.specs.declared.states.Mux.{Mux}
 use Rattle.machine.specs.declared.states.Mux.TheVariants as mux
@@ -39,7 +40,7 @@ use Rattle.claims.specs.Told.{why_in, held_in, Stands, AlwaysTold, Waiting, Behi
 use Rattle.claims.proofs.Sound.{port-resting}
 use Rattle.claims.proofs.Calls.{never_stuck}
 use Rattle.claims.proofs.Rule.{port_firm, port-earned}
-use Rattle.claims.proofs.Carries.{entered, sound-waits}
+use Rattle.claims.proofs.Carries.{sound-waits}
 
 -- ---- the cause by its parts: whether the port distributes, its line, its receive state, and then its mux state and its partner
 
@@ -79,8 +80,8 @@ half_off l receive.LacpDisabled g u f = refl
 half_off l receive.Defaulted g u f = absurd (false≢true (sym f ∙ (both l.up l.full g).1))
 half_off l receive.Current g u f = absurd (false≢true (sym f ∙ (both l.up l.full g).1))
 
-module _ (p : Port) (rest : Resting p) (chosen : Chosen p) (stays : mux_choice false p ≡ Stay) where
-  next : mux_next p.phase.mux Selected false p.partner.state.synchronization p.partner.state.collecting ≡ Stay
+module _ (p : Port) (rest : Resting p) (chosen : Chosen p) (stays : mux_choice false p ≡ None) where
+  next : mux_next p.phase.mux Selected false p.partner.state.synchronization p.partner.state.collecting ≡ None
   unfolding Chosen mux_choice
   next = ap (λ (s : Selection). mux_next p.phase.mux s false p.partner.state.synchronization p.partner.state.collecting) (sym chosen) ∙ stays
 
@@ -105,16 +106,16 @@ module _ (p : Port) (rest : Resting p) (chosen : Chosen p) (stays : mux_choice f
   module _ (held : Bool) (waiting : waits p.phase.mux ≡ true → held ≡ true) where
     -- by the mux state
     by-mux : p.phase.receive ≡ receive.Current → (m : Mux) → p.phase.mux ≡ m → distributes m ≡ false
-        → (sync coll : Bool) → mux_next m Selected false sync coll ≡ Stay → (out h : Bool) → (waits m ≡ true → h ≡ true) → Stands (placed (waits m) out h sync coll) p
-    by-mux r mux.Detached e d sync coll n out h w = entered n
+        → (sync coll : Bool) → mux_next m Selected false sync coll ≡ None → (out h : Bool) → (waits m ≡ true → h ≡ true) → Stands (placed (waits m) out h sync coll) p
+    by-mux r mux.Detached e d sync coll n out h w = absurd (none-some mux.Waiting (sym n))
     by-mux r mux.Waiting e d sync coll n false h w = (e, r)
     by-mux r mux.Waiting e d sync coll n true true w = (e, r)
     by-mux r mux.Waiting e d sync coll n true false w = absurd (false≢true (w refl))
-    by-mux r mux.Attached e d true coll n out h w = entered n
+    by-mux r mux.Attached e d true coll n out h w = absurd (none-some mux.Collecting (sym n))
     by-mux r mux.Attached e d false coll n out h w = (e, r)
-    by-mux r mux.Collecting e d true true n out h w = entered n
+    by-mux r mux.Collecting e d true true n out h w = absurd (none-some mux.Distributing (sym n))
     by-mux r mux.Collecting e d true false n out h w = (e, r)
-    by-mux r mux.Collecting e d false coll n out h w = entered n
+    by-mux r mux.Collecting e d false coll n out h w = absurd (none-some mux.Attached (sym n))
     by-mux r mux.Distributing e d sync coll n out h w = absurd (true≢false d)
 
     last : Cause

@@ -9,6 +9,7 @@ use native.Mathlib.Omega.{arith}
 use lib.ListN.{get_or}
 use lib.Dec.{eqb}
 use borrow.Author.Tests.{eqb-true, eqb-false, ne_eqb}
+use Rattle.std.specs.Prelude.{Ok, Err}
 use Rattle.frame.specs.Block.{block_of}
 use Rattle.frame.specs.Wire.{actor_part, partner_part}
 use Rattle.machine.specs.declared.states.Ticks.{Ticks}
@@ -30,8 +31,7 @@ use Rattle.trunk.specs.Selection.{rule_of}
 use Rattle.trunk.specs.Settled.{must_move}
 use Rattle.trunk.proofs.MoveLaws.{settled-waits}
 use Rattle.work.specs.Work.{worked, received_at}
-use Rattle.control.specs.declared.answer.Answer.{Answer}
-use Rattle.control.specs.declared.answer.Answer.TheVariants.{Done, Lacpdu, Marker, Refused}
+use Rattle.control.specs.Answer.{Answer}
 use Rattle.control.specs.Call.{Call, is_start}
 use Rattle.control.specs.After.{answer, after}
 use Rattle.control.specs.Accepted.{accepted}
@@ -141,10 +141,8 @@ module _ (t : List ℕ) (s : Sound t) (i : ℕ) (h : i < count_in t) (n : ℕ) (
       accepts e = course-waits c (after c t) (course t s i h c k e (no_start (is_start c) (ap (λ (x : Bool). is_start c && x) (sym e) ∙ none))) w
 
       by : (a : Answer) → answer c t ≡ a → Waits n (port_at (after c t) i)
-      by Done e = accepts (ap accepted e)
-      by Lacpdu e = accepts (ap accepted e)
-      by Marker e = accepts (ap accepted e)
-      by (Refused r) e = course-waits c (after c t) (stays (ap (λ (u : List ℕ). port_at u i) (refused-table c t e))) w
+      by (Ok x) e = accepts (ap accepted e)
+      by (Err r) e = course-waits c (after c t) (stays (ap (λ (u : List ℕ). port_at u i) (refused-table c t e))) w
 
 ticks-next : (c : Call) (cs : List Call) → ticks_in (c ∷ cs) ≡ ticks_in cs + cost c
 unfolding ticks_in

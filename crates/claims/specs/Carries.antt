@@ -6,7 +6,7 @@ use Rattle.report.specs.Sets.{counted}
 use Rattle.octets.specs.Sets.{member}
 use Rattle.table.specs.Table.{count_in, port_at, ports}
 use Rattle.trunk.specs.Ready.{holds_back}
-use Rattle.control.specs.Report.{aggregator_report}
+use Rattle.control.specs.Report.{aggregator_report, sets_told}
 use Rattle.claims.specs.Run.{Made}
 
 -- 10: a port that is attached, and whose partner is in sync and collects, distributes; that its link is up follows from the partner's bit (`distributing-earned`)
@@ -26,12 +26,12 @@ WaitingForSomeone = (t : List ℕ) → Made t → (i : ℕ) → i < count_in t �
 -- ---- the register: the reports of all aggregators
 
 abbrev pub distributing_of : List ℕ → ℕ → ℕ
-distributing_of t k = (aggregator_report k t).sets.distributing
+distributing_of t k = (sets_told (aggregator_report k t)).distributing
 
 -- the reported counts of aggregators 1 to n together
 unfoldable pub counts_to : List ℕ → ℕ → ℕ
 counts_to t zero = 0
-counts_to t (suc n) = counts_to t n + (aggregator_report (suc n) t).sets.count
+counts_to t (suc n) = counts_to t n + (sets_told (aggregator_report (suc n) t)).count
 
 abbrev pub carries : Port → Bool
 carries p = distributes p.phase.mux

@@ -1,5 +1,5 @@
 -- What holds of every table that calls can make, and of every call.
-use Rattle.std.specs.Prelude.{ℕ, ◌<◌, ◌≡◌, true, false, List, map, ◌≢◌}
+use Rattle.std.specs.Prelude.{ℕ, ◌<◌, ◌≡◌, true, false, List, map, ◌≢◌, Err}
 use Rattle.machine.specs.Compare.{same_system}
 use Rattle.machine.specs.Mux.{is_attached, distributes}
 use Rattle.port.specs.Compared.{compared}
@@ -9,7 +9,6 @@ use Rattle.table.specs.Table.{count_in, ports, port_at, ours}
 use Rattle.trunk.specs.Selection.{shares_group, rule_of}
 use Rattle.trunk.specs.Settled.{Chosen}
 use Rattle.work.specs.Work.{worked}
-use Rattle.control.specs.declared.answer.Answer.TheVariants.{Refused}
 use Rattle.control.specs.declared.answer.Reason.{Reason}
 use Rattle.control.specs.declared.answer.Reason.TheVariants.{Table}
 use Rattle.control.specs.Call.{Call, is_start}
@@ -24,7 +23,7 @@ NeverStuck = (t : List ℕ) → Made t → Sound t
 
 -- so answer 1 is never given again, but to a start, which is told the size of the memory
 abbrev pub NoAnswerOne : Type 0
-NoAnswerOne = (t : List ℕ) → Made t → (c : Call) → is_start c ≡ false → answer c t ≢ Refused Table
+NoAnswerOne = (t : List ℕ) → Made t → (c : Call) → is_start c ≡ false → answer c t ≢ Err Table
 
 -- 0b: a refusal changes nothing, in any memory: neither the table nor the outgoing buffer
 pub record RefusedSilently (c : Call) (t : List ℕ) : Type 0 where
@@ -32,7 +31,7 @@ pub record RefusedSilently (c : Call) (t : List ℕ) : Type 0 where
   pub buffer : outgoing c t ≡ buffer_of c
 
 abbrev pub RefusalsSilent : Type 0
-RefusalsSilent = (t : List ℕ) (c : Call) (r : Reason) → answer c t ≡ Refused r → RefusedSilently c t
+RefusalsSilent = (t : List ℕ) (c : Call) (r : Reason) → answer c t ≡ Err r → RefusedSilently c t
 
 -- 1: every port holds what the selection rule gives afresh, and is SELECTED
 pub record Ruled (t : List ℕ) (i : ℕ) : Type 0 where

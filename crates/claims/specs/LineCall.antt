@@ -1,8 +1,7 @@
 -- The call that carries link and duplex together: it leaves both at once, both as they are change nothing, and at half duplex nothing is due.
-use Rattle.std.specs.Prelude.{ℕ, ◌-◌, ◌≡◌, Bool, true, false, List, [], ◌∷◌, eqb}
+use Rattle.std.specs.Prelude.{ℕ, ◌-◌, ◌≡◌, Bool, true, false, List, [], ◌∷◌, eqb, Err}
 use Rattle.machine.specs.declared.states.Line.{Line}
 use Rattle.table.specs.Table.{port_at}
-use Rattle.control.specs.declared.answer.Answer.TheVariants.{Refused}
 use Rattle.control.specs.declared.answer.Reason.TheVariants.{NothingToSend}
 use Rattle.control.specs.Answer.{is_number, with_room}
 use Rattle.control.specs.Call.{Call, start, receive, tick, line, configure, fetch, report, aggregator, due}
@@ -22,7 +21,7 @@ LineRepeated = (t : List ℕ) → Octets t → (n : ℕ) → after (line n (port
 -- nothing is due on port n: NTT is clear, and a fetch that has room is answered 10
 pub record Silent (t : List ℕ) (n : ℕ) : Type 0 where
   pub ntt : (port_at t (n - 1)).ntt ≡ false
-  pub fetched : (out : List ℕ) → answer (fetch n out) t ≡ with_room out (Refused NothingToSend)
+  pub fetched : (out : List ℕ) → answer (fetch n out) t ≡ with_room out (Err NothingToSend)
 
 -- so it is on a port at half duplex, up or down, whatever calls made the table
 abbrev pub HalfSilent : Type 0

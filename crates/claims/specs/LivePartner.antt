@@ -1,5 +1,5 @@
 -- From an accepted LACPDU on, the partner information in force is what that frame said of its sender, until something ends it.
-use Rattle.std.specs.Prelude.{ℕ, ◌-◌, ◌≡◌, Bool, true, false, not, ◌&&◌, ◌||◌, List, [], ◌∷◌, eqb}
+use Rattle.std.specs.Prelude.{ℕ, ◌-◌, ◌≡◌, Bool, true, false, not, ◌&&◌, ◌||◌, List, [], ◌∷◌, eqb, Ok}
 use Rattle.frame.specs.declared.block.Block.{Block}
 use Rattle.frame.specs.Block.{block_of}
 use Rattle.frame.specs.Wire.{actor_part}
@@ -12,7 +12,7 @@ use Rattle.port.specs.declared.record.Port.{Port}
 use Rattle.port.specs.Receive.{with_state}
 use Rattle.table.specs.Table.{port_at}
 use Rattle.trunk.specs.Displaced.{is_displaced}
-use Rattle.control.specs.declared.answer.Answer.TheVariants.{Lacpdu}
+use Rattle.control.specs.declared.answer.Accepted.TheVariants.{Lacpdu}
 use Rattle.control.specs.Call.{Call, start, receive, tick, line, configure, fetch, report, aggregator, due}
 use Rattle.control.specs.After.{answer, after}
 use Rattle.control.specs.Accepted.{is_lacpdu, accepted}
@@ -60,6 +60,6 @@ NoneEnds t i (c ∷ cs) = (ends c t i ≡ false) × NoneEnds (after c t) i cs
 
 -- 6: an accepted LACPDU on port n makes its partner information live, and it stays so along any calls none of which ends it
 abbrev pub LivePartner : Type 0
-LivePartner = (t : List ℕ) → Made t → (n : ℕ) (frame out : List ℕ) → Takes (receive n frame out) → answer (receive n frame out) t ≡ Lacpdu
+LivePartner = (t : List ℕ) → Made t → (n : ℕ) (frame out : List ℕ) → Takes (receive n frame out) → answer (receive n frame out) t ≡ Ok Lacpdu
     → (cs : List Call) → AllTake cs → NoneEnds (after (receive n frame out) t) (n - 1) cs
     → Live frame (port_at (run (after (receive n frame out) t) cs) (n - 1))

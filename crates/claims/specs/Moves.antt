@@ -1,5 +1,5 @@
 -- What becomes of a port that a call moves: to another aggregator, or because its partner was seen on another port.
-use Rattle.std.specs.Prelude.{ℕ, ◌-◌, ◌<◌, ◌≡◌, ◌≢◌, true, false, List}
+use Rattle.std.specs.Prelude.{ℕ, ◌-◌, ◌<◌, ◌≡◌, ◌≢◌, true, false, List, Ok}
 use Rattle.frame.specs.declared.block.Block.{Block}
 use Rattle.frame.specs.Block.{block_of}
 use Rattle.frame.specs.Wire.{actor_part}
@@ -13,7 +13,7 @@ use Rattle.port.specs.Receive.{with_state, unselected}
 use Rattle.port.specs.Transmit.{ntt_cleared}
 use Rattle.table.specs.Table.{count_in, port_at}
 use Rattle.trunk.specs.Displaced.{is_displaced}
-use Rattle.control.specs.declared.answer.Answer.TheVariants.{Lacpdu}
+use Rattle.control.specs.declared.answer.Accepted.TheVariants.{Lacpdu}
 use Rattle.control.specs.Call.{Call, receive, is_start}
 use Rattle.control.specs.After.{answer, after}
 use Rattle.claims.specs.Run.{Takes, AllTake, run, Made}
@@ -80,5 +80,5 @@ pub record Elsewhere (a : Block) (p q : Port) : Type 0 where
   pub others : is_displaced a p ≡ false → Resettled p q
 
 abbrev pub MovedForgets : Type 0
-MovedForgets = (t : List ℕ) → Made t → (n : ℕ) (frame out : List ℕ) → Takes (receive n frame out) → answer (receive n frame out) t ≡ Lacpdu
+MovedForgets = (t : List ℕ) → Made t → (n : ℕ) (frame out : List ℕ) → Takes (receive n frame out) → answer (receive n frame out) t ≡ Ok Lacpdu
     → (i : ℕ) → i < count_in t → i ≢ n - 1 → Elsewhere (block_of (actor_part frame)) (port_at t i) (port_at (after (receive n frame out) t) i)

@@ -1,9 +1,9 @@
 -- Where the partner of a port that is not defaulted comes from.
-use Rattle.std.specs.Prelude.{ℕ, ◌+◌, ◌<◌, ◌≡◌, false, List}
+use Rattle.std.specs.Prelude.{ℕ, ◌+◌, ◌<◌, ◌≡◌, false, List, Ok}
 use Rattle.frame.specs.Block.{block_of}
 use Rattle.frame.specs.Wire.{actor_part}
 use Rattle.table.specs.Table.{count_in, port_at}
-use Rattle.control.specs.declared.answer.Answer.TheVariants.{Lacpdu}
+use Rattle.control.specs.declared.answer.Accepted.TheVariants.{Lacpdu}
 use Rattle.control.specs.Call.{Call, receive}
 use Rattle.control.specs.After.{answer, after}
 use Rattle.claims.specs.Run.{Takes, AllTake, run, Made}
@@ -16,7 +16,7 @@ pub record Heard (t : List ℕ) (i : ℕ) : Type 0 where
   pub frame : List ℕ
   pub out : List ℕ
   pub takes : Takes (receive (i + 1) frame out)
-  pub accepted : answer (receive (i + 1) frame out) then ≡ Lacpdu
+  pub accepted : answer (receive (i + 1) frame out) then ≡ Ok Lacpdu
   pub since : List Call
   pub all : AllTake since
   pub none : NoneEnds (after (receive (i + 1) frame out) then) i since

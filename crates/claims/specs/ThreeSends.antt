@@ -1,11 +1,11 @@
 -- 43.4.16: at most three LACPDUs of a port in any Fast_Periodic_Time. What the fetches of a run sent, and what the records remember of it.
-use Rattle.std.specs.Prelude.{ℕ, suc, ◌-◌, ◌<◌, ◌≤◌, ◌≡◌, Bool, true, false, cond, ◌&&◌, List, [], ◌∷◌, map, length, get_or, eqb, leb}
+use Rattle.std.specs.Prelude.{ℕ, suc, ◌-◌, ◌<◌, ◌≤◌, ◌≡◌, Bool, true, false, cond, ◌&&◌, List, [], ◌∷◌, map, length, get_or, eqb, leb, Ok}
 use Rattle.frame.specs.Class.{frame_size}
 use Rattle.machine.specs.declared.states.Ages.{Ages}
 use Rattle.machine.specs.Ages.{ages, no_send}
 use Rattle.machine.specs.Time.{fast_periodic_time}
 use Rattle.table.specs.Table.{count_in, port_at}
-use Rattle.control.specs.declared.answer.Answer.TheVariants.{Done}
+use Rattle.control.specs.declared.answer.Accepted.TheVariants.{Done}
 use Rattle.control.specs.Answer.{answer_number}
 use Rattle.control.specs.Call.{Call, start, receive, tick, line, configure, fetch, report, aggregator, due, is_start}
 use Rattle.control.specs.After.{answer, after}
@@ -85,6 +85,6 @@ NoneStarts t (c ∷ cs) = (is_start c && accepted (answer c t) ≡ false) × Non
 -- from a fetch that is answered 0 to the third one after it on the same port, with no start between, come more ticks than a
 -- Fast_Periodic_Time has: eleven or more, with ten whole intervals between them
 abbrev pub FourSendsApart : Type 0
-FourSendsApart = (t : List ℕ) → Made t → (n : ℕ) (first last : List ℕ) → Takes (fetch n first) → answer (fetch n first) t ≡ Done
+FourSendsApart = (t : List ℕ) → Made t → (n : ℕ) (first last : List ℕ) → Takes (fetch n first) → answer (fetch n first) t ≡ Ok Done
     → (cs : List Call) → AllTake cs → NoneStarts (after (fetch n first) t) cs → length (sends n (after (fetch n first) t) cs []) ≡ 2
-    → answer (fetch n last) (run (after (fetch n first) t) cs) ≡ Done → fast_periodic_time < ticks_in cs
+    → answer (fetch n last) (run (after (fetch n first) t) cs) ≡ Ok Done → fast_periodic_time < ticks_in cs

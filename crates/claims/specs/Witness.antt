@@ -1,13 +1,12 @@
 -- One run, computed: a table that calls made, and what each theorem says of it and of what a call makes of it. So no theorem is empty, and a
 -- definition that breaks one shows here, whatever the laws below say of it.
-use Rattle.std.specs.Prelude.{ℕ, zero, suc, ◌+◌, ◌-◌, ◌≡◌, Bool, true, false, not, ◌&&◌, ◌||◌, List, [], ◌∷◌, map, replicate, eqb}
+use Rattle.std.specs.Prelude.{ℕ, zero, suc, ◌+◌, ◌-◌, ◌≡◌, Bool, true, false, not, ◌&&◌, ◌||◌, List, [], ◌∷◌, map, replicate, eqb, Result, Ok, Err}
 use Rattle.octets.specs.Octets.{same_octets}
 use Rattle.octets.specs.Sets.{member}
 use Rattle.frame.specs.declared.block.Block.{Block}
-use Rattle.frame.specs.declared.class.Class.{Class}
-use Rattle.frame.specs.declared.class.Class.TheVariants as class
+use Rattle.frame.specs.declared.class.Kind.TheVariants as kind
 use Rattle.frame.specs.Block.{block_of, block_octets}
-use Rattle.frame.specs.Class.{class_of, frame_size}
+use Rattle.frame.specs.Class.{Class, class_of, frame_size}
 use Rattle.frame.specs.declared.wire.MarkerType.TheVariants.{Marker}
 use Rattle.frame.specs.Wire.{zeros, actor_part, partner_part, marker}
 use Rattle.machine.specs.Ages.{ages}
@@ -24,10 +23,11 @@ use Rattle.table.specs.Table.{count_in, ports, port_at, table_in_range, ours, ag
 use Rattle.trunk.specs.Selection.{same_keys, shares_group, rule_of}
 use Rattle.trunk.specs.Displaced.{is_displaced}
 use Rattle.work.specs.Work.{worked}
+use Rattle.control.specs.declared.answer.Reason.{Reason}
 use Rattle.control.specs.Answer.{answer_number, length_sent}
 use Rattle.control.specs.Call.{Call, start, receive, tick, line, configure, fetch, report, aggregator, due}
 use Rattle.control.specs.After.{answer, after, buffer_of, outgoing}
-use Rattle.control.specs.Report.{port_report, aggregator_report, due_report}
+use Rattle.control.specs.Report.{port_report, aggregator_report, due_report, ports_told}
 use Rattle.control.specs.Accepted.{accepted, is_lacpdu as is_lacpdu_answer}
 use Rattle.claims.specs.Run.{run, Made}
 use Rattle.claims.specs.Locality.{touches}
@@ -207,10 +207,10 @@ abbrev pub same_blocks : Block → Block → Bool
 same_blocks a b = same_octets (block_octets a) (block_octets b)
 
 abbrev pub is_lacpdu : Class → Bool
-is_lacpdu class.Lacpdu = true
-is_lacpdu class.Marker = false
-is_lacpdu class.Response = false
-is_lacpdu (class.Refused r) = false
+is_lacpdu (Ok kind.Lacpdu) = true
+is_lacpdu (Ok kind.Marker) = false
+is_lacpdu (Ok kind.Response) = false
+is_lacpdu (Err r) = false
 
 -- an LACPDU that port n sent says of both ends what its record says
 abbrev pub reads : List ℕ → ℕ → List ℕ → Bool
@@ -221,8 +221,9 @@ reads t n f =
 abbrev pub live : List ℕ → Port → Bool
 live f p = same_blocks (lasting p.partner) (lasting (block_of (actor_part f))) && not p.actor.defaulted
 
-abbrev pub sets_are : Sets → ℕ → ℕ → ℕ → ℕ → ℕ → Bool
-sets_are s h a d n l = eqb s.holding h && (eqb s.attached a && (eqb s.distributing d && (eqb s.count n && eqb s.lowest l)))
+abbrev pub sets_are : Result Sets Reason → ℕ → ℕ → ℕ → ℕ → ℕ → Bool
+sets_are (Err r) h a d n l = false
+sets_are (Ok s) h a d n l = eqb s.holding h && (eqb s.attached a && (eqb s.distributing d && (eqb s.count n && eqb s.lowest l)))
 
 -- nothing is due on port 1
 abbrev pub quiet : List ℕ → Bool
@@ -230,7 +231,7 @@ quiet t = not (port_at t 0).ntt && silently (fetch 1 lent) t
 
 -- the report of what is due says of port i what its fetch would be answered
 abbrev pub tells_fetch : List ℕ → ℕ → Bool
-tells_fetch t i = alike (member (due_report t).ports i) (accepted (answer (fetch (i + 1) lent) t))
+tells_fetch t i = alike (member (ports_told (due_report t)) i) (accepted (answer (fetch (i + 1) lent) t))
 
 -- port j shares a group, before and after the call, with none that it touches
 abbrev pub apart_from : Call → List ℕ → ℕ → ℕ → Bool
@@ -306,14 +307,14 @@ pub record Witness : Type 0 where
   pub marker-answered : length_sent (answer (asks 1) trunk) ≡ frame_size
   -- 7
   pub port-true : same_octets (encoded (port_report 2 trunk)) (encoded (port_at trunk 1)) ≡ true
-  pub trunk-true : sets_are (aggregator_report 1 trunk).sets 3 3 3 2 1 ≡ true
-  pub narrowed-true : sets_are (aggregator_report 1 narrowed).sets 3 3 1 1 1 ≡ true
+  pub trunk-true : sets_are (aggregator_report 1 trunk) 3 3 3 2 1 ≡ true
+  pub narrowed-true : sets_are (aggregator_report 1 narrowed) 3 3 1 1 1 ≡ true
   -- nothing is to be sent where no link is up; then one LACPDU on each port; on the others when port 1 has sent; and none where three sends bar it
-  pub due-down : (due_report begun).ports ≡ 0
-  pub due-up : (due_report linked).ports ≡ 7
-  pub due-sent : (due_report (after (fetch 1 lent) linked)).ports ≡ 6
-  pub due-barred : (due_report (run begun (line 1 up_full ∷ sends_before false (sends_before true (sends_before false []))))).ports ≡ 0
-  pub due-later : (due_report (run begun (line 1 up_full ∷ sends_before false (sends_before true (sends_before false (ticks 11 [])))))).ports ≡ 1
+  pub due-down : due_report begun ≡ Ok 0
+  pub due-up : due_report linked ≡ Ok 7
+  pub due-sent : due_report (after (fetch 1 lent) linked) ≡ Ok 6
+  pub due-barred : due_report (run begun (line 1 up_full ∷ sends_before false (sends_before true (sends_before false [])))) ≡ Ok 0
+  pub due-later : due_report (run begun (line 1 up_full ∷ sends_before false (sends_before true (sends_before false (ticks 11 []))))) ≡ Ok 1
   pub due_as_fetched : every (λ t. every (tells_fetch t) (0 ∷ 1 ∷ 2 ∷ 3 ∷ [])) seen ≡ true
   -- 8
   pub fourth-at_once : fourth 0 ≡ 11
