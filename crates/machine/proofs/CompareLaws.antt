@@ -1,8 +1,8 @@
 -- Each comparison is true exactly for values that are equal in what it compares. Assumes nothing.
 use Prim.Native.Nat.{ℕ}
-use mathlib.Core.Path.{◌≡◌, refl, ap}
+use mathlib.Core.Path.{◌≡◌, refl, sym, ap, ◌∙◌}
 use mathlib.Core.Logic.{◌⊎◌, inl, inr}
-use mathlib.Core.Bool.{Bool, true, false, not, ◌&&◌, ◌||◌, or-true, and-eq-true_iff, false≢true}
+use mathlib.Core.Bool.{Bool, true, false, beq, not, ◌&&◌, ◌||◌, or-true, and_assoc, and-eq-true_iff, false≢true}
 use lib.Dec.{eqb}
 use borrow.Author.Tests.{eqb-true, eq-eqb, not-true}
 use Rattle.frame.specs.declared.block.Address.{Address}
@@ -13,6 +13,48 @@ use Rattle.machine.specs.declared.states.Line.{Line}
 use Rattle.machine.specs.Bits.{alike}
 use Rattle.machine.specs.Compare.{same_address, same_system, same_numbers, same_party, same_view, maintained, in_sync, same_state, same_block, Party, party, View, view, InSync}
 use Rattle.machine.specs.States.{silent_on, same_line}
+
+-- ---- the equality that the code derives is that of the definitions
+
+pub beq-alike : (x y : Bool) → beq x y ≡ alike x y
+beq-alike true true = refl
+beq-alike true false = refl
+beq-alike false true = refl
+beq-alike false false = refl
+
+abbrev equal_bits : PortState → PortState → Bool
+equal_bits x y =
+    beq x.activity y.activity
+    && (beq x.timeout y.timeout
+    && (beq x.aggregation y.aggregation
+    && (beq x.synchronization y.synchronization
+    && (beq x.collecting y.collecting
+    && (beq x.distributing y.distributing
+    && (beq x.defaulted y.defaulted
+    && beq x.expired y.expired))))))
+
+state-equal : (x y : PortState) → equal_bits x y ≡ same_state x y
+unfolding same_state
+state-equal x y =
+    rw (
+      beq-alike x.activity y.activity,
+      beq-alike x.timeout y.timeout,
+      beq-alike x.aggregation y.aggregation,
+      beq-alike x.synchronization y.synchronization,
+      beq-alike x.collecting y.collecting,
+      beq-alike x.distributing y.distributing,
+      beq-alike x.defaulted y.defaulted,
+      beq-alike x.expired y.expired,
+    )
+
+pub block-equal : (x y : Block)
+    → same_system x.system y.system && (eqb x.key y.key && ((eqb x.port.priority y.port.priority && eqb x.port.number y.port.number) && equal_bits x.state y.state))
+    ≡ same_block x y
+unfolding same_block same_numbers
+block-equal x y = by (same_system x.system y.system) (eqb x.key y.key) (eqb x.port.priority y.port.priority && eqb x.port.number y.port.number) (state-equal x.state y.state)
+  where
+    by : {t : Bool} (a b c : Bool) → equal_bits x.state y.state ≡ t → a && (b && (c && equal_bits x.state y.state)) ≡ (a && (b && c)) && t
+    by a b c e = ap (λ (s : Bool). a && (b && (c && s))) e ∙ ap (λ (s : Bool). a && s) (sym (and_assoc b c _)) ∙ sym (and_assoc a (b && c) _)
 
 -- ---- from a test to an equation
 

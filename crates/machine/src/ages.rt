@@ -64,14 +64,13 @@ impl Ages {
     }
 }
 
-// A running timer falls by one; a stopped one stays at 0.
-pub fn fallen(t: Ticks) -> Ticks
-    ensures { result ≡ time_fallen t }
-{
-    if t.0 == 0 {
-        return Ticks(0);
+impl Ticks {
+    // A running timer falls by one; a stopped one stays at 0.
+    pub fn fallen(self) -> Self
+        ensures { result ≡ time_fallen self }
+    {
+        Ticks(self.0.saturating_sub(1))
     }
-    Ticks(t.0 - 1)
 }
 
 impl Timers {
@@ -79,13 +78,10 @@ impl Timers {
     pub fn tick(self) -> Self
         ensures { result ≡ timers_fallen self }
     {
-        let current = self.current;
-        let periodic = self.periodic;
-        let wait = self.wait;
         Timers {
-            current: fallen(current),
-            periodic: fallen(periodic),
-            wait: fallen(wait),
+            current: self.current.fallen(),
+            periodic: self.periodic.fallen(),
+            wait: self.wait.fallen(),
         }
     }
 }

@@ -6,8 +6,5 @@ ghost use Rattle.machine.specs.Count.{counted};
 pub fn one_more(n: u32) -> u32
     ensures { result ≡ counted n }
 {
-    if n == 4294967295 {
-        return 0;
-    }
-    n + 1
+    n.wrapping_add(1)
 }

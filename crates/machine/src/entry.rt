@@ -12,29 +12,28 @@ impl Mux {
     pub fn bits(self, old: PortState) -> PortState
         ensures { result ≡ mux_bits self old }
     {
-        let mut s = old;
         match self {
-            Mux::Detached => {
-                s.synchronization = false;
-                s.distributing = false;
-                s.collecting = false;
-                s
-            }
-            Mux::Waiting => s,
-            Mux::Attached => {
-                s.synchronization = true;
-                s.collecting = false;
-                s
-            }
-            Mux::Collecting => {
-                s.collecting = true;
-                s.distributing = false;
-                s
-            }
-            Mux::Distributing => {
-                s.distributing = true;
-                s
-            }
+            Mux::Detached => PortState {
+                synchronization: false,
+                collecting: false,
+                distributing: false,
+                ..old
+            },
+            Mux::Waiting => old,
+            Mux::Attached => PortState {
+                synchronization: true,
+                collecting: false,
+                ..old
+            },
+            Mux::Collecting => PortState {
+                collecting: true,
+                distributing: false,
+                ..old
+            },
+            Mux::Distributing => PortState {
+                distributing: true,
+                ..old
+            },
         }
     }
 
@@ -42,13 +41,7 @@ impl Mux {
     pub fn sets_ntt(self) -> bool
         ensures { result ≡ sets_ntt self }
     {
-        match self {
-            Mux::Detached => true,
-            Mux::Waiting => false,
-            Mux::Attached => true,
-            Mux::Collecting => true,
-            Mux::Distributing => false,
-        }
+        matches!(self, Mux::Detached | Mux::Attached | Mux::Collecting)
     }
 
     // What the wait timer is started with; 0 stops it.
@@ -56,11 +49,8 @@ impl Mux {
         ensures { result ≡ wait_time self }
     {
         match self {
-            Mux::Detached => Ticks(0),
             Mux::Waiting => AGGREGATE_WAIT_TIME,
-            Mux::Attached => Ticks(0),
-            Mux::Collecting => Ticks(0),
-            Mux::Distributing => Ticks(0),
+            _ => Ticks(0),
         }
     }
 }

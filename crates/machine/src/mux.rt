@@ -1,17 +1,11 @@
 // The transitions of the Mux machine, independent control (figure 43-13), and what its states mean to others.
 ghost use Rattle.std.specs.Prelude.{◌≡◌};
-ghost use Rattle.machine.specs.Mux.{waits, is_attached, collects, distributes, is_unselected, mux_next};
+ghost use Rattle.machine.specs.Mux.{waits, is_attached, collects, distributes, mux_next};
 
 use crate::states::{Mux, Selection};
 
 // Which transition applies, if any, by Selected, Ready, and the partner's Synchronization and Collecting.
-pub fn next(
-    state: Mux,
-    selected: Selection,
-    ready: bool,
-    sync: bool,
-    coll: bool,
-) -> Option<Mux>
+pub fn next(state: Mux, selected: Selection, ready: bool, sync: bool, coll: bool) -> Option<Mux>
     ensures { result ≡ mux_next state selected ready sync coll }
 {
     match (state, selected, ready, sync, coll) {
@@ -38,57 +32,24 @@ impl Mux {
     pub fn waits(self) -> bool
         ensures { result ≡ waits self }
     {
-        match self {
-            Mux::Detached => false,
-            Mux::Waiting => true,
-            Mux::Attached => false,
-            Mux::Collecting => false,
-            Mux::Distributing => false,
-        }
+        self == Mux::Waiting
     }
 
     pub fn is_attached(self) -> bool
         ensures { result ≡ is_attached self }
     {
-        match self {
-            Mux::Detached => false,
-            Mux::Waiting => false,
-            Mux::Attached => true,
-            Mux::Collecting => true,
-            Mux::Distributing => true,
-        }
+        matches!(self, Mux::Attached | Mux::Collecting | Mux::Distributing)
     }
 
     pub fn collects(self) -> bool
         ensures { result ≡ collects self }
     {
-        match self {
-            Mux::Detached => false,
-            Mux::Waiting => false,
-            Mux::Attached => false,
-            Mux::Collecting => true,
-            Mux::Distributing => true,
-        }
+        matches!(self, Mux::Collecting | Mux::Distributing)
     }
 
     pub fn distributes(self) -> bool
         ensures { result ≡ distributes self }
     {
-        match self {
-            Mux::Detached => false,
-            Mux::Waiting => false,
-            Mux::Attached => false,
-            Mux::Collecting => false,
-            Mux::Distributing => true,
-        }
-    }
-}
-
-pub fn is_unselected(s: Selection) -> bool
-    ensures { result ≡ is_unselected s }
-{
-    match s {
-        Selection::Unselected => true,
-        Selection::Selected => false,
+        self == Mux::Distributing
     }
 }

@@ -43,10 +43,9 @@ pub fn time(state: Periodic) -> Ticks
     ensures { result ≡ periodic_time state }
 {
     match state {
-        Periodic::NoPeriodic => Ticks(0),
         Periodic::FastPeriodic => FAST_PERIODIC_TIME,
         Periodic::SlowPeriodic => SLOW_PERIODIC_TIME,
-        Periodic::PeriodicTx => Ticks(0),
+        Periodic::NoPeriodic | Periodic::PeriodicTx => Ticks(0),
     }
 }
 
@@ -54,10 +53,5 @@ pub fn time(state: Periodic) -> Ticks
 pub fn sets_ntt(state: Periodic) -> bool
     ensures { result ≡ is_tx state }
 {
-    match state {
-        Periodic::NoPeriodic => false,
-        Periodic::FastPeriodic => false,
-        Periodic::SlowPeriodic => false,
-        Periodic::PeriodicTx => true,
-    }
+    state == Periodic::PeriodicTx
 }

@@ -1,6 +1,6 @@
 // The transitions of the Receive machine (figure 43-10) but for those with an LACPDU.
 ghost use Rattle.std.specs.Prelude.{◌≡◌};
-ghost use Rattle.machine.specs.Receive.{is_disabled, is_current, receive_next};
+ghost use Rattle.machine.specs.Receive.{receive_next};
 ghost use Rattle.machine.specs.Time.{timeout_time};
 
 use crate::states::{Receive, Ticks};
@@ -8,33 +8,6 @@ use crate::states::{Receive, Ticks};
 pub const SHORT_TIMEOUT_TIME: Ticks = Ticks(30);
 
 pub const LONG_TIMEOUT_TIME: Ticks = Ticks(900);
-
-// What a state means to others.
-pub fn is_disabled(s: Receive) -> bool
-    ensures { result ≡ is_disabled s }
-{
-    match s {
-        Receive::Initialize => false,
-        Receive::PortDisabled => true,
-        Receive::Expired => false,
-        Receive::LacpDisabled => false,
-        Receive::Defaulted => false,
-        Receive::Current => false,
-    }
-}
-
-pub fn is_current(s: Receive) -> bool
-    ensures { result ≡ is_current s }
-{
-    match s {
-        Receive::Initialize => false,
-        Receive::PortDisabled => false,
-        Receive::Expired => false,
-        Receive::LacpDisabled => false,
-        Receive::Defaulted => false,
-        Receive::Current => true,
-    }
-}
 
 // Which transition applies without an LACPDU, if any.
 pub fn next(state: Receive, up: bool, full: bool, out: bool) -> Option<Receive>

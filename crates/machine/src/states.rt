@@ -1,8 +1,6 @@
 // The states and timers of which a port's machines are made, without the record that holds them.
 ghost use Rattle.std.specs.Prelude.{◌≡◌};
-ghost use Rattle.machine.specs.States.{phase_receive, phase_periodic, phase_mux, phase_selected, timers_current, timers_periodic, timers_wait, quiet_on, silent_on, same_line};
-
-use crate::compare::alike;
+ghost use Rattle.machine.specs.States.{quiet_on, silent_on};
 
 // The states of 43.4.12. The constant beside a refusal is the first of each enum.
 #[derive(Clone, Copy, PartialEq, Eq)]
@@ -76,88 +74,6 @@ pub struct Ages {
     pub third: u8,
 }
 
-impl Phase {
-    pub fn with_receive(self, receive: Receive) -> Self
-        ensures { result ≡ phase_receive receive self }
-    {
-        let periodic = self.periodic;
-        let mux = self.mux;
-        let selected = self.selected;
-        Phase {
-            receive,
-            periodic,
-            mux,
-            selected,
-        }
-    }
-
-    pub fn with_periodic(self, periodic: Periodic) -> Self
-        ensures { result ≡ phase_periodic periodic self }
-    {
-        let receive = self.receive;
-        let mux = self.mux;
-        let selected = self.selected;
-        Phase {
-            receive,
-            periodic,
-            mux,
-            selected,
-        }
-    }
-
-    pub fn with_mux(self, mux: Mux) -> Self
-        ensures { result ≡ phase_mux mux self }
-    {
-        let receive = self.receive;
-        let periodic = self.periodic;
-        let selected = self.selected;
-        Phase {
-            receive,
-            periodic,
-            mux,
-            selected,
-        }
-    }
-
-    pub fn with_selected(self, selected: Selection) -> Self
-        ensures { result ≡ phase_selected selected self }
-    {
-        let receive = self.receive;
-        let periodic = self.periodic;
-        let mux = self.mux;
-        Phase {
-            receive,
-            periodic,
-            mux,
-            selected,
-        }
-    }
-}
-
-// A timer is started with its time, or stopped with 0.
-impl Timers {
-    pub fn with_current(mut self, time: Ticks) -> Self
-        ensures { result ≡ timers_current time self }
-    {
-        self.current = time;
-        self
-    }
-
-    pub fn with_periodic(mut self, time: Ticks) -> Self
-        ensures { result ≡ timers_periodic time self }
-    {
-        self.periodic = time;
-        self
-    }
-
-    pub fn with_wait(mut self, time: Ticks) -> Self
-        ensures { result ≡ timers_wait time self }
-    {
-        self.wait = time;
-        self
-    }
-}
-
 impl Line {
     // No periodic LACPDUs: LACP off, link down, or both ends passive.
     pub fn is_quiet(self, passive: bool) -> bool
@@ -171,11 +87,5 @@ impl Line {
         ensures { result ≡ silent_on self passive }
     {
         !self.full | (self.up & passive)
-    }
-
-    pub fn same(self, other: Line) -> bool
-        ensures { result ≡ same_line self other }
-    {
-        alike(self.up, other.up) & alike(self.full, other.full)
     }
 }

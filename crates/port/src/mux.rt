@@ -11,34 +11,27 @@ impl Port {
     fn enter_mux(mut self, state: Mux) -> Self
         ensures { result ≡ mux_entered state self }
     {
-        let h = self.phase;
-        let phase = h.with_mux(state);
-        let t = self.timers;
-        let timers = t.with_wait(state.wait_time());
-        let old = self.actor;
-        let actor = state.bits(old);
-        self.phase = phase;
-        self.timers = timers;
-        self.actor = actor;
-        self.ntt = state.sets_ntt() | self.ntt;
+        self.phase.mux = state;
+        self.timers.wait = state.wait_time();
+        self.actor = state.bits(self.actor);
+        self.ntt |= state.sets_ntt();
         self
     }
 
+    #[tactic(auto, unfolding(crate::specs::Mux::mux_choice))]
     fn mux_choice(self, ready: bool) -> Option<Mux>
         ensures { result ≡ mux_choice ready self }
     {
-        let h = self.phase;
-        let state = h.mux;
-        let selected = h.selected;
         machine::mux::next(
-            state,
-            selected,
+            self.phase.mux,
+            self.phase.selected,
             ready,
             self.partner.state.synchronization,
             self.partner.state.collecting,
         )
     }
 
+    #[tactic(auto, unfolding(crate::specs::Mux::mux_step))]
     fn mux_step(self, ready: bool) -> Self
         ensures { result ≡ mux_step ready self }
     {
@@ -52,10 +45,8 @@ impl Port {
     pub fn detach(self) -> Self
         ensures { result ≡ detached self }
     {
-        let h = self.phase;
-        let state = h.mux;
         let p = self.with_selected(Selection::Unselected);
-        match state {
+        match self.phase.mux {
             Mux::Detached => p,
             Mux::Waiting => p.enter_mux(Mux::Detached),
             Mux::Attached => p.enter_mux(Mux::Detached),
@@ -78,12 +69,11 @@ impl Port {
     }
 
     // Step 5: a port that waits attaches where its aggregator is Ready.
+    #[tactic(auto, unfolding(crate::specs::Mux::attached_if))]
     pub fn attach(self, ready: bool) -> Self
         ensures { result ≡ attached_if ready self }
     {
-        let h = self.phase;
-        let m = h.mux;
-        if m.waits() {
+        if self.phase.mux.waits() {
             self.mux_step(ready)
         } else {
             self

@@ -3,39 +3,33 @@ ghost use Rattle.std.specs.Prelude.{◌≡◌};
 ghost use Rattle.port.specs.Periodic.{periodic_entered, periodic_choice, periodic_step, periodic_run};
 
 use crate::record::Port;
-use machine::states::Periodic;
+use machine::states::{Periodic, Ticks};
 
 impl Port {
     // The actions on entry to a state.
     fn enter_periodic(mut self, state: Periodic) -> Self
         ensures { result ≡ periodic_entered state self }
     {
-        let h = self.phase;
-        let phase = h.with_periodic(state);
-        let t = self.timers;
-        let timers = t.with_periodic(machine::periodic::time(state));
-        self.phase = phase;
-        self.timers = timers;
-        self.ntt = machine::periodic::sets_ntt(state) | self.ntt;
+        self.phase.periodic = state;
+        self.timers.periodic = machine::periodic::time(state);
+        self.ntt |= machine::periodic::sets_ntt(state);
         self
     }
 
+    #[tactic(auto, unfolding(crate::specs::Periodic::periodic_choice))]
     fn periodic_choice(self) -> Option<Periodic>
         ensures { result ≡ periodic_choice self }
     {
-        let h = self.phase;
-        let state = h.periodic;
-        let out = self.timers.periodic.0 == 0;
-        let line = self.line;
         let passive = !self.actor.activity & !self.partner.state.activity;
         machine::periodic::next(
-            state,
-            line.is_quiet(passive),
-            out,
+            self.phase.periodic,
+            self.line.is_quiet(passive),
+            self.timers.periodic == Ticks(0),
             self.partner.state.timeout,
         )
     }
 
+    #[tactic(auto, unfolding(crate::specs::Periodic::periodic_step))]
     fn periodic_step(self) -> Self
         ensures { result ≡ periodic_step self }
     {

@@ -1,26 +1,22 @@
 // The Receive machine (43.4.12), its functions (43.4.9), and what moves it: an LACPDU, a tick, a link or duplex change, a partner
 // that has moved.
-ghost use Rattle.std.specs.Prelude.{◌≡◌, length};
+ghost use Rattle.std.specs.Prelude.{◌≡◌};
 ghost use Rattle.frame.specs.Block.{block_of, block_octets};
 ghost use Rattle.machine.specs.Time.{timeout_time};
-ghost use Rattle.port.specs.Record.{actor_block};
-ghost use Rattle.port.specs.Receive.{is_default, recorded, record_default, record_pdu, update_selected, update_ntt, initialized, port_disabled, expired, lacp_disabled, defaulted, current as receive_current, receive_entered, receive_choice, receive_step, receive_run, moved, received, repeats, lined};
+ghost use Rattle.port.specs.Receive.{is_default, recorded, record_default, record_pdu, update_selected, update_ntt, initialized, port_disabled, expired, lacp_disabled, defaulted, current, receive_entered, receive_choice, receive_step, receive_run, moved, repeats, lined};
 
 use crate::record::Port;
-use frame::block::{Block, SystemId};
-use frame::wire::Source;
-use machine::compare::{in_sync, same_block, same_party, same_view};
-use machine::receive::{SHORT_TIMEOUT_TIME, is_current, timeout_time};
+use frame::block::Block;
+use frame::wire::{Source, recorded};
+use machine::compare::{in_sync, same_party, same_view};
+use machine::receive::{SHORT_TIMEOUT_TIME, timeout_time};
 use machine::states::{Line, Receive, Selection, Ticks};
 
 // Defaulted, by what is recorded.
 fn is_default(source: Source) -> bool
     ensures { result ≡ is_default source }
 {
-    match source {
-        Source::Default => true,
-        Source::Pdu => false,
-    }
+    source == Source::Default
 }
 
 impl Port {
@@ -28,21 +24,17 @@ impl Port {
     fn default_octets(self) -> [u8; 15]
         ensures { result ≡ block_octets self.own.default }
     {
-        let default = self.own.default;
         let mut octets = [0u8; 15];
-        default.write(&mut octets);
+        self.own.default.write(&mut octets);
         octets
     }
 
     // Is lent the frame's block and the default one, and records the one that applies; Defaulted says which it was.
-    fn record<'a>(mut self, source: Source, pdu: &'a [u8], default: &'a [u8]) -> Self
-        requires { (length pdu.now ≡ 15) × (length default.now ≡ 15) }
+    fn record<'a>(mut self, source: Source, pdu: &'a [u8; 15], default: &'a [u8; 15]) -> Self
         ensures { result ≡ recorded source (block_of pdu.now) (block_of default.now) self }
     {
-        let block = Block::read(frame::wire::recorded(source, pdu, default));
-        let defaulted = is_default(source);
-        self.partner = block;
-        self.actor.defaulted = defaulted;
+        self.partner = Block::read(octets::chunk(recorded(source, pdu, default), 0));
+        self.actor.defaulted = is_default(source);
         self
     }
 
@@ -55,37 +47,32 @@ impl Port {
     }
 
     // recordPDU: the frame's actor block, in sync or not.
-    fn record_pdu(self, us: Block, actor: &[u8], b: Block) -> Self
-        requires { length actor.now ≡ 15 }
+    fn record_pdu(self, us: Block, actor: &[u8; 15], b: Block) -> Self
         ensures { result ≡ record_pdu us (block_of actor.now) b self }
     {
         let default = self.default_octets();
         let mut p = self.record(Source::Pdu, actor, &default);
-        let a = p.partner;
-        let sync = in_sync(us, a, b);
-        p.partner.state.synchronization = sync;
+        p.partner.state.synchronization = in_sync(us, p.partner, b);
         p
     }
 
     // update_Selected, with the block that is about to be recorded.
+    #[tactic(auto, unfolding(crate::specs::Receive::update_selected))]
     fn update_selected(self, block: Block) -> Self
         ensures { result ≡ update_selected block self }
     {
-        let partner = self.partner;
-        if same_party(block, partner) {
+        if same_party(block, self.partner) {
             return self;
         }
         self.with_selected(Selection::Unselected)
     }
 
     // update_NTT: what the frame says of us, against what we say.
+    #[tactic(auto, unfolding(crate::specs::Receive::update_ntt))]
     fn update_ntt(mut self, us: Block, b: Block) -> Self
         ensures { result ≡ update_ntt us b self }
     {
-        if same_view(b, us) {
-            return self;
-        }
-        self.ntt = true;
+        self.ntt |= !same_view(b, us);
         self
     }
 
@@ -127,23 +114,9 @@ impl Port {
     fn default_partner(self) -> Self
         ensures { result ≡ defaulted self }
     {
-        let default = self.own.default;
-        let mut p = self.update_selected(default).record_default();
+        let mut p = self.update_selected(self.own.default).record_default();
         p.actor.expired = false;
         p.in_state(Receive::Defaulted, Ticks(0))
-    }
-
-    // CURRENT: compares before it records, so that a changed partner is seen. Our own Timeout bit sets the timer, not the partner's.
-    fn current(self, us: Block, a: Block, actor: &[u8], b: Block) -> Self
-        requires { (length actor.now ≡ 15) × (a ≡ block_of actor.now) }
-        ensures { result ≡ receive_current us (block_of actor.now) b self }
-    {
-        let mut p = self
-            .update_selected(a)
-            .update_ntt(us, b)
-            .record_pdu(us, actor, b);
-        p.actor.expired = false;
-        p.in_state(Receive::Current, timeout_time(self.actor.timeout))
     }
 
     fn enter_receive(self, state: Receive) -> Self
@@ -159,15 +132,19 @@ impl Port {
         }
     }
 
+    #[tactic(auto, unfolding(crate::specs::Receive::receive_choice))]
     fn receive_choice(self) -> Option<Receive>
         ensures { result ≡ receive_choice self }
     {
-        let h = self.phase;
-        let state = h.receive;
-        let out = self.timers.current.0 == 0;
-        machine::receive::next(state, self.line.up, self.line.full, out)
+        machine::receive::next(
+            self.phase.receive,
+            self.line.up,
+            self.line.full,
+            self.timers.current == Ticks(0),
+        )
     }
 
+    #[tactic(auto, unfolding(crate::specs::Receive::receive_step))]
     fn receive_step(self) -> Self
         ensures { result ≡ receive_step self }
     {
@@ -195,39 +172,29 @@ impl Port {
         self.initialize().port_disabled()
     }
 
-    // An accepted LACPDU on this port, port `number` of `system`; its two blocks are parts of the frame, and `a` is the actor's as read.
-    pub fn receive_lacpdu(
-        self,
-        system: SystemId,
-        number: u16,
-        a: Block,
-        actor: &[u8],
-        partner: &[u8],
-    ) -> Self
-        requires { (length actor.now ≡ 15) × (a ≡ block_of actor.now) × (length partner.now ≡ 15) }
-        ensures { result ≡ received system number (block_of actor.now) (block_of partner.now) self }
+    // CURRENT: what an accepted LACPDU does, which says `actor` of its sender and `b` of us; `us` is what we say of ourselves. Compares before it
+    // records, so that a changed partner is seen. Our own Timeout bit sets the timer, not the partner's.
+    #[tactic(auto, unfolding(crate::specs::Receive::current, crate::specs::Receive::pdu_recorded))]
+    pub fn receive_lacpdu(self, us: Block, actor: &[u8; 15], b: Block) -> Self
+        ensures { result ≡ current us (block_of actor.now) b self }
     {
-        let us = self.actor_block(system, number);
-        let b = Block::read(partner);
-        self.current(us, a, actor, b)
+        let mut p = self
+            .update_selected(Block::read(actor))
+            .update_ntt(us, b)
+            .record_pdu(us, actor, b);
+        p.actor.expired = false;
+        p.in_state(Receive::Current, timeout_time(self.actor.timeout))
     }
 
-    // Whether an accepted LACPDU on this port says nothing new, so that it only starts the current-while timer again.
-    pub fn repeats(self, system: SystemId, number: u16, a: Block, partner: &[u8]) -> bool
-        requires { length partner.now ≡ 15 }
-        ensures { result ≡ repeats (actor_block system number self) a (block_of partner.now) self }
+    // Whether an accepted LACPDU, which says `a` of its sender and `b` of us, says nothing new, so that it only starts the current-while timer again.
+    pub fn repeats(self, us: Block, a: Block, b: Block) -> bool
+        ensures { result ≡ repeats us a b self }
     {
-        let us = self.actor_block(system, number);
-        let b = Block::read(partner);
-        let h = self.phase;
-        let s = h.receive;
-        let known = self.partner;
-        let sync = in_sync(us, a, b);
         let mut heard = a;
-        heard.state.synchronization = sync;
-        is_current(s)
+        heard.state.synchronization = in_sync(us, a, b);
+        (self.phase.receive == Receive::Current)
             & (!(self.actor.defaulted | self.actor.expired)
-                & (same_block(heard, known) & (same_view(b, us) | self.ntt)))
+                & ((heard == self.partner) & (same_view(b, us) | self.ntt)))
     }
 
     // What CURRENT starts the current-while timer with: by our own Timeout bit.

@@ -7,7 +7,7 @@ use frame::state::PortState;
 use machine::states::{Ages, Line, Phase, Receive, Selection, Ticks, Timers};
 
 // The settings but for own Activity, Timeout and Aggregation, which are kept in the actor's state alone.
-#[derive(Clone, Copy)]
+#[derive(Clone, Copy, PartialEq, Eq)]
 pub struct Own {
     pub address: Address,
     pub key: u16,
@@ -15,7 +15,7 @@ pub struct Own {
     pub default: Block,
 }
 
-#[derive(Clone, Copy)]
+#[derive(Clone, Copy, PartialEq, Eq)]
 pub struct Port {
     pub phase: Phase,
     pub aggregator: u8,
@@ -32,9 +32,7 @@ impl Port {
     pub fn with_selected(mut self, selected: Selection) -> Self
         ensures { result ≡ with_selected self selected }
     {
-        let h = self.phase;
-        let next = h.with_selected(selected);
-        self.phase = next;
+        self.phase.selected = selected;
         self
     }
 
@@ -42,12 +40,8 @@ impl Port {
     pub fn in_state(mut self, receive: Receive, time: Ticks) -> Self
         ensures { result ≡ with_receive (with_current self time) receive }
     {
-        let h = self.phase;
-        let phase = h.with_receive(receive);
-        let t = self.timers;
-        let timers = t.with_current(time);
-        self.phase = phase;
-        self.timers = timers;
+        self.phase.receive = receive;
+        self.timers.current = time;
         self
     }
 
@@ -55,16 +49,14 @@ impl Port {
     pub fn actor_block(self, system: SystemId, number: u16) -> Block
         ensures { result ≡ actor_block system number self }
     {
-        let port = PortId {
-            priority: self.own.priority,
-            number,
-        };
-        let state = self.actor;
         Block {
             system,
             key: self.own.key,
-            port,
-            state,
+            port: PortId {
+                priority: self.own.priority,
+                number,
+            },
+            state: self.actor,
         }
     }
 }

@@ -13,6 +13,7 @@ pub enum Undue {
 
 impl Port {
     // Whether an LACPDU is due: NTT, link, LACP on, then the limit of three sends.
+    #[tactic(auto, unfolding(crate::specs::Transmit::due))]
     pub fn due(self) -> Result<(), Undue>
         ensures { result ≡ due self }
     {
@@ -26,39 +27,32 @@ impl Port {
     }
 
     // An LACPDU went: NTT is cleared and the send remembered.
+    #[tactic(auto, unfolding(crate::specs::Transmit::sent))]
     pub fn sent(mut self) -> Self
         ensures { result ≡ sent self }
     {
-        let old = self.ages;
-        let ages = old.with_send();
-        self.ages = ages;
+        self.ages = self.ages.with_send();
         self.ntt = false;
         self
     }
 
     // The end of step 6: NTT is cleared where nothing may be sent for it.
+    #[tactic(auto, unfolding(crate::specs::Transmit::ntt_cleared, crate::specs::Transmit::silent))]
     pub fn clear_ntt(mut self) -> Self
         ensures { result ≡ ntt_cleared self }
     {
-        let line = self.line;
         let passive = !self.actor.activity & !self.partner.state.activity;
-        if line.is_silent(passive) {
-            self.ntt = false;
-            return self;
-        }
+        self.ntt &= !self.line.is_silent(passive);
         self
     }
 
     // Step 1 of a tick.
+    #[tactic(auto, unfolding(crate::specs::Transmit::ticked))]
     pub fn tick(mut self) -> Self
         ensures { result ≡ ticked self }
     {
-        let t = self.timers;
-        let timers = t.tick();
-        let g = self.ages;
-        let ages = g.tick();
-        self.timers = timers;
-        self.ages = ages;
+        self.timers = self.timers.tick();
+        self.ages = self.ages.tick();
         self
     }
 }

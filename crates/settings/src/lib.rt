@@ -7,11 +7,10 @@ ghost use Rattle.settings.specs.Settings.{regrouped, same_grouping, same_setting
 use frame::block::{Address, Block};
 use frame::state::PortState;
 use machine::ages::NO_SEND;
-use machine::compare::{alike, same_address, same_block};
 use machine::states::{Ages, Line, Mux, Periodic, Phase, Receive, Selection, Ticks, Timers};
 use port::record::{Own, Port};
 
-#[derive(Clone, Copy)]
+#[derive(Clone, Copy, PartialEq, Eq)]
 pub struct Settings {
     pub address: Address,
     pub key: u16,
@@ -26,36 +25,34 @@ impl Settings {
     fn own(self) -> Own
         ensures { result ≡ own_of self }
     {
-        let address = self.address;
-        let default = self.default;
         Own {
-            address,
+            address: self.address,
             key: self.key,
             priority: self.priority,
-            default,
+            default: self.default,
         }
     }
 
     // The default partner block has Collecting and Synchronization alike.
+    #[tactic(auto, unfolding(crate::specs::Settings::lawful))]
     pub fn is_lawful(self) -> bool
         ensures { result ≡ lawful self }
     {
-        alike(
-            self.default.state.collecting,
-            self.default.state.synchronization,
-        )
+        self.default.state.collecting == self.default.state.synchronization
     }
 
     fn bits(self, old: PortState) -> PortState
         ensures { result ≡ own_bits self old }
     {
-        let mut s = old;
-        s.activity = self.activity;
-        s.timeout = self.timeout;
-        s.aggregation = self.aggregation;
-        s
+        PortState {
+            activity: self.activity,
+            timeout: self.timeout,
+            aggregation: self.aggregation,
+            ..old
+        }
     }
 
+    #[tactic(auto, unfolding(crate::specs::Settings::blank))]
     fn blank_port(self) -> Port
         ensures { result ≡ blank self }
     {
@@ -102,6 +99,7 @@ impl Settings {
     }
 
     // The record with which every port begins: INITIALIZE, then PORT_DISABLED.
+    #[tactic(auto, unfolding(crate::specs::Settings::started))]
     pub fn start(self) -> Port
         ensures { result ≡ started self }
     {
@@ -109,28 +107,27 @@ impl Settings {
     }
 
     // Key, port priority and Aggregation as the port has them.
+    #[tactic(auto, unfolding(crate::specs::Settings::same_grouping))]
     fn has_grouping(self, p: Port) -> bool
         ensures { result ≡ same_grouping self p }
     {
-        (self.key == p.own.key)
-            & ((self.priority == p.own.priority) & alike(self.aggregation, p.actor.aggregation))
+        self.key == p.own.key
+            && self.priority == p.own.priority
+            && self.aggregation == p.actor.aggregation
     }
 
     // All settings as the port has them.
     pub fn is_held(self, p: Port) -> bool
         ensures { result ≡ same_settings self p }
     {
-        let a = self.address;
-        let b = p.own.address;
-        let d = self.default;
-        let e = p.own.default;
         self.has_grouping(p)
-            & (same_address(a, b)
-                & (alike(self.activity, p.actor.activity)
-                    & (alike(self.timeout, p.actor.timeout) & same_block(d, e))))
+            & ((self.address == p.own.address)
+                & ((self.activity == p.actor.activity)
+                    & ((self.timeout == p.actor.timeout) & (self.default == p.own.default))))
     }
 
     // UNSELECTED where R12.2 says so.
+    #[tactic(auto, unfolding(crate::specs::Settings::regrouped))]
     fn regroup(self, p: Port) -> Port
         ensures { result ≡ regrouped self p }
     {
@@ -141,15 +138,13 @@ impl Settings {
     }
 
     // The port with these settings, which are other ones. The partner in force stays as it is (R12.4).
+    #[tactic(auto, unfolding(crate::specs::Settings::configured))]
     pub fn configure(self, p: Port) -> Port
         ensures { result ≡ configured self p }
     {
-        let old = p.actor;
-        let actor = self.bits(old);
-        let own = self.own();
         let mut q = self.regroup(p);
-        q.actor = actor;
-        q.own = own;
+        q.actor = self.bits(p.actor);
+        q.own = self.own();
         q.ntt = true;
         q
     }

@@ -4,4 +4,4 @@ use Rattle.port.proofs.record.Port.record_pdu.Goals as goal
 
 pub returns : goal.returns
 unfolding record_pdu
-returns c = simp (c.in_sync-sync.ensures, c.record-p.ensures)
+returns c = simp (c.in_sync-p.ensures, c.record-p.ensures)
