@@ -400,29 +400,30 @@ MUTANTS = [
         ("frame/src/class.rt", "SLOW_TYPE: u16 = 0x8809", "SLOW_TYPE: u16 = 0x8808"))),
     Mutant("law what is not looked at", "the version of an LACPDU tested in the place of its third length", ("alike_class",), "frame::class::has_wrong_length", (
         ("frame/specs/Class.antt", "eqb (octet l 57) 16", "eqb (octet l 15) 1"),
-        ("frame/src/class.rt", "(s[57] == 16)", "(s[15] == 1)"))),
-    Mutant("law what stands where", "an address with its last two octets first", ("block_rows", "lacpdu_rows"), "frame::block::Address::write", (
+        ("frame/src/class.rt", "[s[17], s[37], s[57]] != [20, 20, 16]", "[s[17], s[37], s[15]] != [20, 20, 1]"))),
+    Mutant("law what stands where", "an address with its last two octets first", ("block_rows", "lacpdu_rows"), "frame::block::AddressInOctets::write", (
         ("frame/specs/Block.antt", "record { high = number_at l i; middle = number_at l (i + 2); low = number_at l (i + 4) }",
          "record { low = number_at l i; middle = number_at l (i + 2); high = number_at l (i + 4) }"),
         ("frame/specs/Block.antt", "number_octets a.high ++ (number_octets a.middle ++ number_octets a.low)",
          "number_octets a.low ++ (number_octets a.middle ++ number_octets a.high)"),
         ("frame/src/block.rt", "            high: octets::number(s, at),", "            low: octets::number(s, at),"),
         ("frame/src/block.rt", "            low: octets::number(s, at + 4),", "            high: octets::number(s, at + 4),"),
-        ("frame/src/block.rt", "high_octet(self.high),\n                octets::low_octet(self.high),", "high_octet(self.low),\n                octets::low_octet(self.low),"),
-        ("frame/src/block.rt", "octets::low_octet(self.middle),\n                octets::high_octet(self.low),\n                octets::low_octet(self.low),",
-         "octets::low_octet(self.middle),\n                octets::high_octet(self.high),\n                octets::low_octet(self.high),"))),
+        ("frame/src/block.rt", "put_number(out, at, self.high);", "put_number(out, at, self.low);"),
+        ("frame/src/block.rt", "put_number(out, at + 4, self.low);", "put_number(out, at + 4, self.high);"),
+        ("frame/proofs/block/AddressInOctets/write/Answers.antt", "(number_octets a.high ∷ number_octets a.middle ∷ number_octets a.low ∷ [])",
+         "(number_octets a.low ∷ number_octets a.middle ∷ number_octets a.high ∷ [])"))),
     Mutant("law what stands where", "an LACPDU with a 1 in its reserved octet 53", ("lacpdu_rows",), "frame::wire::write_lacpdu", (
         ("frame/specs/Wire.antt", "(block_octets partner ++ (zeros 3\n", "(block_octets partner ++ ((1 ∷ zeros 2)\n"),
         ("frame/src/wire.rt", "octets::put(out, 53, &[0, 0, 0, 3, 16]);", "octets::put(out, 53, &[1, 0, 0, 3, 16]);"),
         ("frame/proofs/wire/write_lacpdu/Answers.antt", "put_at 53 (0 ∷ 0 ∷ 0 ∷ 3", "put_at 53 (1 ∷ 0 ∷ 0 ∷ 3"),
         ("frame/proofs/wire/write_lacpdu/Answers.antt", "pb ∷ (0 ∷ 0 ∷ 0 ∷ 3", "pb ∷ (1 ∷ 0 ∷ 0 ∷ 3"))),
-    Mutant("case 07, 3F, 3D", "Aggregation and Defaulted exchanged", ("active-short", "in_trunk", "in_trunk-long"), "frame::state::PortState::octet", (
+    Mutant("case 07, 3F, 3D", "Aggregation and Defaulted exchanged", ("active-short", "in_trunk", "in_trunk-long"), "frame::state::U8FromPortState::from", (
         ("frame/specs/State.antt", "weighed s.aggregation 4", "weighed s.defaulted 4"),
         ("frame/specs/State.antt", "weighed s.defaulted 64", "weighed s.aggregation 64"),
         ("frame/specs/State.antt", "aggregation = bit o 4;", "aggregation = bit o 64;"),
         ("frame/specs/State.antt", "defaulted = bit o 64;", "defaulted = bit o 4;"),
-        ("frame/src/state.rt", "weigh(self.aggregation, 4)", "weigh(self.defaulted, 4)"),
-        ("frame/src/state.rt", "weigh(self.defaulted, 64)", "weigh(self.aggregation, 64)"),
+        ("frame/src/state.rt", "weigh(state.aggregation, 4)", "weigh(state.defaulted, 4)"),
+        ("frame/src/state.rt", "weigh(state.defaulted, 64)", "weigh(state.aggregation, 64)"),
         ("frame/src/state.rt", "aggregation: o / 4 % 2", "aggregation: o / 64 % 2"),
         ("frame/src/state.rt", "defaulted: o / 64 % 2", "defaulted: o / 4 % 2"))),
     Mutant("case 45, C5", "recordDefault that clears Defaulted", ("after-start", "after-link-up"), "port::receive::is_default", (
@@ -464,16 +465,12 @@ MUTANTS = [
         ("churn/specs/Churn.antt", "(watched p.line.up p.partner.state.synchronization m.partner)", "(watched p.line.up p.actor.synchronization m.partner)"),)),
     Mutant("case 123, 124, 125", "124 octets refused", ("octets_124",), "frame::class::is_illegal", (
         ("frame/specs/Class.antt", "short l = ltb (length l) frame_size", "short l = ltb (length l) 125"),
-        ("frame/src/class.rt", "    if s.len() < FRAME {", "    if s.len() < 125 {"),
-        ("frame/proofs/class/is_illegal/Answers.antt", "pub returns-then-s-lt-FRAME : goal.returns-then-s-lt-FRAME", "pub returns-then-s-lt125 : goal.returns-then-s-lt125"),
-        ("frame/proofs/class/is_illegal/Answers.antt", "returns-then-s-lt-FRAME c =", "returns-then-s-lt125 c ="),
-        ("frame/proofs/class/is_illegal/Answers.antt", "c.if-s-lt-FRAME.true", "c.if-s-lt125.true"),
-        ("frame/proofs/class/is_illegal/Answers.antt", "c.if-s-lt-FRAME.false", "c.if-s-lt125.false"))),
+        ("frame/src/class.rt", "|| s.len() < FRAME", "|| s.len() < 125"))),
     Mutant("case subtypes", "subtype 10 illegal", ("subtype_10",), "frame::class::is_unknown", (
         ("frame/specs/Class.antt", "(leb 3 (octet l 14) && leb (octet l 14) 10)", "(leb 3 (octet l 14) && leb (octet l 14) 9)"),
         ("frame/specs/Class.antt", "odd_subtype l = eqb (octet l 14) 0 || leb 11 (octet l 14)", "odd_subtype l = eqb (octet l 14) 0 || leb 10 (octet l 14)"),
-        ("frame/src/class.rt", "(3 <= s[14]) & (s[14] <= 10)", "(3 <= s[14]) & (s[14] <= 9)"),
-        ("frame/src/class.rt", "(s[14] == 0) | (11 <= s[14])", "(s[14] == 0) | (10 <= s[14])"))),
+        ("frame/src/class.rt", "(3..=10).contains(subtype)", "(3..=9).contains(subtype)"),
+        ("frame/src/class.rt", "matches!(s[14], 0 | 11..)", "matches!(s[14], 0 | 10..)"))),
     Mutant("case passive sender", "a sender in sync though it takes us for another port", ("rest-differs",), "machine::compare::in_sync", (
         ("machine/specs/Compare.antt", "(same_party b us || not a.state.aggregation)", "(same_party us us || not a.state.aggregation)"),
         ("machine/src/compare.rt", "(same_party(b, us) | !a.state.aggregation)", "(same_party(us, us) | !a.state.aggregation)"))),

@@ -7,26 +7,26 @@ use crate::state::PortState;
 use octets::InOctets;
 
 // Six octets, two at a time.
-#[derive(Clone, Copy, PartialEq, Eq)]
+#[derive(Clone, Copy, Default, PartialEq, Eq)]
 pub struct Address {
     pub high: u16,
     pub middle: u16,
     pub low: u16,
 }
 
-#[derive(Clone, Copy, PartialEq, Eq)]
+#[derive(Clone, Copy, Default, PartialEq, Eq)]
 pub struct SystemId {
     pub priority: u16,
     pub address: Address,
 }
 
-#[derive(Clone, Copy, PartialEq, Eq)]
+#[derive(Clone, Copy, Default, PartialEq, Eq)]
 pub struct PortId {
     pub priority: u16,
     pub number: u16,
 }
 
-#[derive(Clone, Copy, PartialEq, Eq)]
+#[derive(Clone, Copy, Default, PartialEq, Eq)]
 pub struct Block {
     pub system: SystemId,
     pub key: u16,

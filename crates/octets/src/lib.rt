@@ -3,7 +3,7 @@
 #![tactic(auto)]
 
 ghost use Rattle.std.specs.Prelude.{◌≡◌, ◌+◌, ◌≤◌, ◌<◌, ℕ, List, length, take, drop};
-ghost use Rattle.octets.specs.Octets.{put_at, fitted, same_octets, number_at, number_octets, long_at, long_octets, high, low, word_at};
+ghost use Rattle.octets.specs.Octets.{put_at, fitted, same_octets, number_at, number_octets, long_at, long_octets, word_at};
 
 pub mod sets;
 
@@ -30,20 +30,6 @@ pub fn same(a: &[u8], b: &[u8]) -> bool
     ensures { result ≡ same_octets a.now b.now }
 {
     a == b
-}
-
-// The high octet of a two-octet number.
-pub fn high_octet(n: u16) -> u8
-    ensures { result ≡ high n }
-{
-    (n / 256) as u8
-}
-
-// The low octet of a two-octet number.
-pub fn low_octet(n: u16) -> u8
-    ensures { result ≡ low n }
-{
-    (n % 256) as u8
 }
 
 // The N octets from index `at` on, as a part of s itself.
