@@ -93,6 +93,7 @@ impl Block {
     }
 
     // Writes the block straight into the 15 octets that are its place in a frame.
+    // Kept: out is a slice, since document 01 names the lent part `&mut out[18..33]` as what the writer gets.
     pub fn write(self, out: &mut [u8])
         requires { length out.old ≡ 15 }
         ensures { out.new ≡ block_octets self }

@@ -1,4 +1,5 @@
 // Where things lie in a frame (R6): the parts of a received one, and writing one to be sent.
+// Kept: frames are slices and `frame_size` a clause, since what follows octet 123 is lent too and stays (R5.5, R6).
 ghost use Rattle.std.specs.Prelude.{◌≡◌, ◌++◌, ◌≤◌, length, drop};
 ghost use Rattle.frame.specs.Class.{frame_size};
 ghost use Rattle.octets.specs.Octets.{put_at};
@@ -59,6 +60,7 @@ pub fn request(frame: &[u8]) -> &[u8; 12]
 }
 
 // Of two lent blocks, the frame's and the default, gives back the one to be recorded (R18.3).
+// Kept: document 01 names this form, two slices with one lifetime, of which one is handed back.
 pub fn recorded<'a>(source: Source, pdu: &'a [u8], default: &'a [u8]) -> &'a [u8]
     ensures { result.now ≡ applying source pdu.now default.now }
 {

@@ -9,15 +9,14 @@ use lib.ListN.{length, get_or, set, replicate, length-set, length-replicate, get
 use lib.Seq.{get_or-set_same, get_or-set_other, ext_get_or}
 use lib.Dec.{ltb, eqb}
 use borrow.Author.Tests.{ltb-true, ltb-false, lt-ltb, le-ltb, eqb-true, eqb-false}
+use Rattle.std.proofs.lemmas.List.{get_or-map}
 use Rattle.octets.specs.Lists.{map_from, Each}
 
 -- ---- a map
 
 -- the element at an index
 pub map_at : {A B : Type 0} (g : A → B) (xs : List A) (i : ℕ) (b : B) (d : A) → i < length xs → get_or (map g xs) i b ≡ g (get_or xs i d)
-map_at g [] i b d h = absurd (omega arith)
-map_at g (x ∷ xs) zero b d h = refl
-map_at g (x ∷ xs) (suc i) b d h = map_at g xs i b d (omega arith)
+map_at g xs i b d h = get_or-map g xs i d b h
 
 -- what f keeps of each element, the map keeps of the list
 pub map-keeps : {A B : Type 0} (g : A → B) (f : A → A) → ((x : A) → g (f x) ≡ g x) → (xs : List A) → map g (map f xs) ≡ map g xs

@@ -1,4 +1,5 @@
 // Sets of numbers below 32, as 32-bit numbers: bit 0 is number 0.
+// Kept: functions of a u32, since reports and C hold sets as one; a type around it adds `.0` to each clause with `member`.
 ghost use Rattle.std.specs.Prelude.{◌≡◌, false, ◌&&◌, ◌||◌, ℕ, ◌≤◌, ◌<◌, eqb};
 ghost use Rattle.octets.specs.Sets.{member, end_of};
 
@@ -33,10 +34,7 @@ pub fn with_if(set: u32, i: usize, is_in: bool) -> u32
     requires { i < 32 }
     ensures { (m : ℕ) → member result m ≡ ((is_in && eqb m i) || member set m) }
 {
-    if is_in {
-        return with(set, i);
-    }
-    set
+    if is_in { with(set, i) } else { set }
 }
 
 // The numbers of both sets.
