@@ -1,11 +1,12 @@
 -- The reasons as bits of a number: each bit is its reason, and the number is 0 exactly if there is none, which is the selection rule's own test. Assumes nothing.
-use Prim.Native.Nat.{ℕ, zero, suc, ◌+◌, ◌*◌, ◌<◌}
-use mathlib.Core.Path.{◌≡◌, refl, ap, ◌∙◌}
+use Prim.Native.Nat.{ℕ, zero, suc, ◌+◌, ◌*◌, ◌<◌, ◌≤◌}
+use mir.Val.{bool_byte}
+use mathlib.Core.Path.{◌≡◌, refl, sym, ap, ◌∙◌}
 use mathlib.Core.Bool.{Bool, true, false, cond, not, ◌&&◌, ◌||◌}
-use mathlib.Core.List.{List, [], ◌∷◌}
+use mathlib.Core.List.{List, [], ◌∷◌, ◌++◌}
 use native.Mathlib.Omega.{arith}
 use lib.Arith.{digits_div, digits_mod}
-use lib.ListN.{get_or}
+use lib.ListN.{length, get_or}
 use lib.Dec.{eqb}
 use borrow.Author.Tests.{eqb-true, eqb-false, eq-eqb, ne_eqb}
 use Rattle.octets.specs.Sets.{member}
@@ -23,10 +24,48 @@ use Rattle.why.specs.Exact.{ApartShares, ReasonsTrue}
 
 -- ---- bits
 
--- a bit more below a number that is less than m
-pub grows : (b : Bool) (n m r : ℕ) → r ≡ n * 2 + weighed b 1 → n < m → r < m * 2
-grows true n m r e h = omega (arith, e, h)
-grows false n m r e h = omega (arith, e, h)
+-- as a loop adds them, from the last: n of those that are done, and these before it
+pub bits_before : List Bool → ℕ → ℕ
+bits_before [] n = n
+bits_before (b ∷ bs) n = bits_before bs n * 2 + weighed b 1
+
+pub bits-begun : (bs : List Bool) → bits_before bs 0 ≡ bits_of bs
+unfolding bits_of bits_before
+bits-begun [] = refl
+bits-begun (b ∷ bs) = ap (λ (n : ℕ). n * 2 + weighed b 1) (bits-begun bs)
+
+bits_last : (bs : List Bool) (b : Bool) (n : ℕ) → bits_before (bs ++ b ∷ []) n ≡ bits_before bs (n * 2 + bool_byte b)
+unfolding bits_before
+bits_last [] true n = refl
+bits_last [] false n = refl
+bits_last (c ∷ bs) b n = ap (λ (m : ℕ). m * 2 + weighed c 1) (bits_last bs b n)
+
+bits_most : (bs : List Bool) (n : ℕ) → n ≤ bits_before bs n
+unfolding bits_before
+bits_most [] n = omega arith
+bits_most (b ∷ bs) n = let rest = bits_most bs n in omega (arith, rest)
+
+-- a turn takes the last of those before
+module _ (rest : List Bool) (b : Bool) (n : ℕ) {bs : List Bool} {m : ℕ} (is : bs ≡ rest ++ b ∷ []) (all : bits_before bs n ≡ m) where
+  pub bits-turn : bits_before rest (n * 2 + bool_byte b) ≡ m
+  bits-turn = sym (bits_last rest b n) ∙ ap (λ (l : List Bool). bits_before l n) (sym is) ∙ all
+
+  pub bits-fit : n * 2 + bool_byte b ≤ m
+  bits-fit = let less = bits_most rest (n * 2 + bool_byte b) in omega (arith, less, bits-turn)
+
+pub bits-ended : (bs : List Bool) (n : ℕ) {m : ℕ} → length bs ≡ 0 → bits_before bs n ≡ m → n ≡ m
+unfolding bits_before
+bits-ended [] n h all = all
+bits-ended (b ∷ bs) n h all = absurd (omega (arith, h))
+
+-- ten of them
+pub number-most : (a : Apart) → apart_number a < 1024
+unfolding apart_number bits_of
+number-most a = omega (arith, less a.first.own, less a.first.partner, less a.first.ourselves, less a.second.own, less a.second.partner, less a.second.ourselves, less a.keys, less a.priorities, less a.addresses, less a.theirs)
+  where
+    less : (b : Bool) → weighed b 1 ≤ 1
+    less true = omega arith
+    less false = omega arith
 
 bits_member : (bs : List Bool) (i : ℕ) → member (bits_of bs) i ≡ get_or bs i false
 unfolding bits_of

@@ -1,22 +1,30 @@
 -- The first cause that applies, and the port that waits longest. Assumes nothing.
 use Prim.Native.Nat.{ℕ, zero, suc, ◌+◌, ◌≤◌, ◌<◌}
-use mathlib.Core.Path.{◌≡◌, refl, sym, ap, ap₂, ◌∙◌}
-use mathlib.Core.Bool.{Bool, true, false, cond, not, ◌&&◌, ◌||◌}
-use mathlib.Core.Logic.{◌≢◌}
+use mathlib.Core.Path.{◌≡◌, refl, sym, ap, subst, ◌∙◌}
+use mathlib.Core.Bool.{Bool, true, false, cond, not, ◌&&◌, ◌||◌, true≢false}
 use mathlib.Core.List.{List, [], ◌∷◌, ◌++◌}
 use native.Mathlib.Omega.{arith}
 use lib.ListN.{length, get_or, drop}
-use lib.Dec.{ltb, leb, eqb}
+use lib.Dec.{leb, eqb}
 use lib.Seq.{drop-cons, drop-length}
-use borrow.Author.Tests.{ltb-true, ltb-false, leb-true, leb-false, lt-ltb, ne_eqb}
+use borrow.Author.Tests.{leb-true, leb-false, le-leb, ne_eqb}
 use Rattle.machine.specs.Mux.{distributes}
 use Rattle.port.specs.declared.record.Port.{Port}
+use Rattle.std.specs.Prelude.{Option, Some, None, is_some}
 use Rattle.trunk.specs.Ready.{waits_for, holds_back, held_back}
 use Rattle.why.specs.declared.cause.Hold.{Hold}
 use Rattle.why.specs.declared.cause.Cause.{Cause}
-use Rattle.why.specs.declared.cause.Cause.TheVariants.{NoCause, Carries, CarriesByDefault, LinkDown, HalfDuplex, Defaulted, Expired, Waits, HeldBack, OutOfSync, NotCollecting}
-use Rattle.why.specs.Cause.{is_by_default, says, order, first_of, cause_of, wait_for, longer, no_hold, longest}
+use Rattle.why.specs.declared.cause.Cause.TheVariants.{Carries, CarriesByDefault, LinkDown, HalfDuplex, Defaulted, Expired, Waits, HeldBack, OutOfSync, NotCollecting}
+use Rattle.why.specs.Cause.{is_by_default, says, order, first_of, cause_of, wait_for, ticks_left, longer, longest}
 use Rattle.why.specs.Exact.{is_carrying, CarryingTrue, NoneOf, FirstIn, CausesTrue, Longest, LongestTrue}
+
+-- a value that is there is one
+pub some_is : {A : Type 0} {x y : A} → Some x ≡ Some y → x ≡ y
+some_is {A} {x} e = ap (λ (o : Option A). by o) e
+  where
+    by : Option A → A
+    by None = x
+    by (Some z) = z
 
 -- ---- the port that waits longest: one record more, and none
 
@@ -25,40 +33,28 @@ pub longest-next : (k : ℕ) (ps : List Port) (i n : ℕ) (d : Port) → i < len
 unfolding longest
 longest-next k ps i n d h = rw (drop-cons ps i d h)
 
-pub longest_end : (k n : ℕ) (ps : List Port) (m : ℕ) → length ps ≡ m → longest k n (drop m ps) ≡ no_hold
+pub longest_end : (k n : ℕ) (ps : List Port) (m : ℕ) → length ps ≡ m → longest k n (drop m ps) ≡ None
 unfolding longest
 longest_end k n ps m e = rw (← e, drop-length ps)
 
--- ---- somebody holds back exactly if it has ticks left
+-- ---- there is one exactly if somebody holds back
 
-longer-left : (w n : ℕ) (h : Hold) → ltb 0 (longer w n h).ticks ≡ (ltb 0 w || ltb 0 h.ticks)
-longer-left w n h = by (ltb 0 w) refl (leb h.ticks w) refl
+longer-some : (w n : ℕ) (h : Option Hold) → is_some (longer (Some w) n h) ≡ true
+longer-some w n None = rw (le-leb 0 w (omega arith))
+longer-some w n (Some h) = by (leb h.ticks w)
   where
-    by : (a : Bool) → ltb 0 w ≡ a → (b : Bool) → leb h.ticks w ≡ b → ltb 0 (cond (a && b) (record { port = n; ticks = w }) h).ticks ≡ (a || ltb 0 h.ticks)
-    by true e true f = e
-    by true e false f =
-        let some : 0 < w = ltb-true 0 w e in
-        let more : w < h.ticks = leb-false h.ticks w f in
-        lt-ltb 0 h.ticks (omega (arith, some, more))
-    by false e b f = refl
-
-some_left : (n : ℕ) → ltb 0 n ≡ not (eqb n 0)
-some_left zero = refl
-some_left (suc n) = lt-ltb 0 (suc n) (omega arith) ∙ sym (ap not (ne_eqb (suc n) 0 (λ e. omega (arith, e))))
-
-pub wait-holds : (k : ℕ) (p : Port) → ltb 0 (wait_for k p) ≡ holds_back k p
-unfolding wait_for holds_back
-wait-holds k p = by (waits_for k p)
-  where
-    by : (b : Bool) → ltb 0 (cond b p.timers.wait.0 0) ≡ (b && not (eqb p.timers.wait.0 0))
-    by true = some_left p.timers.wait.0
+    by : (b : Bool) → is_some (cond b (Some (record { port = n; ticks = w })) (Some h)) ≡ true
+    by true = refl
     by false = refl
 
-pub longest-holds : (k n : ℕ) (ps : List Port) → ltb 0 (longest k n ps).ticks ≡ held_back k ps
-unfolding longest held_back
+pub longest-holds : (k n : ℕ) (ps : List Port) → is_some (longest k n ps) ≡ held_back k ps
+unfolding longest held_back wait_for
 longest-holds k n [] = refl
-longest-holds k n (p ∷ ps) =
-    longer-left (wait_for k p) n (longest k (n + 1) ps) ∙ ap₂ (λ (a b : Bool). a || b) (wait-holds k p) (longest-holds k (n + 1) ps)
+longest-holds k n (p ∷ ps) = by (longest-holds k (n + 1) ps) (holds_back k p)
+  where
+    by : is_some (longest k (n + 1) ps) ≡ held_back k ps → (b : Bool) → is_some (longer (cond b (Some p.timers.wait.0) None) n (longest k (n + 1) ps)) ≡ (b || held_back k ps)
+    by then true = longer-some p.timers.wait.0 n (longest k (n + 1) ps)
+    by then false = then
 
 -- ---- the first cause that applies
 
@@ -68,7 +64,7 @@ unfolding first_of
 none-carries f = by (f LinkDown) (f HalfDuplex) (f Defaulted) (f Expired) (f Waits) (f HeldBack) (f OutOfSync) (f NotCollecting)
   where
     by : (a b c d e g h i : Bool)
-        → is_carrying (cond a LinkDown (cond b HalfDuplex (cond c Defaulted (cond d Expired (cond e Waits (cond g HeldBack (cond h OutOfSync (cond i NotCollecting NoCause)))))))) ≡ false
+        → is_carrying (cond a (Some LinkDown) (cond b (Some HalfDuplex) (cond c (Some Defaulted) (cond d (Some Expired) (cond e (Some Waits) (cond g (Some HeldBack) (cond h (Some OutOfSync) (cond i (Some NotCollecting) None)))))))) ≡ false
     by true b c d e g h i = refl
     by false true c d e g h i = refl
     by false false true d e g h i = refl
@@ -83,120 +79,131 @@ pub carrying-true : CarryingTrue
 unfolding cause_of first_of
 carrying-true held p = by (distributes p.phase.mux) (is_by_default p.phase.receive)
   where
-    rest : Cause
+    rest : Option Cause
     rest = first_of (says held p) (LinkDown ∷ HalfDuplex ∷ Defaulted ∷ Expired ∷ Waits ∷ HeldBack ∷ OutOfSync ∷ NotCollecting ∷ [])
 
-    by : (d b : Bool) → is_carrying (cond (d && not b) Carries (cond (d && b) CarriesByDefault rest)) ≡ d
+    by : (d b : Bool) → is_carrying (cond (d && not b) (Some Carries) (cond (d && b) (Some CarriesByDefault) rest)) ≡ d
     by true true = refl
     by true false = refl
     by false b = none-carries (says held p)
 
 module _ (f : Cause → Bool) (c : Cause) where
-  first-only : (cs : List Cause) → c ≢ NoCause → first_of f cs ≡ c → FirstIn f c cs
+  first-only : (cs : List Cause) → first_of f cs ≡ Some c → FirstIn f c cs
   unfolding first_of
-  first-only [] some e = absurd (some (sym e))
-  first-only (d ∷ ds) some e = by (first-only ds some) (f d) refl e
+  first-only [] e = absurd (true≢false (ap is_some (sym e)))
+  first-only (d ∷ ds) e = by (first-only ds) (f d) refl e
     where
-      by : (first_of f ds ≡ c → FirstIn f c ds) → (b : Bool) → f d ≡ b → cond b d (first_of f ds) ≡ c → FirstIn f c (d ∷ ds)
-      by then true x e = record { before = []; rest = ds; stands = ap (λ (y : Cause). y ∷ ds) e; none = tt; so = sym (ap f e) ∙ x }
+      by : (first_of f ds ≡ Some c → FirstIn f c ds) → (b : Bool) → f d ≡ b → cond b (Some d) (first_of f ds) ≡ Some c → FirstIn f c (d ∷ ds)
+      by then true x e =
+          let is : d ≡ c = some_is e in
+          record { before = []; rest = ds; stands = ap (λ (y : Cause). y ∷ ds) is; none = tt; so = sym (ap f is) ∙ x }
       by then false x e =
           let behind = then e in
           record { before = d ∷ behind.before; rest = behind.rest; stands = ap (λ (l : List Cause). d ∷ l) behind.stands; none = (x, behind.none); so = behind.so }
 
-  first-is : (before rest : List Cause) → NoneOf f before → f c ≡ true → first_of f (before ++ (c ∷ rest)) ≡ c
+  first-is : (before rest : List Cause) → NoneOf f before → f c ≡ true → first_of f (before ++ (c ∷ rest)) ≡ Some c
   unfolding first_of
   first-is [] rest none so = rw so
   first-is (d ∷ ds) rest none so = rw none.0 (first-is ds rest none.1 so)
 
 pub causes-true : CausesTrue
 unfolding cause_of
-causes-true held p c some = record {
-  only = first-only (says held p) c order some;
+causes-true held p c = record {
+  only = first-only (says held p) c order;
   whenever = λ x. ap (first_of (says held p)) x.stands ∙ first-is (says held p) c x.before x.rest x.none x.so;
 }
 
 -- ---- the port that waits longest is there
 
-waited : (k : ℕ) (p : Port) → waits_for k p ≡ true → wait_for k p ≡ p.timers.wait.0
-unfolding wait_for
-waited k p w = rw w
-
-unwaited : (k : ℕ) (p : Port) → waits_for k p ≡ false → wait_for k p ≡ 0
-unfolding wait_for
-unwaited k p w = rw w
-
-some-waits : (k : ℕ) (p : Port) → 1 ≤ wait_for k p → waits_for k p ≡ true
-some-waits k p h = by (waits_for k p) refl
+-- who holds back waits, with ticks left
+holding : (k : ℕ) (p : Port) → holds_back k p ≡ true → (waits_for k p ≡ true) × (1 ≤ p.timers.wait.0)
+unfolding holds_back
+holding k p e = by (waits_for k p) refl p.timers.wait.0 e
   where
-    by : (b : Bool) → waits_for k p ≡ b → waits_for k p ≡ true
-    by true e = e
-    by false e = let none = unwaited k p e in absurd (omega (arith, h, none))
+    by : (b : Bool) → waits_for k p ≡ b → (n : ℕ) → (b && not (eqb n 0)) ≡ true → (waits_for k p ≡ true) × (1 ≤ n)
+    by true w zero e = absurd (true≢false (sym e))
+    by true w (suc n) e = (w, omega arith)
+    by false w n e = absurd (true≢false (sym e))
 
--- where nobody has ticks left, nobody waits longer than that
-none_left : (k n : ℕ) (ps : List Port) (d : Port) (j : ℕ) → j < length ps → waits_for k (get_or ps j d) ≡ true → (get_or ps j d).timers.wait.0 ≤ (longest k n ps).ticks
-unfolding longest
-none_left k n [] d j h w = absurd (omega arith)
-none_left k n (p ∷ ps) d zero h w = let is = waited k p w in by (ltb 0 (wait_for k p)) refl (leb (longest k (n + 1) ps).ticks (wait_for k p)) refl is
+-- and who waits without, does not
+unheld : (k : ℕ) (p : Port) → waits_for k p ≡ true → holds_back k p ≡ false → p.timers.wait.0 ≡ 0
+unfolding holds_back
+unheld k p w e = by p.timers.wait.0 (sym (ap (λ (b : Bool). b && not (eqb p.timers.wait.0 0)) w) ∙ e)
   where
-    by : (a : Bool) → ltb 0 (wait_for k p) ≡ a → (b : Bool) → leb (longest k (n + 1) ps).ticks (wait_for k p) ≡ b → wait_for k p ≡ p.timers.wait.0
-        → p.timers.wait.0 ≤ (cond (a && b) (record { port = n; ticks = wait_for k p }) (longest k (n + 1) ps)).ticks
-    by true x true y is = omega (arith, is)
-    by true x false y is = let more = leb-false (longest k (n + 1) ps).ticks (wait_for k p) y in omega (arith, is, more)
-    by false x b y is = let none = ltb-false 0 (wait_for k p) x in omega (arith, is, none)
-none_left k n (p ∷ ps) d (suc j) h w = let rest = none_left k (n + 1) ps d j (omega arith) w in by (ltb 0 (wait_for k p)) refl (leb (longest k (n + 1) ps).ticks (wait_for k p)) refl rest
+    by : (n : ℕ) → not (eqb n 0) ≡ false → n ≡ 0
+    by zero e = refl
+    by (suc n) e = absurd (true≢false (sym (ap not (ne_eqb (suc n) 0 (λ x. omega (arith, x)))) ∙ e))
+
+-- nobody waits longer
+none-longer : (k n : ℕ) (ps : List Port) (d : Port) (j : ℕ) → j < length ps → waits_for k (get_or ps j d) ≡ true → (get_or ps j d).timers.wait.0 ≤ ticks_left (longest k n ps)
+unfolding longest wait_for
+none-longer k n [] d j h w = absurd (omega arith)
+none-longer k n (p ∷ ps) d zero h w = by (holds_back k p) refl (leb (ticks_left (longest k (n + 1) ps)) p.timers.wait.0) refl
   where
-    by : (a : Bool) → ltb 0 (wait_for k p) ≡ a → (b : Bool) → leb (longest k (n + 1) ps).ticks (wait_for k p) ≡ b → (get_or ps j d).timers.wait.0 ≤ (longest k (n + 1) ps).ticks
-        → (get_or ps j d).timers.wait.0 ≤ (cond (a && b) (record { port = n; ticks = wait_for k p }) (longest k (n + 1) ps)).ticks
-    by true x true y r = let less = leb-true (longest k (n + 1) ps).ticks (wait_for k p) y in omega (arith, less, r)
-    by true x false y r = r
-    by false x b y r = r
+    by : (a : Bool) → holds_back k p ≡ a → (b : Bool) → leb (ticks_left (longest k (n + 1) ps)) p.timers.wait.0 ≡ b
+        → p.timers.wait.0 ≤ ticks_left (longer (cond a (Some p.timers.wait.0) None) n (longest k (n + 1) ps))
+    by true x true y = rw y (omega arith)
+    by true x false y = let more = leb-false (ticks_left (longest k (n + 1) ps)) p.timers.wait.0 y in rw y (omega (arith, more))
+    by false x b y = omega (arith, unheld k p w x)
+none-longer k n (p ∷ ps) d (suc j) h w = let rest = none-longer k (n + 1) ps d j (omega arith) w in by (holds_back k p) (leb (ticks_left (longest k (n + 1) ps)) p.timers.wait.0) refl rest
+  where
+    by : (a b : Bool) → leb (ticks_left (longest k (n + 1) ps)) p.timers.wait.0 ≡ b → (get_or ps j d).timers.wait.0 ≤ ticks_left (longest k (n + 1) ps)
+        → (get_or ps j d).timers.wait.0 ≤ ticks_left (longer (cond a (Some p.timers.wait.0) None) n (longest k (n + 1) ps))
+    by true true y r = let less = leb-true (ticks_left (longest k (n + 1) ps)) p.timers.wait.0 y in rw y (omega (arith, less, r))
+    by true false y r = rw y r
+    by false b y r = r
 
 pub longest-true : LongestTrue
-unfolding longest
-longest-true k n [] d h = absurd (omega (arith, h))
-longest-true k n (p ∷ ps) d h = by (longest-true k (n + 1) ps d) (ltb 0 (wait_for k p)) refl (leb (longest k (n + 1) ps).ticks (wait_for k p)) refl h
+unfolding longest wait_for
+longest-true k n [] d h e = absurd (true≢false (ap is_some (sym e)))
+longest-true k n (p ∷ ps) d h e = by (longest-true k (n + 1) ps d h) (holds_back k p) refl (leb (ticks_left rest) p.timers.wait.0) refl e
   where
-    rest : Hold
+    rest : Option Hold
     rest = longest k (n + 1) ps
 
-    behind : (1 ≤ rest.ticks → Longest k (n + 1) ps d rest) → 1 ≤ rest.ticks → (waits_for k p ≡ true → p.timers.wait.0 < rest.ticks) → Longest k n (p ∷ ps) d rest
-    behind then some less =
-        let l = then some in
+    behind : Longest k (n + 1) ps d h → (waits_for k p ≡ true → 1 ≤ h.ticks → p.timers.wait.0 < h.ticks) → Longest k n (p ∷ ps) d h
+    behind l less =
         let up = l.is in record {
           index = suc l.index;
           there = omega (arith, l.there);
           is = omega (arith, up);
           waiting = l.waiting;
           ticks = l.ticks;
+          some = l.some;
           most = most l;
           lowest = lowest l;
         }
       where
-        most : Longest k (n + 1) ps d rest → (j : ℕ) → j < length (p ∷ ps) → waits_for k (get_or (p ∷ ps) j d) ≡ true → (get_or (p ∷ ps) j d).timers.wait.0 ≤ rest.ticks
-        most l zero j w = omega (arith, less w)
+        most : Longest k (n + 1) ps d h → (j : ℕ) → j < length (p ∷ ps) → waits_for k (get_or (p ∷ ps) j d) ≡ true → (get_or (p ∷ ps) j d).timers.wait.0 ≤ h.ticks
+        most l zero j w = omega (arith, less w l.some)
         most l (suc j) i w = l.most j (omega arith) w
 
-        lowest : (l : Longest k (n + 1) ps d rest) (j : ℕ) → j < suc l.index → waits_for k (get_or (p ∷ ps) j d) ≡ true → (get_or (p ∷ ps) j d).timers.wait.0 < rest.ticks
-        lowest l zero i w = less w
+        lowest : (l : Longest k (n + 1) ps d h) (j : ℕ) → j < suc l.index → waits_for k (get_or (p ∷ ps) j d) ≡ true → (get_or (p ∷ ps) j d).timers.wait.0 < h.ticks
+        lowest l zero i w = less w l.some
         lowest l (suc j) i w = l.lowest j (omega (arith, i)) w
 
-    here : 0 < wait_for k p → rest.ticks ≤ wait_for k p → Longest k n (p ∷ ps) d (record { port = n; ticks = wait_for k p })
-    here some less = record {
+    here : holds_back k p ≡ true → ticks_left rest ≤ p.timers.wait.0 → Longest k n (p ∷ ps) d (record { port = n; ticks = p.timers.wait.0 })
+    here holds less = record {
       index = 0;
       there = omega arith;
       is = omega arith;
-      waiting = some-waits k p some;
-      ticks = sym (waited k p (some-waits k p some));
+      waiting = (holding k p holds).0;
+      ticks = refl;
+      some = (holding k p holds).1;
       most = most;
       lowest = λ j i w. absurd (omega (arith, i));
     }
       where
-        most : (j : ℕ) → j < length (p ∷ ps) → waits_for k (get_or (p ∷ ps) j d) ≡ true → (get_or (p ∷ ps) j d).timers.wait.0 ≤ wait_for k p
-        most zero i w = let is = waited k p w in omega (arith, is)
-        most (suc j) i w = let r = none_left k (n + 1) ps d j (omega arith) w in omega (arith, r, less)
+        most : (j : ℕ) → j < length (p ∷ ps) → waits_for k (get_or (p ∷ ps) j d) ≡ true → (get_or (p ∷ ps) j d).timers.wait.0 ≤ p.timers.wait.0
+        most zero i w = omega arith
+        most (suc j) i w = let r = none-longer k (n + 1) ps d j (omega arith) w in omega (arith, r, less)
 
-    by : (1 ≤ rest.ticks → Longest k (n + 1) ps d rest) → (a : Bool) → ltb 0 (wait_for k p) ≡ a → (b : Bool) → leb rest.ticks (wait_for k p) ≡ b
-        → 1 ≤ (cond (a && b) (record { port = n; ticks = wait_for k p }) rest).ticks → Longest k n (p ∷ ps) d (cond (a && b) (record { port = n; ticks = wait_for k p }) rest)
-    by then true x true y h = here (ltb-true 0 (wait_for k p) x) (leb-true rest.ticks (wait_for k p) y)
-    by then true x false y h = behind then h (λ w. let is = waited k p w in let more = leb-false rest.ticks (wait_for k p) y in omega (arith, is, more))
-    by then false x b y h = behind then h (λ w. let is = waited k p w in let none = ltb-false 0 (wait_for k p) x in omega (arith, is, none, h))
+    by : (rest ≡ Some h → Longest k (n + 1) ps d h) → (a : Bool) → holds_back k p ≡ a → (b : Bool) → leb (ticks_left rest) p.timers.wait.0 ≡ b
+        → longer (cond a (Some p.timers.wait.0) None) n rest ≡ Some h → Longest k n (p ∷ ps) d h
+    by then true x true y e =
+        subst (Longest k n (p ∷ ps) d) (some_is (sym (rw y) ∙ e)) (here x (leb-true (ticks_left rest) p.timers.wait.0 y))
+    by then true x false y e =
+        let is : rest ≡ Some h = sym (rw y) ∙ e in
+        let more = leb-false (ticks_left rest) p.timers.wait.0 y in
+        behind (then is) (λ w some. omega (arith, more, ap ticks_left is))
+    by then false x b y e = behind (then e) (λ w some. omega (arith, unheld k p w x, some))

@@ -1,14 +1,14 @@
 -- Why a port does not carry: the first cause that applies, in an order in which the one that is named is one that a person can act on. Each says one thing of the
 -- records as they stand. A later request adds a cause with a number of its own.
-use Rattle.std.specs.Prelude.{ℕ, ◌+◌, Bool, true, false, cond, not, ◌&&◌, List, [], ◌∷◌, ltb, leb}
+use Rattle.std.specs.Prelude.{ℕ, ◌+◌, Bool, true, false, cond, not, ◌&&◌, List, [], ◌∷◌, leb, Option, Some, None}
 use Rattle.machine.specs.declared.states.Receive.{Receive}
 use Rattle.machine.specs.declared.states.Receive.TheVariants as receive
 use Rattle.machine.specs.Mux.{waits, distributes}
 use Rattle.machine.specs.Time.{ran_out}
 use Rattle.port.specs.declared.record.Port.{Port}
-use Rattle.trunk.specs.Ready.{waits_for, held_back}
+use Rattle.trunk.specs.Ready.{holds_back, held_back}
 use Rattle.why.specs.declared.cause.Cause.{Cause}
-use Rattle.why.specs.declared.cause.Cause.TheVariants.{NoCause, Carries, CarriesByDefault, LinkDown, HalfDuplex, Defaulted, Expired, Waits, HeldBack, OutOfSync, NotCollecting}
+use Rattle.why.specs.declared.cause.Cause.TheVariants.{Carries, CarriesByDefault, LinkDown, HalfDuplex, Defaulted, Expired, Waits, HeldBack, OutOfSync, NotCollecting}
 use Rattle.why.specs.declared.cause.Hold.{Hold}
 use Rattle.why.specs.declared.cause.Why.{Why}
 
@@ -43,7 +43,6 @@ is_by_default receive.Current = false
 
 -- of port p, for whose aggregator somebody waits with a timer still running, or not
 abbrev pub says : Bool → Port → Cause → Bool
-says held p NoCause = false
 says held p Carries = distributes p.phase.mux && not (is_by_default p.phase.receive)
 says held p CarriesByDefault = distributes p.phase.mux && is_by_default p.phase.receive
 says held p LinkDown = not p.line.up
@@ -60,68 +59,73 @@ says held p NotCollecting = p.partner.state.synchronization && not p.partner.sta
 abbrev pub order : List Cause
 order = Carries ∷ CarriesByDefault ∷ LinkDown ∷ HalfDuplex ∷ Defaulted ∷ Expired ∷ Waits ∷ HeldBack ∷ OutOfSync ∷ NotCollecting ∷ []
 
-unfoldable pub first_of : (Cause → Bool) → List Cause → Cause
-first_of f [] = NoCause
-first_of f (c ∷ cs) = cond (f c) c (first_of f cs)
+-- none in memory that no run made
+unfoldable pub first_of : (Cause → Bool) → List Cause → Option Cause
+first_of f [] = None
+first_of f (c ∷ cs) = cond (f c) (Some c) (first_of f cs)
 
-unfoldable pub cause_of : Bool → Port → Cause
+unfoldable pub cause_of : Bool → Port → Option Cause
 cause_of held p = first_of (says held p) order
 
 -- ---- who holds others back
 
--- the ticks that a port still waits for aggregator k, 0 where it does not wait for it
-unfoldable pub wait_for : ℕ → Port → ℕ
-wait_for k p = cond (waits_for k p) p.timers.wait.0 0
+-- the ticks that a port still waits for aggregator k, if it waits for it and some are left
+unfoldable pub wait_for : ℕ → Port → Option ℕ
+wait_for k p = cond (holds_back k p) (Some p.timers.wait.0) None
 
--- port n with this wait, if there is one and nobody of the others waits longer
-abbrev pub longer : ℕ → ℕ → Hold → Hold
-longer wait n others = cond (ltb 0 wait && leb others.ticks wait) (record { port = n; ticks = wait }) others
+abbrev pub ticks_left : Option Hold → ℕ
+ticks_left None = 0
+ticks_left (Some h) = h.ticks
 
-abbrev pub no_hold : Hold
-no_hold = record { port = 0; ticks = 0 }
+-- port n with this wait, unless another waits longer
+abbrev pub longer : Option ℕ → ℕ → Option Hold → Option Hold
+longer None n others = others
+longer (Some wait) n others = cond (leb (ticks_left others) wait) (Some (record { port = n; ticks = wait })) others
 
 -- of ports with the numbers n, n + 1, .., the one that waits longest for aggregator k, the lowest of several
-unfoldable pub longest : ℕ → ℕ → List Port → Hold
-longest k n [] = no_hold
+unfoldable pub longest : ℕ → ℕ → List Port → Option Hold
+longest k n [] = None
 longest k n (p ∷ ps) = longer (wait_for k p) n (longest k (n + 1) ps)
 
 -- ---- what is reported
 
--- beside a cause: `wait` is the port's own timer, and `hold` who holds its aggregator back
-abbrev pub detail : Cause → ℕ → Hold → Hold
-detail NoCause wait hold = no_hold
-detail Carries wait hold = no_hold
-detail CarriesByDefault wait hold = no_hold
-detail LinkDown wait hold = no_hold
-detail HalfDuplex wait hold = no_hold
-detail Defaulted wait hold = no_hold
-detail Expired wait hold = no_hold
-detail Waits wait hold = record { port = 0; ticks = wait }
-detail HeldBack wait hold = hold
-detail OutOfSync wait hold = no_hold
-detail NotCollecting wait hold = no_hold
+-- beside a cause: who holds the port's aggregator back
+abbrev pub holder : Option Cause → Option Hold → Option ℕ
+holder (Some HeldBack) (Some h) = Some h.port
+holder cause hold = None
+
+-- and the ticks that are left, `wait` of the port's own timer
+abbrev pub ticks : Option Cause → ℕ → Option Hold → ℕ
+ticks (Some Waits) wait hold = wait
+ticks (Some HeldBack) wait (Some h) = h.ticks
+ticks cause wait hold = 0
 
 -- of port p among these
 unfoldable pub why_of : List Port → Port → Why
 why_of ps p = record {
   cause = cause_of (held_back p.aggregator ps) p;
-  hold = detail (cause_of (held_back p.aggregator ps) p) p.timers.wait.0 (longest p.aggregator 1 ps);
+  holder = holder (cause_of (held_back p.aggregator ps) p) (longest p.aggregator 1 ps);
+  ticks = ticks (cause_of (held_back p.aggregator ps) p) p.timers.wait.0 (longest p.aggregator 1 ps);
 }
 
 -- beside a refusal
 abbrev pub no_why : Why
-no_why = record { cause = NoCause; hold = no_hold }
+no_why = record { cause = None; holder = None; ticks = 0 }
 
 -- the numbers in the C interface
-abbrev pub cause_number : Cause → ℕ
-cause_number NoCause = 0
-cause_number Carries = 1
-cause_number CarriesByDefault = 2
-cause_number LinkDown = 3
-cause_number HalfDuplex = 4
-cause_number Defaulted = 5
-cause_number Expired = 6
-cause_number Waits = 7
-cause_number HeldBack = 8
-cause_number OutOfSync = 9
-cause_number NotCollecting = 10
+abbrev pub number_of : Cause → ℕ
+number_of Carries = 1
+number_of CarriesByDefault = 2
+number_of LinkDown = 3
+number_of HalfDuplex = 4
+number_of Defaulted = 5
+number_of Expired = 6
+number_of Waits = 7
+number_of HeldBack = 8
+number_of OutOfSync = 9
+number_of NotCollecting = 10
+
+-- 0 where none is known
+abbrev pub cause_number : Option Cause → ℕ
+cause_number None = 0
+cause_number (Some c) = number_of c

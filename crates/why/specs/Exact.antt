@@ -1,5 +1,5 @@
 -- What is proved of the two reports on any records. `First`: a cause says what is so, and none that is asked for before it does.
-use Rattle.std.specs.Prelude.{ℕ, ◌+◌, ◌≤◌, ◌<◌, ◌≡◌, ◌≢◌, Bool, true, false, not, List, [], ◌∷◌, ◌++◌, length, get_or, eqb}
+use Rattle.std.specs.Prelude.{ℕ, ◌+◌, ◌≤◌, ◌<◌, ◌≡◌, ◌≢◌, Bool, true, false, not, List, [], ◌∷◌, ◌++◌, length, get_or, eqb, Option, Some}
 use Rattle.octets.specs.Sets.{member}
 use Rattle.machine.specs.Compare.{same_address, same_system}
 use Rattle.machine.specs.Mux.{distributes}
@@ -9,25 +9,17 @@ use Rattle.table.specs.declared.layout.Header.{Header}
 use Rattle.trunk.specs.Ready.{waits_for}
 use Rattle.trunk.specs.Selection.{nobody, shares_group}
 use Rattle.why.specs.declared.cause.Cause.{Cause}
-use Rattle.why.specs.declared.cause.Cause.TheVariants.{NoCause, Carries, CarriesByDefault, LinkDown, HalfDuplex, Defaulted, Expired, Waits, HeldBack, OutOfSync, NotCollecting}
+use Rattle.why.specs.declared.cause.Cause.TheVariants.{Carries, CarriesByDefault}
 use Rattle.why.specs.declared.cause.Hold.{Hold}
 use Rattle.why.specs.Cause.{says, order, cause_of, longest}
 use Rattle.why.specs.Apart.{apart_of, apart_number}
 
 -- ---- why
 
-abbrev pub is_carrying : Cause → Bool
-is_carrying NoCause = false
-is_carrying Carries = true
-is_carrying CarriesByDefault = true
-is_carrying LinkDown = false
-is_carrying HalfDuplex = false
-is_carrying Defaulted = false
-is_carrying Expired = false
-is_carrying Waits = false
-is_carrying HeldBack = false
-is_carrying OutOfSync = false
-is_carrying NotCollecting = false
+abbrev pub is_carrying : Option Cause → Bool
+is_carrying (Some Carries) = true
+is_carrying (Some CarriesByDefault) = true
+is_carrying cause = false
 
 -- 'carries' exactly if the port distributes
 abbrev pub CarryingTrue : Type 0
@@ -50,24 +42,25 @@ First held p c = FirstIn (says held p) c order
 
 -- each cause is given exactly then
 pub record CauseTrue (held : Bool) (p : Port) (c : Cause) : Type 0 where
-  pub only : cause_of held p ≡ c → First held p c
-  pub whenever : First held p c → cause_of held p ≡ c
+  pub only : cause_of held p ≡ Some c → First held p c
+  pub whenever : First held p c → cause_of held p ≡ Some c
 
 abbrev pub CausesTrue : Type 0
-CausesTrue = (held : Bool) (p : Port) (c : Cause) → c ≢ NoCause → CauseTrue held p c
+CausesTrue = (held : Bool) (p : Port) (c : Cause) → CauseTrue held p c
 
--- of ports with the numbers from n on, one waits for aggregator k: so many ticks more, nobody waits longer, and who has a lower number waits less long
+-- of ports with the numbers from n on, one waits for aggregator k: so many ticks more, of which some are left, nobody waits longer, and who has a lower number waits less long
 pub record Longest (k n : ℕ) (ps : List Port) (d : Port) (h : Hold) : Type 0 where
   pub index : ℕ
   pub there : index < length ps
   pub is : h.port ≡ n + index
   pub waiting : waits_for k (get_or ps index d) ≡ true
   pub ticks : (get_or ps index d).timers.wait.0 ≡ h.ticks
+  pub some : 1 ≤ h.ticks
   pub most : (j : ℕ) → j < length ps → waits_for k (get_or ps j d) ≡ true → (get_or ps j d).timers.wait.0 ≤ h.ticks
   pub lowest : (j : ℕ) → j < index → waits_for k (get_or ps j d) ≡ true → (get_or ps j d).timers.wait.0 < h.ticks
 
 abbrev pub LongestTrue : Type 0
-LongestTrue = (k n : ℕ) (ps : List Port) (d : Port) → 1 ≤ (longest k n ps).ticks → Longest k n ps d (longest k n ps)
+LongestTrue = (k n : ℕ) (ps : List Port) (d : Port) (h : Hold) → longest k n ps ≡ Some h → Longest k n ps d h
 
 -- ---- apart
 

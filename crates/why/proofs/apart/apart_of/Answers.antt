@@ -3,7 +3,7 @@ use Prim.Native.Nat.{ℕ, ◌<◌}
 use mathlib.Core.Path.{◌≡◌, sym, ap, ap₂, ◌∙◌}
 use mathlib.Core.List.{List, map}
 use lib.ListN.{get_or}
-use borrow.Author.Tests.{eq-eqb, ne_eqb}
+use borrow.Author.Tests.{ne_eqb}
 use Rattle.octets.proofs.ListLaws.{map_at}
 use Rattle.port.specs.Compared.{Compared, compared}
 use Rattle.table.specs.Keys.{compared_by}
@@ -18,10 +18,6 @@ use Rattle.why.proofs.apart.apart_of.Goals as goal
 -- what is compared of a port
 read_at : (t : List ℕ) (i : ℕ) → i < count_in t → compared (port_at t i) ≡ get_or (map compared (ports t)) i nobody
 read_at t i h = sym (map_at compared (ports t) i nobody (port_at t i) (rw ports-length h) ∙ ap compared (ports-at t i (port_at t i) h))
-
-pub returns-then-i-j : goal.returns-then-i-j
-unfolding apart_of
-returns-then-i-j c = c.nothing.ensures ∙ sym (rw (eq-eqb c.args.i c.args.j c.if-i-j.true))
 
 pub returns : goal.returns
 unfolding apart_of

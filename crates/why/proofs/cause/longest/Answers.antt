@@ -3,38 +3,18 @@ use Prim.Native.Nat.{ℕ, suc, ◌+◌, ◌-◌, ◌<◌}
 use mathlib.Core.Path.{◌≡◌, sym, ap, ap₂, ◌∙◌}
 use native.Mathlib.Omega.{arith}
 use lib.ListN.{drop, get_or}
+use Rattle.std.specs.Prelude.{Option}
 use Rattle.table.specs.Table.{count_in, ports, port_at}
 use Rattle.table.proofs.StoreLaws.{ports-length, ports-at}
-use Rattle.table.proofs.TableLaws.{in_range}
 use Rattle.why.specs.declared.cause.Hold.{Hold}
 use Rattle.why.specs.Cause.{wait_for, longer, longest}
 use Rattle.why.proofs.CauseLaws.{longest-next, longest_end}
 use Rattle.why.proofs.cause.longest.Goals as goal
 
-pub count-i-requires : goal.count-i-requires
-count-i-requires c = c.requires
-
 pub loop-i-init : goal.loop-i-init
 loop-i-init c =
     let t = c.args.table.now in
     (omega (arith, c.count-i.ensures), sym (longest_end c.args.k (c.count-i.result + 1) (ports t) c.count-i.result (ports-length t ∙ sym c.count-i.ensures)))
-
-pub overflow_cast-n : goal.overflow_cast-n
-overflow_cast-n c =
-    let r = in_range c.args.table.now c.requires in
-    omega (arith, c.loop-i.invariant.0, r.most)
-
-pub overflow_sub-i : goal.overflow_sub-i
-overflow_sub-i c = omega arith
-
-pub wait_for-requires : goal.wait_for-requires
-wait_for-requires c = (c.requires, omega (arith, c.loop-i.invariant.0))
-
-pub longer-hold-requires : goal.longer-hold-requires
-longer-hold-requires c = tt
-
-pub loop-i-smaller : goal.loop-i-smaller
-loop-i-smaller c = omega arith
 
 pub loop-i-preserved : goal.loop-i-preserved
 loop-i-preserved c =
@@ -43,15 +23,14 @@ loop-i-preserved c =
     let inv = c.loop-i.invariant in
     let i = c.loop-i.i in
     let less : i - 1 < count_in t = omega (arith, inv.0) in
-    let back : suc (i - 1) ≡ i = omega arith in
-    let up : i - 1 + 1 ≡ i = omega arith in
+    let over : i + 1 ≡ i - 1 + 1 + 1 = omega arith in
+    let next : i ≡ suc (i - 1) = omega arith in
     let here : wait_for a.k (port_at t (i - 1)) ≡ wait_for a.k (get_or (ports t) (i - 1) (port_at t (i - 1))) = ap (wait_for a.k) (sym (ports-at t (i - 1) (port_at t (i - 1)) less)) in (
       omega (arith, inv.0),
       c.longer-hold.ensures
-          ∙ ap₂ (λ (w : ℕ) (h : Hold). longer w i h) (c.wait_for.ensures ∙ here) inv.1
-          ∙ ap (λ (m : ℕ). longer (wait_for a.k (get_or (ports t) (i - 1) (port_at t (i - 1)))) i (longest a.k (i + 1) (drop m (ports t)))) (sym back)
-          ∙ sym (longest-next a.k (ports t) (i - 1) i (port_at t (i - 1)) (rw ports-length less))
-          ∙ ap (λ (m : ℕ). longest a.k m (drop (i - 1) (ports t))) (sym up),
+          ∙ ap₂ (λ (w : Option ℕ) (h : Option Hold). longer w (i - 1 + 1) h)
+          (c.wait_for.ensures ∙ here) (inv.1 ∙ ap₂ (λ (m n : ℕ). longest a.k m (drop n (ports t))) over next)
+          ∙ sym (longest-next a.k (ports t) (i - 1) (i - 1 + 1) (port_at t (i - 1)) (rw ports-length less)),
     )
 
 pub returns : goal.returns

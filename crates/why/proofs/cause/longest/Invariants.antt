@@ -8,6 +8,3 @@ use Rattle.why.proofs.cause.longest.Given as goal
 
 abbrev pub invariant-loop-i : goal.invariant-loop-i
 invariant-loop-i l = (l.i ≤ count_in l.table) × (l.hold ≡ longest l.k (l.i + 1) (drop l.i (ports l.table)))
-
-abbrev pub decreases-loop-i : goal.decreases-loop-i
-decreases-loop-i l = l.i
