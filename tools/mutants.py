@@ -281,7 +281,7 @@ MUTANTS = [
         ("control/specs/After.antt", "outgoing c t = unless (answer c t) (buffer_of c) (written_by c t)", "outgoing c t = unless (answer c t) [] (written_by c t)"),)),
     Mutant("1 the rule afresh", "bystanders forgotten", ("rule-afresh",), "trunk::select::must_move", (
         ("trunk/specs/Settled.antt", "|| not (eqb p.aggregator k)", "|| not (eqb p.aggregator p.aggregator)"),
-        ("trunk/src/select.rt", "is_unselected(s) | !(held == k)", "is_unselected(s) | !(held == held)"))),
+        ("trunk/src/select.rt", "(table::aggregator(table, i) != k)", "(table::aggregator(table, i) != table::aggregator(table, i))"))),
     Mutant("2 distributing is earned", "DISTRIBUTING without a partner that collects", ("distributing-earned",), "machine::mux::next", (
         ("machine/specs/Mux.antt", "mux_next Distributing Selected ready true false = Some Collecting", "mux_next Distributing Selected ready true false = None"),
         ("machine/src/mux.rt", "(Mux::Distributing, Selection::Selected, _, true, false) => Some(Mux::Collecting)",
@@ -436,10 +436,10 @@ MUTANTS = [
         ("trunk/specs/Settled.antt", "attached_all ps = map (attaching ps) ps", "attached_all ps = map (λ p. attached_if (eqb p.timers.wait.0 0) p) ps"),)),
     Mutant("case 3, 5 and 2", "a partner that aggregates taken for individual", ("sharing", "learned"), "trunk::select::is_individual", (
         ("trunk/specs/Selection.antt", "not c.partner_aggregation", "c.partner_aggregation"),
-        ("trunk/src/select.rt", "(!c.willing | same_system(system, us))", "(c.willing | same_system(system, us))"))),
+        ("trunk/src/select.rt", "(!c.willing | (c.system == ours.system))", "(c.willing | (c.system == ours.system))"))),
     Mutant("case 2, 4 and 3, 5", "partner systems not compared", ("parted", "gone-over"), "trunk::select::same_group", (
         ("trunk/specs/Selection.antt", "(same_system c.system d.system &&", "(same_system c.system c.system &&"),
-        ("trunk/src/select.rt", "(same_system(s, t) & (c.theirs == d.theirs))", "(same_system(s, s) & (c.theirs == d.theirs))"))),
+        ("trunk/src/select.rt", "((c.system == d.system) & (c.theirs == d.theirs))", "((c.system == c.system) & (c.theirs == d.theirs))"))),
     Mutant("case silence", "a long timeout of 899 ticks", ("silence",), "machine::receive::timeout_time", (
         ("machine/specs/Time.antt", "long_timeout_time = 900", "long_timeout_time = 899"), ("machine/src/receive.rt", "LONG_TIMEOUT_TIME: Ticks = Ticks(900)", "LONG_TIMEOUT_TIME: Ticks = Ticks(899)"))),
     Mutant("case silence", "EXPIRED for 29 ticks", ("silence",), "machine::receive::timeout_time", (

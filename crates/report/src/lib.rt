@@ -1,14 +1,14 @@
 // Reports of several ports as 32-bit sets: those that hold an aggregator, are attached to it and distribute, and those that have an LACPDU to send.
 #![tactic(auto)]
 
-ghost use Rattle.std.specs.Prelude.{◌≡◌, true, length};
+ghost use Rattle.std.specs.Prelude.{◌≡◌, true};
 ghost use Rattle.frame.specs.State.{weighed};
 ghost use Rattle.port.specs.Transmit.{is_due};
-ghost use Rattle.table.specs.Layout.{record_size};
 ghost use Rattle.table.specs.Record.{decoded};
 ghost use Rattle.table.specs.Table.{table_in_range, InTable, ports, port_at};
 ghost use Rattle.report.specs.Sets.{stands, set_of, lowest_of, sets_of, due_of};
 
+use table::layout::RECORD;
 use table::record::{ages_in, line_in, ntt_in};
 
 // How a port stands to an aggregator; or, whichever it holds, that it has an LACPDU to send.
@@ -31,8 +31,7 @@ pub struct Sets {
 }
 
 // Whether an LACPDU is due on the port with these octets, of which NTT, link, duplex and ages are looked at.
-fn is_due(s: &[u8]) -> bool
-    requires { length s.now ≡ record_size }
+fn is_due(s: &[u8; RECORD]) -> bool
     ensures { result ≡ is_due (decoded s.now) }
 {
     let line = line_in(s);

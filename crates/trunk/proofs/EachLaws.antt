@@ -1,8 +1,8 @@
 -- What each of steps 3 to 6 keeps of a port, they keep together of every port. By the record at each index. Assumes nothing.
-use Prim.Native.Nat.{ℕ, ◌<◌, ◌≤◌}
-use mathlib.Core.Path.{◌≡◌}
+use Prim.Native.Nat.{ℕ, suc, ◌<◌, ◌≤◌}
+use mathlib.Core.Path.{◌≡◌, refl}
 use mathlib.Core.Bool.{Bool, true}
-use mathlib.Core.List.{List, map}
+use mathlib.Core.List.{List, [], ◌∷◌, map}
 use native.Mathlib.Omega.{arith}
 use lib.ListN.{length, get_or}
 use Rattle.octets.specs.Lists.{Each}
@@ -53,3 +53,8 @@ settled-fits count s ps n e =
     (λ k p a b h. reselected-ranged count k p (within-is 1 k count a (omega arith)) h)
     (λ r p h. attached-ranged count r p h)
     (λ p h. muxed-ranged count p h) e
+
+-- where two functions agree on every element, so do their maps
+pub map_alike : {A B : Type 0} (f g : A → B) (xs : List A) → Each (λ (x : A). f x ≡ g x) xs → map f xs ≡ map g xs
+map_alike f g [] e = refl
+map_alike f g (x ∷ xs) e = λ k. e 0 x (omega arith) k ∷ map_alike f g xs (λ i d h. e (suc i) d (omega arith)) k

@@ -9,13 +9,13 @@ use lib.ListN.{length, get_or, length-map}
 use lib.Seq.{ext_get_or}
 use lib.Dec.{eqb}
 use borrow.Author.Tests.{eq-eqb, not-false}
+use Rattle.std.specs.Prelude.{None}
 use Rattle.octets.specs.Lists.{map_from}
 use Rattle.octets.proofs.ListLaws.{map_at}
 use Rattle.machine.specs.declared.states.Mux.{Mux}
 use Rattle.machine.specs.declared.states.Mux.TheVariants.{Detached, Waiting, Attached, Collecting, Distributing}
 use Rattle.machine.specs.declared.states.Selection.{Selection}
 use Rattle.machine.specs.declared.states.Selection.TheVariants.{Unselected, Selected}
-use Rattle.machine.specs.declared.mux.MuxStep.TheVariants.{Stay}
 use Rattle.machine.specs.Mux.{mux_next, waits, is_attached}
 use Rattle.machine.specs.Time.{ran_out}
 use Rattle.port.specs.declared.record.Port.{Port}
@@ -36,7 +36,7 @@ use Rattle.trunk.proofs.SettledLaws.{chosen-kept, reselected-stays, attached-hol
 
 -- no transition enters the state that it leaves
 no_loop : (m : Mux) (s : Selection) (ready sync coll : Bool) (p : Port) → p.phase.mux ≡ m → mux_taken (mux_next m s ready sync coll) p ≡ p
-    → mux_next m s ready sync coll ≡ Stay
+    → mux_next m s ready sync coll ≡ None
 no_loop Detached Unselected ready sync coll p h e = refl
 no_loop Detached Selected ready sync coll p h e = let x : Waiting ≡ Detached = ap (λ (q : Port). q.phase.mux) e ∙ h in cc
 no_loop Waiting Unselected ready sync coll p h e = let x : Detached ≡ Waiting = ap (λ (q : Port). q.phase.mux) e ∙ h in cc
@@ -55,13 +55,13 @@ no_loop Distributing Selected ready true false p h e = let x : Collecting ≡ Di
 no_loop Distributing Selected ready false coll p h e = let x : Collecting ≡ Distributing = ap (λ (q : Port). q.phase.mux) e ∙ h in cc
 
 -- a port at rest takes no step
-pub rest_chooses : (p : Port) → mux_step false p ≡ p → mux_choice false p ≡ Stay
+pub rest_chooses : (p : Port) → mux_step false p ≡ p → mux_choice false p ≡ None
 unfolding mux_step mux_choice
 rest_chooses p e =
     no_loop p.phase.mux p.phase.selected false p.partner.state.synchronization p.partner.state.collecting p refl e
 
 -- nor does it with NTT cleared
-if-rests : (b : Bool) (p : Port) → mux_choice false p ≡ Stay → mux_step false (cond b (with_ntt p false) p) ≡ cond b (with_ntt p false) p
+if-rests : (b : Bool) (p : Port) → mux_choice false p ≡ None → mux_step false (cond b (with_ntt p false) p) ≡ cond b (with_ntt p false) p
 unfolding mux_step mux_choice
 if-rests true p e = rw e
 if-rests false p e = rw e

@@ -8,8 +8,8 @@ use lib.ListN.{length, get_or, set, length-map, length-set}
 use lib.Seq.{ext_get_or, get_or-set_same, get_or-set_other, map-set_same}
 use lib.Dec.{eqb}
 use borrow.Author.Tests.{eqb-true, eqb-false}
+use Rattle.std.specs.Prelude.{None}
 use Rattle.octets.proofs.ListLaws.{map_at}
-use Rattle.machine.specs.declared.mux.MuxStep.TheVariants.{Stay}
 use Rattle.machine.specs.Mux.{waits}
 use Rattle.port.specs.declared.record.Port.{Port}
 use Rattle.port.specs.Record.{with_ntt}
@@ -34,7 +34,7 @@ unfolding mux_choice
 cleared_chooses p = ap (λ (x : Port). mux_choice false x) (cleared_keeps p)
 
 -- where step 6 changes nothing, the mux machine stays and NTT is clear where it is to be
-muxed-stays : (p : Port) → Chosen p → muxed p ≡ p → mux_choice false p ≡ Stay
+muxed-stays : (p : Port) → Chosen p → muxed p ≡ p → mux_choice false p ≡ None
 unfolding muxed
 muxed-stays p s e = ap (mux_choice false) (sym e) ∙ cleared_chooses (mux_run p) ∙ rest_chooses (mux_run p) (chosen-rests p s)
 
@@ -42,11 +42,11 @@ muxed_cleared : (p : Port) → muxed p ≡ p → ntt_cleared p ≡ p
 unfolding muxed
 muxed_cleared p e = ap ntt_cleared (sym e) ∙ cleared_twice (mux_run p) ∙ e
 
-muxed-is : (p : Port) → mux_choice false p ≡ Stay → ntt_cleared p ≡ p → muxed p ≡ p
+muxed-is : (p : Port) → mux_choice false p ≡ None → ntt_cleared p ≡ p → muxed p ≡ p
 unfolding muxed
 muxed-is p c q = ap ntt_cleared (mux-idle p (stays p c)) ∙ q
   where
-    stays : (p : Port) → mux_choice false p ≡ Stay → mux_step false p ≡ p
+    stays : (p : Port) → mux_choice false p ≡ None → mux_step false p ≡ p
     stays p c = unfold mux_step in rw c
 
 -- ---- one port in all of them: k is what the rule gives it, r what Ready says of each aggregator
@@ -55,7 +55,7 @@ pub record Firm (k : ℕ) (r : ℕ → Bool) (p : Port) : Type 0 where
   pub chosen : Chosen p
   pub rule : p.aggregator ≡ k
   pub unready : waits p.phase.mux ≡ true → r p.aggregator ≡ false
-  pub stays : mux_choice false p ≡ Stay
+  pub stays : mux_choice false p ≡ None
   pub quiet : ntt_cleared p ≡ p
 
 -- ---- a list

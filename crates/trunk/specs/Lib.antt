@@ -2,5 +2,4 @@ pub mod Selection
 pub mod Ready
 pub mod Settled
 pub mod Displaced
-pub mod Sweep
 pub mod Groups

@@ -5,22 +5,17 @@ ghost use Rattle.trunk.specs.Displaced.{is_displaced, displaced_if};
 ghost use Rattle.table.specs.Leaves.{Became};
 
 use frame::block::Block;
-use machine::compare::same_address;
-use machine::receive::is_disabled;
+use machine::states::Receive;
 use port::record::Port;
 
 // In PORT_DISABLED, with a partner whose system address and port are those of the block `a`.
+#[tactic(auto, unfolding(crate::specs::Displaced::is_displaced, machine::specs::Compare::same_address))]
 fn is_displaced(p: Port, a: Block) -> bool
     ensures { result ≡ is_displaced a p }
 {
-    let h = p.phase;
-    let s = h.receive;
-    let partner = p.partner;
-    let x = partner.system.address;
-    let y = a.system.address;
-    let m = partner.port.number;
-    let n = a.port.number;
-    is_disabled(s) & (same_address(x, y) & (m == n))
+    (p.phase.receive == Receive::PortDisabled)
+        & ((p.partner.system.address == a.system.address)
+            & (p.partner.port.number == a.port.number))
 }
 
 // What port i does when port r heard the block `a`: a port that is not displaced is left alone.
@@ -28,13 +23,10 @@ pub fn displace_one(table: &mut [u8], i: usize, r: usize, a: Block)
     requires { InTable table.old i }
     ensures { Became table.old table.new i (displaced_if r a i (port_at table.old i)) }
 {
-    let h = table::phase(table, i);
-    let s = h.receive;
-    if is_disabled(s) {
+    if table::phase(table, i).receive == Receive::PortDisabled {
         let p = table::load(table, i);
-        if !(i == r) & is_displaced(p, a) {
-            let q = p.moved_away();
-            table::store(table, i, q);
+        if (i != r) & is_displaced(p, a) {
+            table::store(table, i, p.moved_away());
         }
     }
 }

@@ -9,6 +9,7 @@ ghost use Rattle.trunk.specs.Settled.{AllChosen, attached_all};
 ghost use Rattle.trunk.specs.Groups.{may_attach, attached_unless};
 ghost use Rattle.table.specs.Leaves.{Leaves, Became};
 
+use crate::sweep::sweep;
 use octets::sets;
 
 // Whether port i waits with its timer still running.
@@ -16,10 +17,7 @@ fn holds_back(table: &[u8], i: usize) -> bool
     requires { InTable table.now i }
     ensures { result ≡ waits (port_at table.now i).phase.mux && not (ran_out (port_at table.now i).timers.wait) }
 {
-    let h = table::phase(table, i);
-    let m = h.mux;
-    let timers = table::timers(table, i);
-    m.waits() & !(timers.wait.0 == 0)
+    table::phase(table, i).mux.waits() & (table::timers(table, i).wait.0 != 0)
 }
 
 // The aggregators that some port holds back, bit 0 the first.
@@ -28,9 +26,7 @@ fn held_back(table: &[u8]) -> u32
     ensures { (k : ℕ) → member result k ≡ held_back (k + 1) (ports table.now) }
 {
     let mut set: u32 = 0;
-    let mut i = table::count(table);
-    while 0 < i {
-        i -= 1;
+    for i in (0..table::count(table)).rev() {
         if holds_back(table, i) {
             set = sets::with(set, (table::aggregator(table, i) - 1) as usize);
         }
@@ -43,12 +39,8 @@ fn may_attach(table: &[u8], i: usize, held: u32) -> bool
     requires { InTable table.now i }
     ensures { result ≡ may_attach held (port_at table.now i) }
 {
-    let h = table::phase(table, i);
-    let m = h.mux;
-    if m.waits() {
-        return !sets::has(held, (table::aggregator(table, i) - 1) as usize);
-    }
-    false
+    table::phase(table, i).mux.waits()
+        && !sets::has(held, (table::aggregator(table, i) - 1) as usize)
 }
 
 // Step 5 for port i. A port that does not wait, or is held back, is left alone.
@@ -58,8 +50,7 @@ fn attach_one(table: &mut [u8], i: usize, held: u32)
 {
     if may_attach(table, i, held) {
         let p = table::load(table, i);
-        let q = p.attach(true);
-        table::store(table, i, q);
+        table::store(table, i, p.attach(true));
     }
 }
 
@@ -69,11 +60,6 @@ pub fn attach_all(table: &mut [u8])
     requires { (table_in_range table.old ≡ true) × AllChosen (ports table.old) }
     ensures { Leaves table.old table.new (attached_all (ports table.old)) }
 {
-    let n = table::count(table);
     let held = held_back(table);
-    let mut i: usize = 0;
-    while i < n {
-        attach_one(table, i, held);
-        i += 1;
-    }
+    sweep(table, |table, i| attach_one(table, i, held));
 }

@@ -1,6 +1,6 @@
 // The selection rule (43.4.14) by sets of ports, and steps 3 and 4. Groups are worked out from what the rule compares, each once; a whole
 // record is loaded for a port that moves, and for no other.
-ghost use Rattle.std.specs.Prelude.{◌≡◌, true, false, cond, map, ℕ, ◌<◌, leb};
+ghost use Rattle.std.specs.Prelude.{◌≡◌, true, false, map, ℕ, ◌<◌};
 ghost use Rattle.octets.specs.Lists.{map_from};
 ghost use Rattle.octets.specs.Octets.{within};
 ghost use Rattle.octets.specs.Sets.{member};
@@ -12,28 +12,25 @@ ghost use Rattle.trunk.specs.Settled.{must_move, reselected, selected_all};
 ghost use Rattle.trunk.specs.Groups.{since, placing};
 ghost use Rattle.table.specs.Leaves.{Leaves, Became};
 
-use machine::compare::same_system;
-use machine::mux::is_unselected;
+use machine::states::Selection;
 use octets::sets;
 use table::layout::Header;
 use table::record::{Keys, neighbour_in};
 
 // Own or partner's Aggregation clear, or the partner is our own system.
+#[tactic(auto, unfolding(crate::specs::Selection::individual, machine::specs::Compare::same_system, machine::specs::Compare::same_address))]
 fn is_individual(c: Keys, ours: Header) -> bool
     ensures { result ≡ individual ours (compared_by c) }
 {
-    let system = c.system;
-    let us = ours.system;
-    !c.aggregation | (!c.willing | same_system(system, us))
+    !c.aggregation | (!c.willing | (c.system == ours.system))
 }
 
 // Whether two ports, not one and the same, are in one group (R10.2).
+#[tactic(auto, unfolding(crate::specs::Selection::same_group, crate::specs::Selection::same_keys, machine::specs::Compare::same_system, machine::specs::Compare::same_address))]
 fn same_group(c: Keys, d: Keys, ours: Header) -> bool
     ensures { result ≡ same_group ours (compared_by c) (compared_by d) }
 {
-    let s = c.system;
-    let t = d.system;
-    let keys = (c.key == d.key) & (same_system(s, t) & (c.theirs == d.theirs));
+    let keys = (c.key == d.key) & ((c.system == d.system) & (c.theirs == d.theirs));
     !is_individual(c, ours) & (!is_individual(d, ours) & keys)
 }
 
@@ -42,11 +39,8 @@ fn shares(table: &[u8], j: usize, c: Keys, ours: Header) -> bool
     requires { InTable table.now j }
     ensures { result ≡ same_group ours (compared_by c) (compared (port_at table.now j)) }
 {
-    let low = c.system.address.low;
-    if neighbour_in(table::look(table, j)) == low {
-        return same_group(c, table::keys(table, j), ours);
-    }
-    false
+    (neighbour_in(table::look(table, j)) == c.system.address.low)
+        && same_group(c, table::keys(table, j), ours)
 }
 
 // Port i and the later ports of its group. An individual port has none.
@@ -54,29 +48,24 @@ fn group_of(table: &[u8], i: usize, ours: Header) -> u32
     requires { InTable table.now i }
     ensures { (m : ℕ) → member result m ≡ since ours (map compared (ports table.now)) i m }
 {
-    let n = table::count(table);
     let c = table::keys(table, i);
     let mut set = sets::with(0, i);
     if is_individual(c, ours) {
         return set;
     }
-    let mut j = i + 1;
-    while j < n {
+    for j in i + 1..table::count(table) {
         set = sets::with_if(set, j, shares(table, j, c, ours));
-        j += 1;
     }
     set
 }
 
 // UNSELECTED, or k is not what port i holds.
+#[tactic(auto, unfolding(crate::specs::Settled::must_move))]
 fn must_move(table: &[u8], i: usize, k: u8) -> bool
     requires { InTable table.now i }
     ensures { result ≡ must_move k (port_at table.now i) }
 {
-    let h = table::phase(table, i);
-    let s = h.selected;
-    let held = table::aggregator(table, i);
-    is_unselected(s) | !(held == k)
+    (table::phase(table, i).selected == Selection::Unselected) | (table::aggregator(table, i) != k)
 }
 
 // Steps 3 and 4 for port i, which is to hold aggregator k. A port that must move goes state by state down to DETACHED, and only then to
@@ -87,15 +76,8 @@ fn select_one(table: &mut [u8], i: usize, k: u8)
 {
     if must_move(table, i, k) {
         let p = table::load(table, i);
-        let q = p.detach().place(k);
-        table::store(table, i, q);
+        table::store(table, i, p.detach().place(k));
     }
-}
-
-fn lesser(a: usize, b: usize) -> usize
-    ensures { result ≡ cond (leb a b) a b }
-{
-    if a <= b { a } else { b }
 }
 
 // Steps 3 and 4 for the ports of a set, none of which is before port i: they are to hold its aggregator.
@@ -103,14 +85,10 @@ fn select_set(table: &mut [u8], set: u32, i: usize)
     requires { InTable table.old i × ((m : ℕ) → m < i → member set m ≡ false) }
     ensures { Leaves table.old table.new (map_from (placing set i) 0 (ports table.old)) }
 {
-    let n = lesser(table::count(table), sets::end(set));
     let k = (i + 1) as u8;
-    let mut j = i;
-    while j < n {
-        let at = j;
-        j += 1;
-        if sets::has(set, at) {
-            select_one(table, at, k);
+    for j in i..table::count(table).min(sets::end(set)) {
+        if sets::has(set, j) {
+            select_one(table, j, k);
         }
     }
 }
@@ -120,15 +98,11 @@ pub fn select_all(table: &mut [u8], ours: Header)
     requires { table_in_range table.old ≡ true }
     ensures { Leaves table.old table.new (selected_all ours (ports table.old)) }
 {
-    let n = table::count(table);
     let mut done: u32 = 0;
-    let mut i: usize = 0;
-    while i < n {
-        let at = i;
-        i += 1;
-        if !sets::has(done, at) {
-            let set = group_of(table, at, ours);
-            select_set(table, set, at);
+    for i in 0..table::count(table) {
+        if !sets::has(done, i) {
+            let set = group_of(table, i, ours);
+            select_set(table, set, i);
             done = sets::all_of(done, set);
         }
     }

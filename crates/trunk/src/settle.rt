@@ -7,7 +7,7 @@ ghost use Rattle.table.specs.Leaves.{Leaves};
 
 use crate::ready::attach_all;
 use crate::select::select_all;
-use crate::sweep::{Step, sweep};
+use crate::sweep::mux_all;
 
 // Steps 3 to 5 for all ports. A start calls it too, beside `settle`: with two callers it keeps a frame of its own, which is large, and gone
 // before step 6.
@@ -26,5 +26,5 @@ pub fn settle(table: &mut [u8])
     ensures { Leaves table.old table.new (settled (header_of table.old) (ports table.old)) }
 {
     join_all(table);
-    sweep(table, Step::Mux);
+    mux_all(table);
 }

@@ -1,85 +1,61 @@
-// What every port does in turn, the first port first. A further step for each port is one more variant, a function with its arm, and one
-// more line of `stepped`.
-ghost use Rattle.std.specs.Prelude.{◌≡◌, true, length};
+// What every port does in turn, the first port first.
+ghost use Rattle.std.specs.Prelude.{◌≡◌, true, map, ℕ};
+ghost use Rattle.octets.specs.Lists.{map_from};
 ghost use Rattle.port.specs.Mux.{mux_run};
 ghost use Rattle.port.specs.Receive.{receive_run, rests_receive};
 ghost use Rattle.port.specs.Periodic.{periodic_run, rests_periodic};
 ghost use Rattle.port.specs.Transmit.{ticked, advanced, is_settled};
-ghost use Rattle.table.specs.Layout.{record_size};
 ghost use Rattle.table.specs.Record.{decoded};
 ghost use Rattle.table.specs.Table.{table_in_range, InTable, ports, port_at};
 ghost use Rattle.trunk.specs.Settled.{muxed};
-ghost use Rattle.trunk.specs.Sweep.{stepped, swept};
+ghost use Rattle.trunk.specs.Displaced.{displaced};
 ghost use Rattle.table.specs.Leaves.{Leaves, Became};
 
 use crate::displace::displace_one;
 use frame::block::Block;
 use port::record::Port;
+use table::layout::RECORD;
 use table::record::{actor_in, ages_in, line_in, ntt_in, partner_in, phase_in, timers_in};
-
-#[derive(Clone, Copy)]
-pub enum Step {
-    // Steps 1 and 2 of a tick: timers fall, sends grow older, and the receive machine runs.
-    Tick,
-    // The periodic machine.
-    Periodic,
-    // Step 6: the mux machine, and NTT cleared where it is to be.
-    Mux,
-    // The port with this index heard this block: any other port that it displaces does INITIALIZE, then PORT_DISABLED.
-    Displaced(usize, Block),
-}
 
 // ---- whether a step leaves a record as it is, from the few of its octets that the step looks at
 
 // The receive machine stays.
-fn rests_receive(s: &[u8]) -> bool
-    requires { length s.now ≡ record_size }
+#[tactic(auto, unfolding(port::specs::Receive::rests_receive, port::specs::Receive::receive_choice, table::specs::Record::decoded))]
+fn rests_receive(s: &[u8; RECORD]) -> bool
     ensures { result ≡ rests_receive (decoded s.now) }
 {
-    let h = phase_in(s);
-    let state = h.receive;
     let line = line_in(s);
-    let timers = timers_in(s);
-    let out = timers.current.0 == 0;
-    machine::receive::next(state, line.up, line.full, out).stays()
+    let out = timers_in(s).current.0 == 0;
+    machine::receive::next(phase_in(s).receive, line.up, line.full, out).is_none()
 }
 
 // The periodic machine stays, and has nothing to stop.
-fn rests_periodic(s: &[u8]) -> bool
-    requires { length s.now ≡ record_size }
+#[tactic(auto, unfolding(port::specs::Periodic::rests_periodic, table::specs::Record::decoded))]
+fn rests_periodic(s: &[u8; RECORD]) -> bool
     ensures { result ≡ rests_periodic (decoded s.now) }
 {
-    let h = phase_in(s);
-    let state = h.periodic;
-    let line = line_in(s);
-    let us = actor_in(s);
     let them = partner_in(s);
-    let timers = timers_in(s);
-    let out = timers.periodic.0 == 0;
-    let quiet = line.is_quiet(!us.activity & !them.activity);
-    machine::periodic::rests(state, quiet, out, them.timeout)
+    let out = timers_in(s).periodic.0 == 0;
+    let quiet = line_in(s).is_quiet(!actor_in(s).activity & !them.activity);
+    machine::periodic::rests(phase_in(s).periodic, quiet, out, them.timeout)
 }
 
 // The mux machine stays, and there is no NTT to be cleared.
-fn is_settled(s: &[u8]) -> bool
-    requires { length s.now ≡ record_size }
+#[tactic(auto, unfolding(port::specs::Transmit::is_settled, port::specs::Mux::rests_mux, port::specs::Mux::mux_choice, port::specs::Transmit::silent, table::specs::Record::decoded))]
+fn is_settled(s: &[u8; RECORD]) -> bool
     ensures { result ≡ is_settled (decoded s.now) }
 {
-    let h = phase_in(s);
-    let state = h.mux;
-    let selected = h.selected;
-    let line = line_in(s);
-    let us = actor_in(s);
+    let phase = phase_in(s);
     let them = partner_in(s);
-    let silent = line.is_silent(!us.activity & !them.activity);
+    let silent = line_in(s).is_silent(!actor_in(s).activity & !them.activity);
     let step = machine::mux::next(
-        state,
-        selected,
+        phase.mux,
+        phase.selected,
         false,
         them.synchronization,
         them.collecting,
     );
-    step.stays() & !(ntt_in(s) & silent)
+    step.is_none() & !(ntt_in(s) & silent)
 }
 
 // ---- the steps, each in a function of its own, so that the records of one lie in the stack where those of another do
@@ -146,36 +122,50 @@ fn mux_one(table: &mut [u8], i: usize)
     }
 }
 
-// The step of port i.
-fn step_one(table: &mut [u8], i: usize, step: Step)
-    requires { InTable table.old i }
-    ensures { Became table.old table.new i (stepped step i (port_at table.old i)) }
+// ---- each step for every port
+
+// What `does` says of port i, `step` makes of it: every port in turn, the first port first. A further step for each port is a function for one
+// port, and one that goes over all of them by this.
+pub(crate) fn sweep<F: Fn(&mut [u8], usize)>(table: &mut [u8], step: F)
+    ghost does: { ℕ → Port → Port }
+    requires ranged { table_in_range table.old ≡ true }
+    requires may { (t : _) (i : _) → InTable t.now i → F.pre step t i }
+    requires steps { (t : _) (i : _) (u : _) → InTable t.now i → F.post step t i tt u → Became t.now u.now i (does i (port_at t.now i)) }
+    ensures { Leaves table.old table.new (map_from does 0 (ports table.old)) }
 {
-    match step {
-        Step::Tick => {
-            tick_one(table, i);
-        }
-        Step::Periodic => {
-            periodic_one(table, i);
-        }
-        Step::Mux => {
-            mux_one(table, i);
-        }
-        Step::Displaced(r, a) => {
-            displace_one(table, i, r, a);
-        }
+    for i in 0..table::count(table) {
+        step(table, i);
     }
 }
 
-// The step of every port.
-pub fn sweep(table: &mut [u8], step: Step)
+// Steps 1 and 2 of a tick.
+pub fn tick_all(table: &mut [u8])
     requires { table_in_range table.old ≡ true }
-    ensures { Leaves table.old table.new (swept step (ports table.old)) }
+    ensures { Leaves table.old table.new (map advanced (ports table.old)) }
 {
-    let n = table::count(table);
-    let mut i: usize = 0;
-    while i < n {
-        step_one(table, i, step);
-        i += 1;
-    }
+    sweep(table, tick_one);
+}
+
+// The periodic machines.
+pub fn periodic_all(table: &mut [u8])
+    requires { table_in_range table.old ≡ true }
+    ensures { Leaves table.old table.new (map periodic_run (ports table.old)) }
+{
+    sweep(table, periodic_one);
+}
+
+// Step 6: the mux machines, and NTT cleared where it is to be.
+pub fn mux_all(table: &mut [u8])
+    requires { table_in_range table.old ≡ true }
+    ensures { Leaves table.old table.new (map muxed (ports table.old)) }
+{
+    sweep(table, mux_one);
+}
+
+// The port with index r heard the block `a`: any other port that it displaces does INITIALIZE, then PORT_DISABLED.
+pub fn displace_all(table: &mut [u8], r: usize, a: Block)
+    requires { table_in_range table.old ≡ true }
+    ensures { Leaves table.old table.new (displaced r a (ports table.old)) }
+{
+    sweep(table, |table, i| displace_one(table, i, r, a));
 }

@@ -12,7 +12,7 @@ use Rattle.trunk.proofs.TableWork.{may_store, changed-at}
 use Rattle.trunk.proofs.ready.attach_one.Goals as goal
 
 pub store-requires : goal.store-requires
-store-requires c = may_store (attached_if true) c.args.table.now c.args.i c.requires (λ j. (c.slice_known-1.given j).fits) (attached-ranged _ true) c.load-p.ensures c.attach-q.ensures
+store-requires c = may_store (attached_if true) c.args.table.now c.args.i c.requires (λ j. (c.slice_known-1.given j).fits) (attached-ranged _ true) c.load-p.ensures c.attach.ensures
 
 pub returns-then-may_attach : goal.returns-then-may_attach
 returns-then-may_attach c =
@@ -21,7 +21,7 @@ returns-then-may_attach c =
     let p = port_at t a.i in
     let told : may_attach a.held p ≡ true = sym c.may_attach.ensures ∙ c.if-may_attach.true in
     let is : attached_if true p ≡ attached_unless a.held p = ap (λ (x : Bool). cond x (attached_if true p) p) (sym told) in
-    said (ap (λ (x : Port). set (ports t) a.i x) is) (changed-at (attached_if true) t a.i c.load-p.ensures c.attach-q.ensures c.store.ensures)
+    said (ap (λ (x : Port). set (ports t) a.i x) is) (changed-at (attached_if true) t a.i c.load-p.ensures c.attach.ensures c.store.ensures)
 
 pub returns-else-may_attach : goal.returns-else-may_attach
 returns-else-may_attach c =

@@ -14,22 +14,10 @@ use Rattle.trunk.specs.Ready.{held_back}
 use Rattle.trunk.proofs.GroupSets.{holds-some, held_more, held_same, held_end}
 use Rattle.trunk.proofs.ready.held_back.Goals as goal
 
-pub count-i-requires : goal.count-i-requires
-count-i-requires c = c.requires
-
 pub loop-i-init : goal.loop-i-init
 loop-i-init c =
     let t = c.args.table.now in
     (omega (arith, c.count-i.ensures), held_end (ports t) c.count-i.result (ports-length t ∙ sym c.count-i.ensures))
-
-pub overflow_sub-i : goal.overflow_sub-i
-overflow_sub-i c = omega arith
-
-pub holds_back-requires : goal.holds_back-requires
-holds_back-requires c = (c.requires, omega (arith, c.loop-i.invariant.0))
-
-pub aggregator-requires : goal.aggregator-requires
-aggregator-requires c = (c.requires, omega (arith, c.loop-i.invariant.0))
 
 pub overflow_sub-aggregator : goal.overflow_sub-aggregator
 overflow_sub-aggregator c =
@@ -48,9 +36,6 @@ with-set-requires c =
     let k = holds-some c.args.table.now (c.loop-i.i - 1) (c.requires, omega arith) (λ j. (c.type_inv.table j).fits) in
     rw c.aggregator.ensures (omega (arith, k.0, k.1))
 
-pub loop-i-smaller-then-holds_back : goal.loop-i-smaller-then-holds_back
-loop-i-smaller-then-holds_back c = omega arith
-
 pub loop-i-preserved-then-holds_back : goal.loop-i-preserved-then-holds_back
 loop-i-preserved-then-holds_back c =
     let a = c.args in
@@ -66,9 +51,6 @@ loop-i-preserved-then-holds_back c =
     let some = (holds-some c.args.table.now (c.loop-i.i - 1) (c.requires, omega arith) (λ j. (c.type_inv.table j).fits)).0 in
     let grown : (k : ℕ) → member c.with-set.result k ≡ (eqb k (p.aggregator - 1) || member c.loop-i.set k) = λ k. c.with-set.ensures k ∙ ap (λ (g : ℕ). eqb k (g - 1) || member c.loop-i.set k) c.aggregator.ensures in
     (omega arith, (held_more (ports t) (i - 1) p (rw ports-length less) (rw here some) (rw here told) c.loop-i.set c.with-set.result so_far (rw here grown)))
-
-pub loop-i-smaller : goal.loop-i-smaller
-loop-i-smaller c = omega arith
 
 pub loop-i-preserved : goal.loop-i-preserved
 loop-i-preserved c =

@@ -9,6 +9,3 @@ use Rattle.trunk.proofs.ready.held_back.Given as goal
 
 abbrev pub invariant-loop-i : goal.invariant-loop-i
 invariant-loop-i l = (l.i ≤ count_in l.table) × ((k : ℕ) → member l.set k ≡ held_back (k + 1) (drop l.i (ports l.table)))
-
-abbrev pub decreases-loop-i : goal.decreases-loop-i
-decreases-loop-i l = l.i

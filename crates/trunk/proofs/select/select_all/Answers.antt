@@ -19,65 +19,29 @@ use Rattle.trunk.specs.Groups.{since, placing}
 use Rattle.trunk.proofs.GroupLaws.{lowest-le}
 use Rattle.trunk.proofs.GroupSets.{since-before, below_none, below_all, below_compares, below-same, below-done, below_more, more-done}
 use Rattle.trunk.proofs.select.select_all.Goals as goal
-
-pub count-n-requires : goal.count-n-requires
-count-n-requires c = c.requires
+use Rattle.trunk.proofs.select.select_all.Goals.{then-not-has, else-not-has}
 
 pub loop-i-init : goal.loop-i-init
 loop-i-init c =
     let a = c.args in
     let t = a.table.now in (
-      omega arith,
-      sym c.count-n.ensures,
       λ m. none-member m ∙ sym (le-ltb (lowest a.ours (map compared (ports t)) m) 0 (omega arith)),
       said (sym (below_none a.ours (ports t))) (unworked t c.requires),
     )
 
-pub overflow_add-i : goal.overflow_add-i
-overflow_add-i c = let most = (in_range _ c.requires).most in let end = c.loop-i.invariant.1 in omega (arith, end, most)
-
 pub has-requires : goal.has-requires
-has-requires c = let most = (in_range _ c.requires).most in let end = c.loop-i.invariant.1 in omega (arith, end, most)
+has-requires c = let most = (in_range _ c.requires).most in omega (arith, c.loop-i-test.true, c.count-i-end.ensures, most)
 
 pub group_of-set-requires : goal.group_of-set-requires
-group_of-set-requires c = let inv = c.loop-i.invariant in (inv.3.ranged, rw (count_kept inv.3) (omega (arith, inv.1)))
+group_of-set-requires c = let inv = c.loop-i.invariant in (inv.1.ranged, rw (count_kept inv.1) (omega (arith, c.loop-i-test.true, c.count-i-end.ensures)))
 
 pub select_set-requires : goal.select_set-requires
 select_set-requires c =
     let inv = c.loop-i.invariant in
     let u = c.loop-i.table in
     let i = c.loop-i.i in
-    let at : InTable u i = (inv.3.ranged, rw (count_kept inv.3) (omega (arith, inv.1))) in
+    let at : InTable u i = (inv.1.ranged, rw (count_kept inv.1) (omega (arith, c.loop-i-test.true, c.count-i-end.ensures))) in
     (at, λ m h. c.group_of-set.ensures m ∙ since-before c.args.ours (map compared (ports u)) i m h)
-
-pub all_of-done-requires : goal.all_of-done-requires
-all_of-done-requires c = tt
-
-pub loop-i-smaller-then-not-has : goal.loop-i-smaller-then-not-has
-loop-i-smaller-then-not-has c = omega arith
-
-pub loop-i-preserved-then-not-has : goal.loop-i-preserved-then-not-has
-loop-i-preserved-then-not-has c =
-    let a = c.args in
-    let t = a.table.now in
-    let inv = c.loop-i.invariant in
-    let i = c.loop-i.i in
-    let u = c.loop-i.table in
-    let h : i < count_in t = omega (arith, inv.1) in
-    let read : map compared (ports u) ≡ map compared (ports t) = ap (λ (l : List Port). map compared l) inv.3.records ∙ below_compares a.ours (ports t) i in
-    let none : member c.loop-i.done i ≡ false = sym c.has.ensures ∙ c.if-not-has.true in
-    let low : lowest a.ours (map compared (ports t)) i ≡ i =
-    omega (arith, lowest-le a.ours (map compared (ports t)) i, ltb-false (lowest a.ours (map compared (ports t)) i) i (sym (inv.2 i) ∙ none)) in
-    let set = c.group_of-set.result in
-    let is_set : (m : ℕ) → member set m ≡ since a.ours (map compared (ports t)) i m = λ m. c.group_of-set.ensures m ∙ ap (λ l. since a.ours l i m) read in (
-      omega arith,
-      inv.1,
-      more-done a.ours (ports t) i low set is_set c.loop-i.done c.all_of-done.result inv.2 c.all_of-done.ensures,
-      said (ap (λ (l : List Port). map_from (placing set i) 0 l) inv.3.records ∙ below_more a.ours (ports t) i low set is_set) (then inv.3 c.select_set.ensures),
-    )
-
-pub loop-i-smaller : goal.loop-i-smaller
-loop-i-smaller c = omega arith
 
 pub loop-i-preserved : goal.loop-i-preserved
 loop-i-preserved c =
@@ -86,16 +50,28 @@ loop-i-preserved c =
     let inv = c.loop-i.invariant in
     let i = c.loop-i.i in
     let u = c.loop-i.table in
-    let h : i < count_in t = omega (arith, inv.1) in
-    let read : map compared (ports u) ≡ map compared (ports t) = ap (λ (l : List Port). map compared l) inv.3.records ∙ below_compares a.ours (ports t) i in
-    let some : member c.loop-i.done i ≡ true = sym c.has.ensures ∙ c.if-not-has.false in
-    let low : lowest a.ours (map compared (ports t)) i < i = ltb-true (lowest a.ours (map compared (ports t)) i) i (sym (inv.2 i) ∙ some) in
-    (omega arith, inv.1, below-done a.ours (ports t) i low c.loop-i.done inv.2, said (below-same a.ours (ports t) i low) inv.3)
+    let low = lowest a.ours (map compared (ports t)) i in
+    let read : map compared (ports u) ≡ map compared (ports t) = ap (λ (l : List Port). map compared l) inv.1.records ∙ below_compares a.ours (ports t) i in
+    elim c.if-not-has.branch [
+      | then-not-has w ↦
+          let none : member c.loop-i.done i ≡ false = sym c.has.ensures ∙ w.if-not-has.true in
+          let is : low ≡ i = omega (arith, lowest-le a.ours (map compared (ports t)) i, ltb-false low i (sym (inv.0 i) ∙ none)) in
+          let set = w.group_of-set.result in
+          let is_set : (m : ℕ) → member set m ≡ since a.ours (map compared (ports t)) i m = λ m. w.group_of-set.ensures m ∙ ap (λ l. since a.ours l i m) read in
+          rw (w.table-is, w.done-is) (
+            more-done a.ours (ports t) i is set is_set c.loop-i.done w.all_of-done.result inv.0 w.all_of-done.ensures,
+            said (ap (λ (l : List Port). map_from (placing set i) 0 l) inv.1.records ∙ below_more a.ours (ports t) i is set is_set) (then inv.1 w.select_set.ensures),
+          )
+      | else-not-has w ↦
+          let some : member c.loop-i.done i ≡ true = sym c.has.ensures ∙ w.if-not-has.false in
+          let less : low < i = ltb-true low i (sym (inv.0 i) ∙ some) in
+          rw (w.table-is, w.done-is) (below-done a.ours (ports t) i less c.loop-i.done inv.0, said (below-same a.ours (ports t) i less) inv.1)
+    ]
 
 pub returns : goal.returns
 returns c =
     let a = c.args in
     let t = a.table.now in
     let inv = c.loop-i.invariant in
-    let end : count_in t ≡ c.loop-i.i = omega (arith, inv.1) in
-    said (below_all a.ours (ports t) c.loop-i.i (ports-length t ∙ end)) inv.3
+    let end : count_in t ≡ c.loop-i.i = omega (arith, c.loop-i-test.false, c.loop-i.auto.i-end, c.count-i-end.ensures) in
+    said (below_all a.ours (ports t) c.loop-i.i (ports-length t ∙ end)) inv.1

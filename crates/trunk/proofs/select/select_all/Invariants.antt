@@ -1,20 +1,17 @@
 -- `trunk::select::select_all` meets its contract: the groups whose lowest port is below i are done (`done_below`), and a turn does that of port i, if it is the lowest of one. Assumes nothing.
-use Prim.Native.Nat.{ℕ, ◌-◌, ◌≤◌}
+use Prim.Native.Nat.{ℕ}
 use mathlib.Core.Path.{◌≡◌}
 use mathlib.Core.List.{map}
 use lib.Dec.{ltb}
 use Rattle.octets.specs.Lists.{map_from}
 use Rattle.octets.specs.Sets.{member}
 use Rattle.port.specs.Compared.{compared}
-use Rattle.table.specs.Table.{count_in, ports}
+use Rattle.table.specs.Table.{ports}
 use Rattle.table.specs.Leaves.{Leaves}
 use Rattle.trunk.specs.Selection.{lowest}
 use Rattle.trunk.proofs.GroupSets.{done_below}
 use Rattle.trunk.proofs.select.select_all.Given as goal
 
 abbrev pub invariant-loop-i : goal.invariant-loop-i
-invariant-loop-i l = (l.i ≤ l.n) × (count_in l.initial.table ≡ l.n) × ((m : ℕ) → member l.done m ≡ ltb (lowest l.ours (map compared (ports l.initial.table)) m) l.i)
+invariant-loop-i l = ((m : ℕ) → member l.done m ≡ ltb (lowest l.ours (map compared (ports l.initial.table)) m) l.i)
     × Leaves l.initial.table l.table (map_from (done_below l.ours (ports l.initial.table) l.i) 0 (ports l.initial.table))
-
-abbrev pub decreases-loop-i : goal.decreases-loop-i
-decreases-loop-i l = l.n - l.i

@@ -13,14 +13,8 @@ use Rattle.trunk.proofs.SelectLaws.{reselected-moves, reselected-unmoved}
 use Rattle.trunk.proofs.TableWork.{may_store, changed-at}
 use Rattle.trunk.proofs.select.select_one.Goals as goal
 
-pub must_move-requires : goal.must_move-requires
-must_move-requires c = c.requires.0
-
-pub load-p-requires : goal.load-p-requires
-load-p-requires c = c.requires.0
-
-pub place-q-requires : goal.place-q-requires
-place-q-requires c = ap (λ (x : Port). x.phase.mux) c.detach.ensures ∙ detached-is c.load-p.result
+pub place-requires : goal.place-requires
+place-requires c = ap (λ (x : Port). x.phase.mux) c.detach.ensures ∙ detached-is c.load-p.result
 
 pub store-requires : goal.store-requires
 store-requires c =
@@ -29,7 +23,7 @@ store-requires c =
     let pre = c.requires in
     may_store (λ p. placed a.k (detached p)) t a.i pre.0 (λ j. (c.slice_known-1.given j).fits)
     (λ p e. placed-ranged (count_in t) a.k (detached p) pre.1 (detached-ranged (count_in t) p e)) c.load-p.ensures
-    (c.place-q.ensures ∙ ap (λ (x : Port). placed a.k x) c.detach.ensures)
+    (c.place.ensures ∙ ap (λ (x : Port). placed a.k x) c.detach.ensures)
 
 pub returns-then-must_move : goal.returns-then-must_move
 returns-then-must_move c =
@@ -39,7 +33,7 @@ returns-then-must_move c =
     let move : must_move a.k p ≡ true = sym c.must_move.ensures ∙ c.if-must_move.true in
     said (ap (λ (x : Port). set (ports t) a.i x) (sym (reselected-moves a.k p move)))
     (changed-at (λ q. placed a.k (detached q)) t a.i c.load-p.ensures
-    (c.place-q.ensures ∙ ap (λ (x : Port). placed a.k x) c.detach.ensures) c.store.ensures)
+    (c.place.ensures ∙ ap (λ (x : Port). placed a.k x) c.detach.ensures) c.store.ensures)
 
 pub returns-else-must_move : goal.returns-else-must_move
 returns-else-must_move c =

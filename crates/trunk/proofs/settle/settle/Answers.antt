@@ -3,7 +3,6 @@ use mathlib.Core.Path.{ap}
 use mathlib.Core.List.{List, map}
 use Rattle.port.specs.declared.record.Port.{Port}
 use Rattle.trunk.specs.Settled.{muxed, settled}
-use Rattle.octets.proofs.ListLaws.{sweep_map}
 use Rattle.table.proofs.LeavesLaws.{then, said}
 use Rattle.trunk.proofs.settle.settle.Goals as goal
 
@@ -11,5 +10,4 @@ pub returns : goal.returns
 unfolding settled
 returns c =
     let first = c.join_all.ensures in
-    let second = said (sweep_map muxed 0 _) c.sweep.ensures in
-    said (ap (λ (l : List Port). map muxed l) first.records) (then first second)
+    said (ap (λ (l : List Port). map muxed l) first.records) (then first c.mux_all.ensures)
