@@ -36,6 +36,12 @@ room-is t count e =
     let bounds = within-true 1 count most_ports e₀.0 in
     record { some = bounds.0; few = bounds.1; size = eqb-true (length t) (table_size count) e₀.1 }
 
+-- it has room for a header and a record
+pub roomy : (t : List ℕ) (count : ℕ) → is_room t count ≡ true → place 1 ≤ length t
+roomy t count e =
+    let room = room-is t count e in
+    omega (arith, room.some, room.size)
+
 -- ---- a table of the same records
 
 module _ (p : Port) where

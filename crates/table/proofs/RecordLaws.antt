@@ -5,12 +5,13 @@ use mathlib.Core.Path.{◌≡◌, refl, sym, ap, ◌∙◌}
 use mathlib.Core.List.{List, ◌∷◌, ◌++◌}
 use native.Mathlib.Omega.{arith}
 use lib.ListN.{length, take, drop, get_or, length-drop}
-use lib.Seq.{length-take-le}
+use lib.Seq.{length-take-le, get_or-take, get_or-drop}
 use Rattle.octets.specs.Octets.{Octets}
 use Rattle.octets.proofs.Laws.{number-back, spread, spread-all, spread-part}
 use Rattle.octets.proofs.OctetLists.{octets_of_lem, append-octets, take-octets, drop-octets, first_back, second_back}
 use Rattle.octets.proofs.RangeLaws.{both_true, small}
 use Rattle.frame.specs.Block.{block_of, block_octets}
+use Rattle.frame.specs.Wire.{part}
 use Rattle.frame.proofs.BlockLaws.{port-state-back, octet-back, octet-le, block_back, block_octets-back}
 use Rattle.frame.proofs.RangeLaws.{part-fits, block-octets}
 use Rattle.port.specs.declared.record.Port.{Port}
@@ -28,6 +29,10 @@ use mathlib.Core.Bool.{Bool, true}
 use Rattle.frame.specs.declared.state.PortState.{PortState}
 use Rattle.machine.specs.declared.states.Phase.{Phase}
 use Rattle.machine.specs.declared.states.Line.{Line}
+
+-- an octet of the partner block in force is the record's
+pub in_partner : (l : List ℕ) (k : ℕ) → k < 15 → get_or (part 42 57 l) k 0 ≡ get_or l (42 + k) 0
+in_partner l k h = get_or-take 15 (drop 42 l) k 0 h ∙ get_or-drop 42 l k 0
 
 pub encoded-length : (p : Port) → length (encoded p) ≡ record_size
 unfolding encoded

@@ -149,6 +149,7 @@ fn put(table: &mut [u8], i: usize, p: Port)
 }
 
 // Makes a table of memory with any content: this header, and for every port this record.
+#[tactic(auto, using(crate::proofs::FillLaws::roomy))]
 pub fn fill(table: &mut [u8], header: Header, p: Port)
     requires { (is_room table.old header.count ≡ true) × (port_in_range header.count p ≡ true) }
     ensures { Holds table.new header (replicate header.count p) }
