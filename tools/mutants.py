@@ -454,8 +454,7 @@ MUTANTS = [
         ("churn/specs/Churn.antt", "churn_next true Monitor true out = Enter NoChurn", "churn_next true Monitor true true = Enter Churn\nchurn_next true Monitor true false = Enter NoChurn"),)),
     Mutant("case churn", "a link that falls forgets the count", ("never-settles",), "churn::watch::Watch::enter", (
         ("churn/specs/Churn.antt", "churn_entered Monitor w = watch Monitor (ticks churn_detection_time) w.count", "churn_entered Monitor w = watch Monitor (ticks churn_detection_time) 0"),
-        ("churn/src/watch.rt", "            Churn::Monitor => Watch {\n                state: Churn::Monitor,\n                timer: Ticks(CHURN_DETECTION_TIME),\n                count,",
-         "            Churn::Monitor => Watch {\n                state: Churn::Monitor,\n                timer: Ticks(CHURN_DETECTION_TIME),\n                count: 0,"))),
+        ("churn/src/watch.rt", "Churn::Monitor => (CHURN_DETECTION_TIME, self.count)", "Churn::Monitor => (CHURN_DETECTION_TIME, 0)"))),
     Mutant("case churn", "a Churn_Detection_Time of 599 ticks", ("begun", "never-settles"), "churn::watch::Watch::enter", (
         ("churn/specs/Churn.antt", "churn_detection_time = 600", "churn_detection_time = 599"),
         ("churn/src/watch.rt", "CHURN_DETECTION_TIME: u16 = 600", "CHURN_DETECTION_TIME: u16 = 599"))),

@@ -8,6 +8,7 @@ use native.Mathlib.Omega.{arith}
 use lib.ListN.{get_or}
 use lib.Dec.{leb, ltb}
 use borrow.Author.Tests.{leb-true, le-leb, lt-ltb, ltb-true}
+use Rattle.std.specs.Prelude.{Option, Some, None}
 use Rattle.octets.specs.Octets.{Octets, number_at, joined, high, low, long_at}
 use Rattle.octets.proofs.Laws.{number-back}
 use Rattle.octets.proofs.RangeLaws.{both, both_true}
@@ -18,8 +19,6 @@ use Rattle.churn.specs.declared.watch.Churn.{Churn as State}
 use Rattle.churn.specs.declared.watch.Churn.TheVariants.{NoChurn, Monitor, Churn}
 use Rattle.churn.specs.declared.Stage.{Stage}
 use Rattle.churn.specs.declared.Stage.TheVariants.{Start, Tick, Other}
-use Rattle.churn.specs.declared.watch.ChurnStep.{ChurnStep}
-use Rattle.churn.specs.declared.watch.ChurnStep.TheVariants.{Stay, Enter}
 use Rattle.churn.specs.declared.watch.Watch.{Watch}
 use Rattle.churn.specs.declared.watch.Monitors.{Monitors}
 use Rattle.churn.specs.Churn.{churn_detection_time, watch, monitors, churn_next, churn_entered, churn_taken, churn_choice, watched, watching, watch_fallen, monitors_fallen, both_begun}
@@ -75,9 +74,9 @@ pub watched-fits : (up sync : Bool) (w : Watch) → watch_fits w ≡ true → wa
 unfolding watched
 watched-fits up sync w e = by (churn_choice up sync w)
   where
-    by : (k : ChurnStep) → watch_fits (churn_taken k w) ≡ true
-    by Stay = e
-    by (Enter s) = fits-is (churn_entered s w) (entered-fits s w (fits w e))
+    by : (k : Option State) → watch_fits (churn_taken k w) ≡ true
+    by None = e
+    by (Some s) = fits-is (churn_entered s w) (entered-fits s w (fits w e))
 
 fallen-fits : (w : Watch) → watch_fits w ≡ true → watch_fits (watch_fallen w) ≡ true
 fallen-fits w e = let f = fits w e in let t = f.timer in fits-is (watch_fallen w) (record { timer = omega (arith, t); count = f.count })

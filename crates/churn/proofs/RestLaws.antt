@@ -2,7 +2,7 @@
 -- stay in NO_CHURN or CHURN, by Synchronization, and without one MONITOR is entered anew with the time that was there. Assumes nothing.
 use Prim.Native.Nat.{ℕ, zero, suc, ◌+◌, ◌*◌, ◌≤◌, ◌<◌}
 use mathlib.Core.Path.{◌≡◌, refl, sym, ap, ◌∙◌}
-use mathlib.Core.Bool.{Bool, true, false, not, ◌||◌, true≢false}
+use mathlib.Core.Bool.{Bool, true, false, true≢false}
 use mathlib.Core.List.{List, [], ◌∷◌, ◌++◌}
 use native.Mathlib.Omega.{arith}
 use lib.ListN.{length, take, drop, get_or, length-drop}
@@ -26,12 +26,6 @@ use Rattle.churn.specs.Group.{group_size, churn_code, churn_of, group_octets, gr
 use Rattle.churn.specs.Rest.{begins, stay_code, is_still, is_fresh, rests, rest_to}
 use Rattle.churn.specs.Whole.{group_place, whole_size, base_of, group_at, monitors_at, prepared, watched_at}
 use Rattle.churn.proofs.WholeLaws.{done, done_none, done_more}
-
--- neither of two
-pub neither : (a b : Bool) → a || not b ≡ false → (a ≡ false) × (b ≡ true)
-neither true b e = absurd (true≢false e)
-neither false true e = (refl, refl)
-neither false false e = absurd (true≢false e)
 
 -- ---- octets to group to octets
 

@@ -1,21 +1,25 @@
 -- Laws of a table with monitors: where its parts lie, and a run of all machines group by group. A loop that has done the first i groups stands at `over
 -- (front w f i w) w`: the base and these groups written over the front of what was there. Assumes nothing.
-use Prim.Native.Nat.{ℕ, zero, suc, ◌+◌, ◌*◌, ◌-◌, ◌≤◌, ◌<◌}
+use Prim.Native.Nat.{ℕ, zero, suc, ◌+◌, ◌*◌, ◌-◌, ◌/◌, ◌≤◌, ◌<◌}
 use mathlib.Core.Path.{◌≡◌, refl, sym, ap, ◌∙◌}
-use mathlib.Core.Bool.{Bool, true, false}
-use mathlib.Core.List.{List, ◌++◌, append_assoc, append-nil}
+use mathlib.Core.Bool.{Bool, true, false, ◌&&◌}
+use mathlib.Core.List.{List, [], ◌++◌, append_assoc, append-nil}
 use native.Mathlib.Omega.{arith}
-use native.Mathlib.Nat.{add-sub_cancel_left}
-use borrow.Rule.Slice.PartMut.{put_mid}
+use native.Mathlib.Numerals.{add-one}
 use lib.ListN.{length, take, drop, get_or, length-append, length-drop, take-append-drop}
-use lib.Seq.{get_or-take, length-take-le, take_at, drop-append-add, drop-drop}
+use lib.Seq.{get_or-take, length-take-le, take_at, take_all, drop-append-add, drop-drop}
+use Rattle.std.specs.List.{list_all}
+use Rattle.std.specs.Simd.{first_chunks}
+use Rattle.std.proofs.lemmas.List.{drop-take, take-take}
+use Rattle.std.proofs.lemmas.List.Folds.{list_all_more}
 use lib.Dec.{eqb}
 use borrow.Author.Tests.{eqb-true, eqb-false}
 use Rattle.octets.specs.Octets.{put_at}
+use Rattle.octets.specs.Rows.{row_at}
 use Rattle.octets.proofs.RangeLaws.{both}
-use Rattle.octets.proofs.Laws.{over, over-put, over-all, put-append, put-part}
-use Rattle.port.specs.declared.record.Port.{Port}
-use Rattle.table.specs.Layout.{place}
+use Rattle.octets.proofs.ChunkLaws.{chunks-length, chunk-row}
+use Rattle.octets.proofs.Laws.{over, over-put, over-all, put-append}
+use Rattle.table.specs.Layout.{place, record_size}
 use Rattle.table.specs.Record.{decoded}
 use Rattle.table.proofs.StoreLaws.{port-decoded}
 use Rattle.table.specs.Table.{count_in, port_at, record_at, decoded_at}
@@ -131,26 +135,15 @@ module _ (w : List ℕ) (size : length w ≡ whole_size (count_in w)) where
   unfolding watched_at monitors_at
   done-watched s f i = λ j. watching (port_at (done-base f i j) i) (prepared s (group_of (done-group f i i (omega arith) j)))
 
--- the record of port i is the one that octets of the front tell of
-pub base-port : (t : List ℕ) (i : ℕ) → i < count_in t → port_at (base_of t) i ≡ decoded (record_at (take (place (count_in t)) t) i)
-unfolding base_of decoded_at
-base-port t i h = port-decoded (take (place (count_in t)) t) i (rw (base-count t) h)
-
--- the part of a table that is group i, written over by what its machines make of it
-pub watch-put : (s : Stage) (t : List ℕ) (i : ℕ) → i < count_in t
-    → put_mid (group_place (count_in t) i) (group_place (count_in t) i + group_size - group_place (count_in t) i) t
-    (group_octets (watching (decoded (record_at (take (place (count_in t)) t) i)) (prepared s (group_of (take (group_place (count_in t) i + group_size - group_place (count_in t) i) (drop (group_place (count_in t) i) t))))))
-    ≡ put_at (group_place (count_in t) i) (group_octets (watched_at s t i)) t
-unfolding watched_at monitors_at group_at base_of decoded_at
-watch-put s t i h =
-    let n = group_place (count_in t) i in
-    let p = port_at (take (place (count_in t)) t) i in
-    let same : i < count_in (take (place (count_in t)) t) = rw (base-count t) h in
-    let m = watching p (prepared s (group_of (take group_size (drop n t)))) in
-    ap (λ (x : Port). put_mid n (n + group_size - n) t (group_octets (watching x (prepared s (group_of (take (n + group_size - n) (drop n t)))))))
-    (sym (port-decoded (take (place (count_in t)) t) i same))
-    ∙ ap (λ (k : ℕ). put_mid n (n + group_size - n) t (group_octets (watching p (prepared s (group_of (take k (drop n t))))))) (add-sub_cancel_left n group_size)
-    ∙ put-part n (n + group_size) (group_octets m) t (ap (λ (k : ℕ). n + k) (group-length m))
+-- the record of port i is the one that its octets tell of
+pub base-port : (t : List ℕ) (i : ℕ) → i < count_in t → port_at (base_of t) i ≡ decoded (record_at t i)
+unfolding base_of decoded_at record_at
+base-port t i h =
+    let n = place (count_in t) in
+    let m : ℕ = n - place i in
+    port-decoded (take n t) i (rw (base-count t) h)
+    ∙ ap decoded (ap (λ (k : ℕ). take record_size (drop (place i) (take k t))) (omega (arith, h))
+    ∙ ap (λ (l : List ℕ). take record_size l) (drop-take (place i) m t) ∙ take-take record_size m (drop (place i) t) (omega (arith, h)))
 
 -- ---- a loop over the groups
 
@@ -184,9 +177,28 @@ groups-at (suc n) w e i h =
     by below here true s = ap (λ (k : ℕ). group_in_range (group_at w k)) (eqb-true i n s) ∙ here
     by below here false s = let differ : i ≡ n → ⊥ = eqb-false i n s in below (omega arith)
 
-pub groups-not : (n : ℕ) (w : List ℕ) (i : ℕ) → i < n → group_in_range (group_at w i) ≡ false → groups_in_range n w ≡ false
-groups-not n w i h e = by (groups_in_range n w) refl
-  where
-    by : (b : Bool) → groups_in_range n w ≡ b → b ≡ false
-    by true s = sym (groups-at n w s i h) ∙ e
-    by false s = refl
+-- all of the first n parts behind the base are in range where the first n groups are
+chunks-ranged : (w : List ℕ) (k n : ℕ) → n ≤ k
+    → list_all group_in_range (take n (first_chunks group_size k (drop (place (count_in w)) w))) ≡ groups_in_range n w
+unfolding groups_in_range
+chunks-ranged w k zero h = refl
+chunks-ranged w k (suc n) h =
+    let l = drop (place (count_in w)) w in
+    let is : row_at group_size l n ≡ group_at w n =
+    unfold row_at group_at in ap (λ (x : List ℕ). take group_size x) (drop-drop (group_size * n) (place (count_in w)) w) in
+    rw (← add-one n)
+    (list_all_more group_in_range (first_chunks group_size k l) n [] (let m = chunks-length group_size k l in omega (arith, m, h))
+    ∙ (λ j. chunks-ranged w k n (omega (arith, h)) j && group_in_range ((chunk-row group_size k l n (omega (arith, h)) ∙ is) j)))
+
+-- and all parts where all groups are
+pub chunks-all : (w : List ℕ) → length w ≡ whole_size (count_in w)
+    → list_all group_in_range (first_chunks group_size (length (drop (place (count_in w)) w) / group_size) (drop (place (count_in w)) w))
+    ≡ groups_in_range (count_in w) w
+chunks-all w size =
+    let n = count_in w in
+    let l = drop (place n) w in
+    let d = length-drop (place n) w in
+    let m = chunks-length group_size n l in
+    ap (λ (k : ℕ). list_all group_in_range (first_chunks group_size k l)) (omega (arith, d, size))
+    ∙ sym (ap (λ (x : List (List ℕ)). list_all group_in_range x) (take_all n (first_chunks group_size n l) (omega (arith, m))))
+    ∙ chunks-ranged w n n (omega arith)

@@ -1,5 +1,5 @@
 -- Churn detection (43.4.17, figures 43-15 and 43-16): one machine over link and Synchronization, which watches the actor's and the partner's alike.
-use Rattle.std.specs.Prelude.{ℕ, Bool, true, false}
+use Rattle.std.specs.Prelude.{ℕ, Bool, true, false, Option, Some, None}
 use Rattle.machine.specs.declared.states.Ticks.{Ticks}
 use Rattle.machine.specs.Count.{counted}
 use Rattle.machine.specs.States.{ticks}
@@ -7,8 +7,6 @@ use Rattle.machine.specs.Time.{ran_out, fallen}
 use Rattle.port.specs.declared.record.Port.{Port}
 use Rattle.churn.specs.declared.watch.Churn.{Churn as State}
 use Rattle.churn.specs.declared.watch.Churn.TheVariants.{NoChurn, Monitor, Churn}
-use Rattle.churn.specs.declared.watch.ChurnStep.{ChurnStep}
-use Rattle.churn.specs.declared.watch.ChurnStep.TheVariants.{Stay, Enter}
 use Rattle.churn.specs.declared.watch.Watch.{Watch}
 use Rattle.churn.specs.declared.watch.Monitors.{Monitors}
 
@@ -22,16 +20,16 @@ watch s t n = record { state = s; timer = t; count = n }
 abbrev pub monitors : Watch → Watch → Monitors
 monitors a p = record { actor = a; partner = p }
 
--- the transitions, by link, Synchronization and the timer: MONITOR is entered wherever the machine is while the link is down, and Synchronization goes before expiry
-abbrev pub churn_next : Bool → State → Bool → Bool → ChurnStep
-churn_next false s sync out = Enter Monitor
-churn_next true NoChurn true out = Stay
-churn_next true NoChurn false out = Enter Monitor
-churn_next true Monitor true out = Enter NoChurn
-churn_next true Monitor false true = Enter Churn
-churn_next true Monitor false false = Stay
-churn_next true Churn true out = Enter NoChurn
-churn_next true Churn false out = Stay
+-- the transitions, as the state that is entered, if any, by link, Synchronization and the timer: MONITOR is entered wherever the machine is while the link is down, and Synchronization goes before expiry
+abbrev pub churn_next : Bool → State → Bool → Bool → Option State
+churn_next false s sync out = Some Monitor
+churn_next true NoChurn true out = None
+churn_next true NoChurn false out = Some Monitor
+churn_next true Monitor true out = Some NoChurn
+churn_next true Monitor false true = Some Churn
+churn_next true Monitor false false = None
+churn_next true Churn true out = Some NoChurn
+churn_next true Churn false out = None
 
 -- the actions on entry: a timer belongs to MONITOR alone, and CHURN, which is the churn flag, counts
 abbrev pub churn_entered : State → Watch → Watch
@@ -39,11 +37,11 @@ churn_entered NoChurn w = watch NoChurn (ticks 0) w.count
 churn_entered Monitor w = watch Monitor (ticks churn_detection_time) w.count
 churn_entered Churn w = watch Churn (ticks 0) (counted w.count)
 
-abbrev pub churn_taken : ChurnStep → Watch → Watch
-churn_taken Stay w = w
-churn_taken (Enter s) w = churn_entered s w
+abbrev pub churn_taken : Option State → Watch → Watch
+churn_taken None w = w
+churn_taken (Some s) w = churn_entered s w
 
-unfoldable pub churn_choice : Bool → Bool → Watch → ChurnStep
+unfoldable pub churn_choice : Bool → Bool → Watch → Option State
 churn_choice up sync w = churn_next up w.state sync (ran_out w.timer)
 
 -- a run of the machine; one step leads to rest (law `watched-twice`)

@@ -3,24 +3,24 @@
 
 ghost use Rattle.std.specs.Prelude.{◌≡◌, ◌+◌, ◌≤◌, ◌<◌, length, true};
 ghost use Rattle.octets.specs.Octets.{put_at};
-ghost use Rattle.table.specs.Layout.{record_size};
 ghost use Rattle.table.specs.Record.{decoded};
 ghost use Rattle.table.specs.Table.{count_in, port_at};
-ghost use Rattle.churn.specs.Churn.{watching, both_begun};
+ghost use Rattle.churn.specs.Churn.{watching};
 ghost use Rattle.churn.specs.Group.{group_of, group_size, group_octets};
 ghost use Rattle.churn.specs.Rest.{begins, rests as rest_rests, rest_to};
 ghost use Rattle.churn.specs.Whole.{group_place, whole_size, base_of, group_at, groups_in_range, has_monitors, prepared, watched_at, watched_all};
 
 use crate::group::GROUP;
-use crate::watch::{CHURN_DETECTION_TIME, Churn, Monitors, Watch};
-use machine::states::Ticks;
-use table::layout::place_of;
+use crate::watch::Monitors;
+use table::layout::{RECORD, place_of};
+use table::record::{actor_in, line_in, partner_in};
 
 pub mod group;
 pub mod watch;
 
 // What goes before the machines in a call: a start begins them anew, a tick has made their timers fall.
-#[derive(Clone, Copy)]
+// Kept: what goes before is no closure, since `watched_all` and the theorem `two_runs` speak of it as a value.
+#[derive(Clone, Copy, PartialEq, Eq)]
 pub enum Stage {
     Start,
     Tick,
@@ -32,55 +32,30 @@ impl Stage {
     fn begins(self) -> bool
         ensures { result ≡ begins self }
     {
-        match self {
-            Stage::Start => true,
-            Stage::Tick => false,
-            Stage::Other => false,
-        }
-    }
-}
-
-fn begun() -> Watch
-    ensures { result ≡ both_begun.actor }
-{
-    Watch {
-        state: Churn::Monitor,
-        timer: Ticks(CHURN_DETECTION_TIME),
-        count: 0,
+        self == Stage::Start
     }
 }
 
 // The monitors as the machines find them.
-fn prepare(stage: Stage, s: &[u8]) -> Monitors
-    requires { length s.now ≡ group_size }
+fn prepare(stage: Stage, s: &[u8; GROUP]) -> Monitors
     ensures { result ≡ prepared stage (group_of s.now) }
 {
     match stage {
-        Stage::Start => Monitors {
-            actor: begun(),
-            partner: begun(),
-        },
-        Stage::Tick => {
-            let m = group::read(s);
-            m.fall()
-        }
-        Stage::Other => group::read(s),
+        Stage::Start => Monitors::default(),
+        Stage::Tick => Monitors::from(s).fall(),
+        Stage::Other => Monitors::from(s),
     }
 }
 
 // Both machines of a port whose record is s.
-fn run_both(s: &[u8], m: Monitors) -> Monitors
-    requires { length s.now ≡ record_size }
+#[tactic(auto, unfolding(crate::specs::Churn::watching, table::specs::Record::decoded))]
+fn run_both(s: &[u8; RECORD], m: Monitors) -> Monitors
     ensures { result ≡ watching (decoded s.now) m }
 {
-    let line = table::record::line_in(s);
-    let ours = table::record::actor_in(s);
-    let theirs = table::record::partner_in(s);
-    let actor = m.actor;
-    let partner = m.partner;
+    let line = line_in(s);
     Monitors {
-        actor: actor.run(line.up, ours.synchronization),
-        partner: partner.run(line.up, theirs.synchronization),
+        actor: m.actor.run(line.up, actor_in(s).synchronization),
+        partner: m.partner.run(line.up, partner_in(s).synchronization),
     }
 }
 
@@ -89,30 +64,24 @@ fn run_one(table: &mut [u8], i: usize, stage: Stage)
     requires { (length table.old ≡ whole_size (count_in table.old)) × (i < count_in table.old) }
     ensures { table.new ≡ put_at (group_place (count_in table.old) i) (group_octets (watched_at stage table.old i)) table.old }
 {
-    let base = place_of(table[0] as usize);
-    let at = base + GROUP * i;
-    let m = prepare(stage, &table[at..at + GROUP]);
-    let r = run_both(table::record_at(&table[..base], i), m);
-    group::write(r, &mut table[at..at + GROUP]);
+    let m = prepare(stage, group_at(table, i));
+    let r = run_both(table::record_at(table, i), m);
+    let at = place_of(table[0] as usize) + GROUP * i;
+    octets::put(table, at, &<[u8; GROUP]>::from(r));
 }
 
 // Whether the machines of a port whose record is s give its group g back, unless they begin anew. Mostly both Synchronizations are set.
-fn rests(s: &[u8], g: &[u8]) -> bool
-    requires { (length s.now ≡ record_size) × (length g.now ≡ group_size) }
+#[tactic(auto, unfolding(crate::specs::Rest::rests, table::specs::Record::decoded))]
+fn rests(s: &[u8; RECORD], g: &[u8; GROUP]) -> bool
     ensures { result ≡ rest_rests (decoded s.now) g.now }
 {
-    let line = table::record::line_in(s);
-    if line.up {
-        let ours = table::record::actor_in(s);
-        let theirs = table::record::partner_in(s);
-        if ours.synchronization {
-            if theirs.synchronization {
-                return group::is_still(true, true, g);
-            }
-        }
-        return group::is_still(ours.synchronization, theirs.synchronization, g);
+    if !line_in(s).up {
+        return group::is_fresh(g);
     }
-    group::is_fresh(g)
+    match (actor_in(s).synchronization, partner_in(s).synchronization) {
+        (true, true) => group::is_still(true, true, g),
+        (ours, theirs) => group::is_still(ours, theirs, g),
+    }
 }
 
 // The same of port `i`, from 0.
@@ -120,8 +89,7 @@ fn rests_at(table: &[u8], i: usize) -> bool
     requires { (length table.now ≡ whole_size (count_in table.now)) × (i < count_in table.now) }
     ensures { result ≡ rest_rests (port_at (base_of table.now) i) (group_at table.now i) }
 {
-    let base = place_of(table[0] as usize);
-    rests(table::record_at(&table[..base], i), group_at(table, i))
+    rests(table::record_at(table, i), group_at(table, i))
 }
 
 // How many ports rest, from the first on, up to one that does not.
@@ -130,12 +98,10 @@ fn resting(table: &[u8]) -> usize
     ensures { (result ≤ count_in table.now) × (rest_to result table.now ≡ true) }
 {
     let n = table[0] as usize;
-    let mut i: usize = 0;
-    while i < n {
+    for i in 0..n {
         if !rests_at(table, i) {
             return i;
         }
-        i += 1;
     }
     n
 }
@@ -145,10 +111,7 @@ fn first_to_run(table: &[u8], stage: Stage) -> usize
     requires { length table.now ≡ whole_size (count_in table.now) }
     ensures { (result ≤ count_in table.now) × (rest_to result table.now ≡ true) × (begins stage ≡ true → result ≡ 0) }
 {
-    if stage.begins() {
-        return 0;
-    }
-    resting(table)
+    if stage.begins() { 0 } else { resting(table) }
 }
 
 // The machines of port `i`, from 0, unless they rest.
@@ -156,7 +119,7 @@ fn watch_one(table: &mut [u8], i: usize, stage: Stage)
     requires { (length table.old ≡ whole_size (count_in table.old)) × (i < count_in table.old) }
     ensures { table.new ≡ put_at (group_place (count_in table.old) i) (group_octets (watched_at stage table.old i)) table.old }
 {
-    if stage.begins() | !rests_at(table, i) {
+    if stage.begins() || !rests_at(table, i) {
         run_one(table, i, stage);
     }
 }
@@ -167,10 +130,8 @@ pub fn watch_all(table: &mut [u8], stage: Stage)
     ensures { table.new ≡ watched_all stage table.old }
 {
     let n = table[0] as usize;
-    let mut i: usize = first_to_run(table, stage);
-    while i < n {
+    for i in first_to_run(table, stage)..n {
         watch_one(table, i, stage);
-        i += 1;
     }
 }
 
@@ -183,12 +144,12 @@ pub fn whole_size(count: usize) -> usize
 }
 
 // The part of a table that is group `i`, from 0.
-pub fn group_at(table: &[u8], i: usize) -> &[u8]
+#[tactic(auto, unfolding(crate::specs::Whole::group_at))]
+pub fn group_at(table: &[u8], i: usize) -> &[u8; GROUP]
     requires { group_place (count_in table.now) i + group_size ≤ length table.now }
-    ensures { (result.now ≡ group_at table.now i) × (length result.now ≡ group_size) }
+    ensures { result.now ≡ group_at table.now i }
 {
-    let at = place_of(table[0] as usize) + GROUP * i;
-    &table[at..at + GROUP]
+    octets::chunk(table, place_of(table[0] as usize) + GROUP * i)
 }
 
 // Whether every group is in range.
@@ -196,26 +157,14 @@ fn has_groups(table: &[u8]) -> bool
     requires { length table.now ≡ whole_size (count_in table.now) }
     ensures { result ≡ groups_in_range (count_in table.now) table.now }
 {
-    let n = table[0] as usize;
-    let mut i: usize = 0;
-    while i < n {
-        if !group::is_group(group_at(table, i)) {
-            return false;
-        }
-        i += 1;
-    }
-    true
+    let (groups, _) = table[place_of(table[0] as usize)..].as_chunks::<GROUP>();
+    groups.iter().all(group::is_group)
 }
 
 // Whether memory has the size of a table with its monitors, and each of them is in range; the records have their own test.
+#[tactic(auto, unfolding(crate::specs::Whole::has_monitors))]
 pub fn has_monitors(table: &[u8]) -> bool
     ensures { result ≡ has_monitors table.now }
 {
-    if table.len() == 0 {
-        return false;
-    }
-    if table.len() != whole_size(table[0] as usize) {
-        return false;
-    }
-    has_groups(table)
+    !table.is_empty() && table.len() == whole_size(table[0] as usize) && has_groups(table)
 }

@@ -1,6 +1,6 @@
 // The churn detection machine (figures 43-15 and 43-16), once for the actor's Synchronization and once for the partner's.
-ghost use Rattle.std.specs.Prelude.{◌≡◌, true};
-ghost use Rattle.churn.specs.Churn.{churn_next, churn_entered, churn_choice, watched, watch_fallen, monitors_fallen};
+ghost use Rattle.std.specs.Prelude.{◌≡◌};
+ghost use Rattle.churn.specs.Churn.{churn_next, churn_entered, churn_choice, watched, watch_fallen, monitors_fallen, begun};
 
 use machine::ages::fallen;
 use machine::count::one_more;
@@ -10,21 +10,15 @@ use machine::states::Ticks;
 pub(crate) const CHURN_DETECTION_TIME: u16 = 600;
 
 // The states of 43.4.17. The constant beside a refusal is the first.
-#[derive(Clone, Copy)]
+#[derive(Clone, Copy, PartialEq, Eq)]
 pub enum Churn {
     NoChurn,
     Monitor,
     Churn,
 }
 
-#[derive(Clone, Copy)]
-pub enum ChurnStep {
-    Stay,
-    Enter(Churn),
-}
-
 // A machine's state and timer, and how often it found churn.
-#[derive(Clone, Copy)]
+#[derive(Clone, Copy, PartialEq, Eq)]
 pub struct Watch {
     pub state: Churn,
     pub timer: Ticks,
@@ -32,114 +26,94 @@ pub struct Watch {
 }
 
 // A port's two.
-#[derive(Clone, Copy)]
+#[derive(Clone, Copy, PartialEq, Eq, Default)]
 pub struct Monitors {
     pub actor: Watch,
     pub partner: Watch,
 }
 
-// Which transition applies while the link is up, by Synchronization and whether the timer has run out.
-fn next_up(state: Churn, sync: bool, out: bool) -> ChurnStep
-    ensures { result ≡ churn_next true state sync out }
-{
-    match state {
-        Churn::NoChurn => {
-            if sync {
-                return ChurnStep::Stay;
-            }
-            ChurnStep::Enter(Churn::Monitor)
-        }
-        Churn::Monitor => {
-            if sync {
-                return ChurnStep::Enter(Churn::NoChurn);
-            }
-            if out {
-                return ChurnStep::Enter(Churn::Churn);
-            }
-            ChurnStep::Stay
-        }
-        Churn::Churn => {
-            if sync {
-                return ChurnStep::Enter(Churn::NoChurn);
-            }
-            ChurnStep::Stay
+// What a start begins with.
+impl Default for Watch {
+    ghost is_default = { λ w. w ≡ begun };
+
+    fn default() -> Watch {
+        Watch {
+            state: Churn::Monitor,
+            timer: Ticks(CHURN_DETECTION_TIME),
+            count: 0,
         }
     }
 }
 
-// Which transition applies, by the link too.
-pub(crate) fn next(up: bool, state: Churn, sync: bool, out: bool) -> ChurnStep
+// Which transition applies, if any, by the link, Synchronization and whether the timer has run out.
+pub(crate) fn next(up: bool, state: Churn, sync: bool, out: bool) -> Option<Churn>
     ensures { result ≡ churn_next up state sync out }
 {
-    if up {
-        return next_up(state, sync, out);
+    match (up, state, sync, out) {
+        (false, _, _, _) => Some(Churn::Monitor),
+        (true, Churn::NoChurn, true, _) => None,
+        (true, Churn::NoChurn, false, _) => Some(Churn::Monitor),
+        (true, Churn::Monitor, true, _) => Some(Churn::NoChurn),
+        (true, Churn::Monitor, false, true) => Some(Churn::Churn),
+        (true, Churn::Monitor, false, false) => None,
+        (true, Churn::Churn, true, _) => Some(Churn::NoChurn),
+        (true, Churn::Churn, false, _) => None,
     }
-    ChurnStep::Enter(Churn::Monitor)
 }
 
 impl Watch {
     fn enter(self, state: Churn) -> Watch
         ensures { result ≡ churn_entered state self }
     {
-        let count = self.count;
-        match state {
-            Churn::NoChurn => Watch {
-                state: Churn::NoChurn,
-                timer: Ticks(0),
-                count,
-            },
-            Churn::Monitor => Watch {
-                state: Churn::Monitor,
-                timer: Ticks(CHURN_DETECTION_TIME),
-                count,
-            },
-            Churn::Churn => Watch {
-                state: Churn::Churn,
-                timer: Ticks(0),
-                count: one_more(count),
-            },
+        let (time, count) = match state {
+            Churn::NoChurn => (0, self.count),
+            Churn::Monitor => (CHURN_DETECTION_TIME, self.count),
+            Churn::Churn => (0, one_more(self.count)),
+        };
+        Watch {
+            state,
+            timer: Ticks(time),
+            count,
         }
     }
 
-    fn choice(self, up: bool, sync: bool) -> ChurnStep
+    #[tactic(auto, unfolding(crate::specs::Churn::churn_choice))]
+    fn choice(self, up: bool, sync: bool) -> Option<Churn>
         ensures { result ≡ churn_choice up sync self }
     {
-        let state = self.state;
-        next(up, state, sync, self.timer.0 == 0)
+        next(up, self.state, sync, self.timer == Ticks(0))
     }
 
     // A run of the machine.
+    #[tactic(auto, unfolding(crate::specs::Churn::watched))]
     pub(crate) fn run(self, up: bool, sync: bool) -> Watch
         ensures { result ≡ watched up sync self }
     {
         match self.choice(up, sync) {
-            ChurnStep::Stay => self,
-            ChurnStep::Enter(state) => self.enter(state),
+            None => self,
+            Some(state) => self.enter(state),
         }
     }
 
     fn fall(self) -> Watch
         ensures { result ≡ watch_fallen self }
     {
-        let state = self.state;
         Watch {
-            state,
             timer: fallen(self.timer),
-            count: self.count,
+            ..self
         }
     }
 }
 
 impl Monitors {
     // Step 1 of a tick.
+    #[tactic(auto, unfolding(crate::specs::Churn::monitors_fallen))]
     pub(crate) fn fall(self) -> Monitors
         ensures { result ≡ monitors_fallen self }
     {
-        let actor = self.actor;
-        let partner = self.partner;
         Monitors {
-            actor: actor.fall(),
-            partner: partner.fall(),
+            actor: self.actor.fall(),
+            partner: self.partner.fall(),
         }
     }
 }
