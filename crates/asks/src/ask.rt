@@ -2,7 +2,6 @@
 ghost use Rattle.std.specs.Prelude.{◌≡◌};
 ghost use Rattle.asks.specs.Ask.{is_awaiting, never_asked, asked, awaited, ended, ask_fallen};
 
-use machine::ages::fallen;
 use machine::count::one_more;
 use machine::states::Ticks;
 
@@ -85,7 +84,7 @@ impl Ask {
     pub fn fall(self) -> Ask
         ensures { result ≡ ask_fallen self }
     {
-        let timer = fallen(self.timer);
+        let timer = self.timer.fallen();
         let a = Ask { timer, ..self };
         if timer == Ticks(0) {
             a.end(Outcome::TimedOut)

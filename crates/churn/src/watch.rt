@@ -2,7 +2,6 @@
 ghost use Rattle.std.specs.Prelude.{◌≡◌};
 ghost use Rattle.churn.specs.Churn.{churn_next, churn_entered, churn_choice, watched, watch_fallen, monitors_fallen, begun};
 
-use machine::ages::fallen;
 use machine::count::one_more;
 use machine::states::Ticks;
 
@@ -99,7 +98,7 @@ impl Watch {
         ensures { result ≡ watch_fallen self }
     {
         Watch {
-            timer: fallen(self.timer),
+            timer: self.timer.fallen(),
             ..self
         }
     }
