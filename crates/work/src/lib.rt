@@ -17,14 +17,14 @@ use machine::states::Line;
 use port::record::Port;
 use settings::Settings;
 use table::layout::Header;
-use trunk::sweep::{Step, sweep};
+use trunk::sweep::{displace_all, mux_all, periodic_all, tick_all};
 
 // The end of step 2, and steps 3 to 6.
 fn finish(table: &mut [u8])
     requires { table_in_range table.old ≡ true }
     ensures { Leaves table.old table.new (worked (header_of table.old) (ports table.old)) }
 {
-    sweep(table, Step::Periodic);
+    periodic_all(table);
     trunk::settle::settle(table);
 }
 
@@ -42,7 +42,7 @@ pub fn advance(table: &mut [u8])
     requires { table_in_range table.old ≡ true }
     ensures { table.new ≡ on_octets after_tick table.old }
 {
-    sweep(table, Step::Tick);
+    tick_all(table);
     finish(table);
 }
 
@@ -78,7 +78,7 @@ pub fn receive(table: &mut [u8], i: usize, p: Port, frame: &[u8])
 {
     let a = Block::read(frame::wire::actor(frame));
     receive_one(table, i, p, a, frame);
-    sweep(table, Step::Displaced(i, a));
+    displace_all(table, i, a);
     finish(table);
 }
 
@@ -152,5 +152,5 @@ pub fn begin(table: &mut [u8], header: Header, settings: Settings)
 {
     table::fill(table, header, settings.start());
     trunk::settle::join_all(table);
-    sweep(table, Step::Mux);
+    mux_all(table);
 }

@@ -8,7 +8,6 @@ use Rattle.port.specs.Range.{own_fits}
 use Rattle.table.specs.Table.{table_octets}
 use Rattle.trunk.specs.Settled.{muxed, settled}
 use Rattle.work.specs.Work.{after_start}
-use Rattle.octets.proofs.ListLaws.{sweep_map}
 use Rattle.table.proofs.FillLaws.{room-is}
 use Rattle.table.proofs.LeavesLaws.{made_of, then, said}
 use Rattle.settings.proofs.RangeLaws.{started_typed}
@@ -29,7 +28,6 @@ returns c =
     let a = c.args in
     let laid = c.fill.ensures in
     let first = c.join_all.ensures in
-    let second = said (sweep_map muxed 0 _) c.sweep.ensures in
-    let both = said (ap (λ (l : List Port). map muxed l) first.records) (then first second) in
+    let both = said (ap (λ (l : List Port). map muxed l) first.records) (then first c.mux_all.ensures) in
     made_of both (λ j. (c.type_inv.table j).fits)
     ∙ (λ j. table_octets (laid.0 j) (settled (laid.0 j) ((laid.2 ∙ ap (replicate a.header.count) c.start.ensures) j)))

@@ -1,6 +1,4 @@
 -- `work::finish` meets its contract: the periodic machines of all ports, then steps 3 to 6. Assumes nothing.
-use Rattle.octets.proofs.ListLaws.{sweep_map}
-use Rattle.port.specs.Periodic.{periodic_run}
 use Rattle.trunk.specs.Settled.{settled}
 use Rattle.table.proofs.LeavesLaws.{then, said}
 use Rattle.work.specs.Work.{worked}
@@ -9,6 +7,6 @@ use Rattle.work.proofs.finish.Goals as goal
 pub returns : goal.returns
 unfolding worked
 returns c =
-    let periodics = said (sweep_map periodic_run 0 _) c.sweep.ensures in
+    let periodics = c.periodic_all.ensures in
     let settled· = c.settle.ensures in
     said (λ i. settled (periodics.header i) (periodics.records i)) (then periodics settled·)

@@ -15,11 +15,11 @@ receive_one-requires c =
     (e.0, e.1, a, e.2)
 
 pub returns : goal.returns
-unfolding after_received displaced
+unfolding after_received
 returns c =
     let i = c.args.i in
     let first = c.receive_one.ensures in
-    let second = c.sweep.ensures in
+    let second = c.displace_all.ensures in
     let third = c.finish.ensures in
     let a : ◌≡◌ {A = Block} _ _ = c.read-a.ensures ∙ ap block_of c.actor.ensures.0 in
     made_of
