@@ -355,9 +355,8 @@ MUTANTS = [
         ("machine/specs/Ages.antt", "forgotten_age = 11", "forgotten_age = 10"),
         ("machine/src/ages.rt", "FORGOTTEN_AGE: u8 = 11;", "FORGOTTEN_AGE: u8 = 10;"))),
     Mutant("8 three sends", "a second send that forgets the first", ("fourth-at_once", "ages-spread"), "machine::states::Ages::with_send", (
-        ("machine/specs/Ages.antt", "(ages 0 g.first g.third) (ages 0 g.first g.second))", "(ages 0 no_send g.third) (ages 0 g.first g.second))"),
-        ("machine/src/ages.rt", "                second: self.first,\n                third: self.third,\n            };\n        }\n        Ages {",
-         "                second: NO_SEND,\n                third: self.third,\n            };\n        }\n        Ages {"))),
+        ("machine/specs/Ages.antt", "(ages (Some 0) g.first g.third) (ages (Some 0) g.first g.second))", "(ages (Some 0) no_send g.third) (ages (Some 0) g.first g.second))"),
+        ("machine/src/ages.rt", "                second: self.first,\n                ..self", "                second: None,\n                ..self"))),
     Mutant("9 the line call", "NTT kept at half duplex", ("half_silent",), "machine::states::Line::is_silent", (
         ("machine/specs/States.antt", "silent_on l passive = not l.full || (l.up && passive)", "silent_on l passive = l.full && (l.up && passive)"),
         ("machine/src/states.rt", "!self.full | (self.up & passive)", "self.full & (self.up & passive)"))),

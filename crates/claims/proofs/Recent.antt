@@ -6,12 +6,13 @@ use mathlib.Core.Bool.{Bool, true, false, cond}
 use mathlib.Core.List.{List, [], ◌∷◌, map}
 use native.Mathlib.Omega.{arith}
 use lib.ListN.{length, get_or}
-use lib.Dec.{eqb, leb}
-use borrow.Author.Tests.{eqb-true, leb-true, leb-false, le-leb}
+use lib.Dec.{leb}
+use borrow.Author.Tests.{leb-true, leb-false, le-leb}
+use Rattle.std.specs.Prelude.{Some}
 use Rattle.machine.specs.declared.states.Ages.{Ages}
 use Rattle.machine.specs.Ages.{ages, no_send, aged, sent_ages, barred, ages_ticked}
 use Rattle.machine.specs.Time.{fast_periodic_time}
-use Rattle.claims.specs.ThreeSends.{recent, in_places}
+use Rattle.claims.specs.ThreeSends.{recent, in_place, in_places}
 
 -- ---- lists of sends
 
@@ -50,29 +51,29 @@ none-recent b (a ∷ l) h g = by (none-recent b l h.1 g) (leb a fast_periodic_ti
     by rest true e = let u : a ≤ fast_periodic_time = leb-true a fast_periodic_time e in let v : b ≤ a = h.0 in absurd (omega arith)
     by rest false e = rest
 
-aged-old : (a : ℕ) → fast_periodic_time ≤ a → aged a ≡ no_send
+aged-old : (a : ℕ) → fast_periodic_time ≤ a → aged (Some a) ≡ no_send
 aged-old a h = rw (le-leb fast_periodic_time a h)
 
-old-aged : (b : ℕ) (l : List ℕ) → Least b l → fast_periodic_time ≤ b → (k : ℕ) → aged (get_or (recent l) k no_send) ≡ no_send
+old-aged : (b : ℕ) (l : List ℕ) → Least b l → fast_periodic_time ≤ b → (k : ℕ) → aged (in_place (recent l) k) ≡ no_send
 unfolding Least recent
 old-aged b [] h g k = refl
 old-aged b (a ∷ l) h g k = by (λ m. old-aged b l h.1 g m) (leb a fast_periodic_time) k
   where
-    by : ((m : ℕ) → aged (get_or (recent l) m no_send) ≡ no_send) → (x : Bool) (m : ℕ) → aged (get_or (cond x (a ∷ recent l) (recent l)) m no_send) ≡ no_send
+    by : ((m : ℕ) → aged (in_place (recent l) m) ≡ no_send) → (x : Bool) (m : ℕ) → aged (in_place (cond x (a ∷ recent l) (recent l)) m) ≡ no_send
     by rest true zero = let v : b ≤ a = h.0 in aged-old a (omega arith)
     by rest true (suc m) = rest m
     by rest false m = rest m
 
 -- one tick older
-aged-young : (a : ℕ) → suc a ≤ fast_periodic_time → suc a ≡ aged a
+aged-young : (a : ℕ) → suc a ≤ fast_periodic_time → Some (suc a) ≡ aged (Some a)
 aged-young a g = by (leb fast_periodic_time a) refl
   where
-    by : (x : Bool) → leb fast_periodic_time a ≡ x → suc a ≡ cond x no_send (a + 1)
+    by : (x : Bool) → leb fast_periodic_time a ≡ x → Some (suc a) ≡ cond x no_send (Some (a + 1))
     by true e = let u : fast_periodic_time ≤ a = leb-true fast_periodic_time a e in absurd (omega arith)
-    by false e = omega arith
+    by false e = let one_more : suc a ≡ a + 1 = omega arith in ap (λ (n : ℕ). Some n) one_more
 
 -- a tick, place by place
-recent-ticked : (l : List ℕ) → Rising l → (k : ℕ) → get_or (recent (map suc l)) k no_send ≡ aged (get_or (recent l) k no_send)
+recent-ticked : (l : List ℕ) → Rising l → (k : ℕ) → in_place (recent (map suc l)) k ≡ aged (in_place (recent l) k)
 unfolding Rising recent
 recent-ticked [] h k = refl
 recent-ticked (a ∷ l) h k = by (λ m. recent-ticked l h.1 m) (leb (suc a) fast_periodic_time) refl k
@@ -80,15 +81,15 @@ recent-ticked (a ∷ l) h k = by (λ m. recent-ticked l h.1 m) (leb (suc a) fast
     young : suc a ≤ fast_periodic_time → leb a fast_periodic_time ≡ true
     young g = le-leb a fast_periodic_time (omega arith)
 
-    by : ((m : ℕ) → get_or (recent (map suc l)) m no_send ≡ aged (get_or (recent l) m no_send)) → (x : Bool) → leb (suc a) fast_periodic_time ≡ x → (m : ℕ)
-        → get_or (cond x (suc a ∷ recent (map suc l)) (recent (map suc l))) m no_send ≡ aged (get_or (recent (a ∷ l)) m no_send)
+    by : ((m : ℕ) → in_place (recent (map suc l)) m ≡ aged (in_place (recent l) m)) → (x : Bool) → leb (suc a) fast_periodic_time ≡ x → (m : ℕ)
+        → in_place (cond x (suc a ∷ recent (map suc l)) (recent (map suc l))) m ≡ aged (in_place (recent (a ∷ l)) m)
     by rest true e zero = let g : suc a ≤ fast_periodic_time = leb-true (suc a) fast_periodic_time e in rw (young g) (aged-young a g)
     by rest true e (suc m) = let g : suc a ≤ fast_periodic_time = leb-true (suc a) fast_periodic_time e in rw (young g) (rest m)
     by rest false e m =
         let g : fast_periodic_time < suc a = leb-false (suc a) fast_periodic_time e in
         let gone : recent (map suc l) ≡ [] = none-recent (suc a) (map suc l) (least-suc a l h.0) g in
         let self : Least a (a ∷ l) = unfold Least in (omega arith, h.0) in
-        ap (λ (x : List ℕ). get_or x m no_send) gone ∙ sym (old-aged a (a ∷ l) self (omega arith) m)
+        ap (λ (x : List ℕ). in_place x m) gone ∙ sym (old-aged a (a ∷ l) self (omega arith) m)
 
 fewer_ticked : (l : List ℕ) → length (recent (map suc l)) ≤ length (recent l)
 unfolding recent
@@ -107,42 +108,19 @@ fewer_ticked (a ∷ l) = by (fewer_ticked l) (leb (suc a) fast_periodic_time) (l
 
 -- ---- places
 
--- sends that are recent are told from none
-Young : List ℕ → Type 0
-Young [] = Unit
-Young (a ∷ l) = (a ≤ fast_periodic_time) × Young l
-
-recent-young : (l : List ℕ) → Young (recent l)
-unfolding Young recent
-recent-young [] = tt
-recent-young (a ∷ l) = by (recent-young l) (leb a fast_periodic_time) refl
-  where
-    by : Young (recent l) → (x : Bool) → leb a fast_periodic_time ≡ x → Young (cond x (a ∷ recent l) (recent l))
-    by rest true e = (leb-true a fast_periodic_time e, rest)
-    by rest false e = rest
-
-sent_mark : (a : ℕ) → a ≤ fast_periodic_time → eqb a no_send ≡ false
-sent_mark a h = by (eqb a no_send) refl
-  where
-    by : (x : Bool) → eqb a no_send ≡ x → x ≡ false
-    by true e = let u : a ≡ no_send = eqb-true a no_send e in absurd (omega arith)
-    by false e = refl
-
 -- all three places are taken exactly if there are three
-places_barred : (l : List ℕ) → Young l → barred (in_places l) ≡ leb 3 (length l)
-unfolding Young
-places_barred [] y = refl
-places_barred (a ∷ []) y = rw (sent_mark a y.0)
-places_barred (a ∷ b ∷ []) y = rw (sent_mark a y.0, sent_mark b y.1.0)
-places_barred (a ∷ b ∷ c ∷ l) y = rw (sent_mark a y.0, sent_mark b y.1.0, sent_mark c y.1.1.0, le-leb 3 (length (a ∷ b ∷ c ∷ l)) (omega arith))
+places_barred : (l : List ℕ) → barred (in_places l) ≡ leb 3 (length l)
+places_barred [] = refl
+places_barred (a ∷ []) = refl
+places_barred (a ∷ b ∷ []) = refl
+places_barred (a ∷ b ∷ c ∷ l) = rw (le-leb 3 (length (a ∷ b ∷ c ∷ l)) (omega arith))
 
 -- where one is free, a send goes before the others
-places_sent : (l : List ℕ) → Young l → leb 3 (length l) ≡ false → sent_ages (in_places l) ≡ in_places (0 ∷ l)
-unfolding Young
-places_sent [] y e = refl
-places_sent (a ∷ []) y e = rw (sent_mark a y.0)
-places_sent (a ∷ b ∷ []) y e = rw (sent_mark a y.0, sent_mark b y.1.0)
-places_sent (a ∷ b ∷ c ∷ l) y e = let u : length (a ∷ b ∷ c ∷ l) < 3 = leb-false 3 (length (a ∷ b ∷ c ∷ l)) e in absurd (omega arith)
+places_sent : (l : List ℕ) → leb 3 (length l) ≡ false → sent_ages (in_places l) ≡ in_places (0 ∷ l)
+places_sent [] e = refl
+places_sent (a ∷ []) e = refl
+places_sent (a ∷ b ∷ []) e = refl
+places_sent (a ∷ b ∷ c ∷ l) e = let u : length (a ∷ b ∷ c ∷ l) < 3 = leb-false 3 (length (a ∷ b ∷ c ∷ l)) e in absurd (omega arith)
 
 -- ---- what a record remembers of some sends
 
@@ -159,7 +137,7 @@ pub keeps-ticked : (l : List ℕ) (g : Ages) → Keeps l g → Keeps (map suc l)
 keeps-ticked l g k =
     let fewer : length (recent (map suc l)) ≤ length (recent l) = fewer_ticked l in
     let few : length (recent l) ≤ 3 = k.few in
-    let at : (j : ℕ) → aged (get_or (recent l) j no_send) ≡ get_or (recent (map suc l)) j no_send = λ j. sym (recent-ticked l k.rising j) in
+    let at : (j : ℕ) → aged (in_place (recent l) j) ≡ in_place (recent (map suc l)) j = λ j. sym (recent-ticked l k.rising j) in
     record {
       rising = rising-suc l k.rising;
       few = omega arith;
@@ -167,7 +145,7 @@ keeps-ticked l g k =
     }
 
 pub keeps_free : (l : List ℕ) (g : Ages) → Keeps l g → barred g ≡ leb 3 (length (recent l))
-keeps_free l g k = ap barred k.remembered ∙ places_barred (recent l) (recent-young l)
+keeps_free l g k = ap barred k.remembered ∙ places_barred (recent l)
 
 pub keeps-sent : (l : List ℕ) (g : Ages) → Keeps l g → barred g ≡ false → Keeps (0 ∷ l) (sent_ages g)
 unfolding Rising recent
@@ -177,7 +155,7 @@ keeps-sent l g k e =
     record {
       rising = (least_zero l, k.rising);
       few = omega arith;
-      remembered = ap sent_ages k.remembered ∙ places_sent (recent l) (recent-young l) free;
+      remembered = ap sent_ages k.remembered ∙ places_sent (recent l) free;
     }
 
 -- ---- a send and those after it

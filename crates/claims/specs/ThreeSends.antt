@@ -1,5 +1,5 @@
 -- 43.4.16: at most three LACPDUs of a port in any Fast_Periodic_Time. What the fetches of a run sent, and what the records remember of it.
-use Rattle.std.specs.Prelude.{ℕ, suc, ◌-◌, ◌<◌, ◌≤◌, ◌≡◌, Bool, true, false, cond, ◌&&◌, List, [], ◌∷◌, map, length, get_or, eqb, leb, Ok}
+use Rattle.std.specs.Prelude.{ℕ, suc, ◌-◌, ◌<◌, ◌≤◌, ◌≡◌, Bool, true, false, cond, ◌&&◌, List, [], ◌∷◌, map, length, get_or, eqb, leb, Option, Some, Ok}
 use Rattle.frame.specs.Class.{frame_size}
 use Rattle.machine.specs.declared.states.Ages.{Ages}
 use Rattle.machine.specs.Ages.{ages, no_send}
@@ -43,9 +43,12 @@ unfoldable pub recent : List ℕ → List ℕ
 recent [] = []
 recent (a ∷ l) = cond (leb a fast_periodic_time) (a ∷ recent l) (recent l)
 
--- the first three of them, and the mark for no send where there are fewer
+-- the first three of them, and no send where there are fewer
+abbrev pub in_place : List ℕ → ℕ → Option ℕ
+in_place l k = get_or (map (λ (a : ℕ). Some a) l) k no_send
+
 abbrev pub in_places : List ℕ → Ages
-in_places l = ages (get_or l 0 no_send) (get_or l 1 no_send) (get_or l 2 no_send)
+in_places l = ages (in_place l 0) (in_place l 1) (in_place l 2)
 
 -- 8: the record has just the recent sends, of which there are never more than three; and a fetch with room for its frame is refused with 11
 -- exactly if an LACPDU is due on a port that is up at full duplex, and three sends are recent

@@ -1,6 +1,6 @@
 -- One run, computed: a table that calls made, and what each theorem says of it and of what a call makes of it. So no theorem is empty, and a
 -- definition that breaks one shows here, whatever the laws below say of it.
-use Rattle.std.specs.Prelude.{ℕ, zero, suc, ◌+◌, ◌-◌, ◌≡◌, Bool, true, false, not, ◌&&◌, ◌||◌, List, [], ◌∷◌, map, replicate, eqb, Result, Ok, Err}
+use Rattle.std.specs.Prelude.{ℕ, zero, suc, ◌+◌, ◌-◌, ◌≡◌, Bool, true, false, not, ◌&&◌, ◌||◌, List, [], ◌∷◌, map, replicate, eqb, Result, Ok, Err, Some}
 use Rattle.octets.specs.Octets.{same_octets}
 use Rattle.octets.specs.Sets.{member}
 use Rattle.frame.specs.declared.block.Block.{Block}
@@ -321,7 +321,7 @@ pub record Witness : Type 0 where
   pub fourth_too_soon : fourth 10 ≡ 11
   pub fourth_in_time : fourth 11 ≡ 0
   pub sends-spread : sends 1 begun spread [] ≡ 0 ∷ 2 ∷ 3 ∷ []
-  pub ages-spread : (port_at (run begun spread) 0).ages ≡ ages 0 2 3
+  pub ages-spread : (port_at (run begun spread) 0).ages ≡ ages (Some 0) (Some 2) (Some 3)
   -- 9
   pub line_taken : map (λ t. (port_at t 0).line) (fallen ∷ halved ∷ dropped ∷ []) ≡ down_full ∷ up_half ∷ down_half ∷ []
   pub line-repeated : same_octets (after (line 1 up_full) trunk) trunk ≡ true

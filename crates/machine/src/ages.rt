@@ -7,48 +7,43 @@ use crate::states::{Ages, Ticks, Timers};
 
 // The age at which a send is forgotten: eleven ticks have ten whole intervals between them.
 pub const FORGOTTEN_AGE: u8 = 11;
-// What stands where there is no send.
-pub const NO_SEND: u8 = 255;
 
 // One tick older; forgotten where that would reach FORGOTTEN_AGE.
-fn aged(a: u8) -> u8
-    ensures { result ≡ ages_aged a }
+fn aged(age: Option<u8>) -> Option<u8>
+    ensures { result ≡ ages_aged age }
 {
-    if FORGOTTEN_AGE - 1 <= a {
-        return NO_SEND;
+    match age {
+        Some(a) if a < FORGOTTEN_AGE - 1 => Some(a + 1),
+        _ => None,
     }
-    a + 1
 }
 
 impl Ages {
     pub fn is_barred(self) -> bool
         ensures { result ≡ barred self }
     {
-        !(self.first == NO_SEND) & (!(self.second == NO_SEND) & !(self.third == NO_SEND))
+        self.first.is_some() & (self.second.is_some() & self.third.is_some())
     }
 
     // One send more: into the first free place, with those before it moved down by one.
     pub fn with_send(self) -> Self
         ensures { result ≡ sent_ages self }
     {
-        if self.first == NO_SEND {
-            return Ages {
-                first: 0,
-                second: self.second,
-                third: self.third,
-            };
-        }
-        if self.second == NO_SEND {
-            return Ages {
-                first: 0,
+        let first = Some(0);
+        if self.first.is_none() {
+            Ages { first, ..self }
+        } else if self.second.is_none() {
+            Ages {
+                first,
                 second: self.first,
-                third: self.third,
-            };
-        }
-        Ages {
-            first: 0,
-            second: self.first,
-            third: self.second,
+                ..self
+            }
+        } else {
+            Ages {
+                first,
+                second: self.first,
+                third: self.second,
+            }
         }
     }
 

@@ -40,7 +40,7 @@ pub enum Selection {
 }
 
 // A time in ticks, ten to the second; a CollectorMaxDelay is another type.
-#[derive(Clone, Copy, PartialEq, Eq)]
+#[derive(Clone, Copy, Default, PartialEq, Eq)]
 pub struct Ticks(pub u16);
 
 #[derive(Clone, Copy, PartialEq, Eq)]
@@ -59,19 +59,19 @@ pub struct Line {
 }
 
 // The three timers; each stands at 0 in a state that has no use for it (R3.13).
-#[derive(Clone, Copy, PartialEq, Eq)]
+#[derive(Clone, Copy, Default, PartialEq, Eq)]
 pub struct Timers {
     pub current: Ticks,
     pub periodic: Ticks,
     pub wait: Ticks,
 }
 
-// How many ticks ago up to three LACPDUs were sent, NO_SEND where there is none.
-#[derive(Clone, Copy, PartialEq, Eq)]
+// How many ticks ago up to three LACPDUs were sent.
+#[derive(Clone, Copy, Default, PartialEq, Eq)]
 pub struct Ages {
-    pub first: u8,
-    pub second: u8,
-    pub third: u8,
+    pub first: Option<u8>,
+    pub second: Option<u8>,
+    pub third: Option<u8>,
 }
 
 impl Line {

@@ -2,11 +2,11 @@
 -- started within their times and fall, ages rise up to the limit, and what is recorded as the partner is a block that fits. Assumes nothing.
 use Prim.Native.Nat.{ℕ, ◌+◌, ◌-◌, ◌≤◌, ◌<◌}
 use mathlib.Core.Path.{◌≡◌, refl}
-use mathlib.Core.Bool.{Bool, true, false, cond, ◌&&◌, ◌||◌}
+use mathlib.Core.Bool.{Bool, true, false, cond, ◌&&◌}
 use native.Mathlib.Omega.{arith}
-use lib.Dec.{leb, ltb, eqb}
-use borrow.Author.Tests.{leb-true, leb-false, le-leb, ltb-true, lt-ltb, eqb-true}
-use Rattle.std.specs.Prelude.{Option, Some, None}
+use lib.Dec.{leb}
+use borrow.Author.Tests.{leb-true, leb-false, le-leb, lt-ltb}
+use Rattle.std.specs.Prelude.{Option, Some, None, is_none}
 use Rattle.octets.specs.Octets.{within, fits}
 use Rattle.octets.proofs.RangeLaws.{both, both_true}
 use Rattle.frame.specs.declared.block.Block.{Block}
@@ -49,20 +49,6 @@ wait-fits t e =
     let most : t.wait.0 ≤ aggregate_wait_time = leb-true t.wait.0 aggregate_wait_time least in
     omega arith
 
-age_fits : (a : ℕ) → age_in_range a ≡ true → a < 256
-age_fits a e = either (ltb a forgotten_age) (eqb a no_send) e (λ s. ltb-true a forgotten_age s) (λ s. eqb-true a no_send s)
-  where
-    either : (x y : Bool) → x || y ≡ true → (x ≡ true → a < forgotten_age) → (y ≡ true → a ≡ no_send) → a < 256
-    either true y s young none = let less : a < forgotten_age = young refl in omega arith
-    either false y s young none = let is : a ≡ no_send = none s in omega arith
-
-pub ages-fit : (g : Ages) → ages_in_range g ≡ true → (g.first < 256) × (g.second < 256) × (g.third < 256)
-unfolding ages_in_range
-ages-fit g e =
-    let e₀ = both _ _ e in
-    let e₁ = both _ _ e₀.1 in
-    (age_fits g.first e₀.0, age_fits g.second e₁.0, age_fits g.third e₁.1)
-
 -- a timer anew
 periodic-timer-ranged : (n : Ticks) (t : Timers) → leb n.0 slow_periodic_time ≡ true → timers_in_range t ≡ true → timers_in_range (timers_periodic n t) ≡ true
 unfolding timers_in_range
@@ -93,10 +79,11 @@ fallen-ranged t e =
     let b = both (leb t.periodic.0 slow_periodic_time) _ a.1 in
     both_true (falls t.current.0 long_timeout_time a.0) (both_true (falls t.periodic.0 slow_periodic_time b.0) (falls t.wait.0 aggregate_wait_time b.1))
 
-aged-ranged : (n : ℕ) → age_in_range (aged n) ≡ true
-aged-ranged n = by (leb (forgotten_age - 1) n) refl
+aged-ranged : (a : Option ℕ) → age_in_range (aged a) ≡ true
+aged-ranged None = refl
+aged-ranged (Some n) = by (leb (forgotten_age - 1) n) refl
   where
-    by : (b : Bool) → leb (forgotten_age - 1) n ≡ b → age_in_range (cond b no_send (n + 1)) ≡ true
+    by : (b : Bool) → leb (forgotten_age - 1) n ≡ b → age_in_range (cond b no_send (Some (n + 1))) ≡ true
     by true e = refl
     by false e = let h : n < forgotten_age - 1 = leb-false (forgotten_age - 1) n e in rw (lt-ltb (n + 1) forgotten_age (omega arith))
 
@@ -107,10 +94,10 @@ ages-ranged g = both_true (aged-ranged g.first) (both_true (aged-ranged g.second
 -- a send: what is remembered moves, and the new one has age 0
 sent-ages : (g : Ages) → ages_in_range g ≡ true → ages_in_range (sent_ages g) ≡ true
 unfolding ages_in_range
-sent-ages g e = by (eqb g.first no_send) (eqb g.second no_send)
+sent-ages g e = by (is_none g.first) (is_none g.second)
   where
     by : (a b : Bool)
-        → ages_in_range (cond a (ages 0 g.second g.third) (cond b (ages 0 g.first g.third) (ages 0 g.first g.second))) ≡ true
+        → ages_in_range (cond a (ages (Some 0) g.second g.third) (cond b (ages (Some 0) g.first g.third) (ages (Some 0) g.first g.second))) ≡ true
     by true b = (both (age_in_range g.first) _ e).1
     by false true = both_true (both (age_in_range g.first) _ e).0 (both (age_in_range g.second) _ (both (age_in_range g.first) _ e).1).1
     by false false = both_true (both (age_in_range g.first) _ e).0 (both (age_in_range g.second) _ (both (age_in_range g.first) _ e).1).0

@@ -1,5 +1,5 @@
 -- The record of no port: what zero octets tell of. Reports give it beside a refusal (R2.20), and a state has it where it has no port.
-use Rattle.std.specs.Prelude.{false}
+use Rattle.std.specs.Prelude.{false, Some}
 use Rattle.frame.specs.declared.state.PortState.{PortState}
 use Rattle.frame.specs.declared.block.Address.{Address}
 use Rattle.frame.specs.declared.block.Block.{Block}
@@ -34,4 +34,4 @@ no_own = record { address = no_address; key = 0; priority = 0; default = no_bloc
 abbrev pub no_port : Port
 no_port =
     port (phase Initialize NoPeriodic Detached Unselected) 0 false (record { up = false; full = false }) no_state
-    (timers (ticks 0) (ticks 0) (ticks 0)) (ages 0 0 0) no_own no_block
+    (timers (ticks 0) (ticks 0) (ticks 0)) (ages (Some 0) (Some 0) (Some 0)) no_own no_block

@@ -1,11 +1,11 @@
 -- The ranges of a record's values (R3.14, R3.15, R3.17), and its numbers, which fit their two octets.
-use Rattle.std.specs.Prelude.{ℕ, Bool, true, ◌&&◌, ◌||◌, List, [], ◌∷◌, leb, ltb, eqb}
+use Rattle.std.specs.Prelude.{ℕ, Bool, true, ◌&&◌, List, [], ◌∷◌, leb, ltb, Option, Some, None}
 use Rattle.octets.specs.Octets.{fits, within}
 use Rattle.frame.specs.Block.{address_fits, block_fits}
 use Rattle.machine.specs.declared.states.Timers.{Timers}
 use Rattle.machine.specs.declared.states.Ages.{Ages}
 use Rattle.machine.specs.Time.{slow_periodic_time, long_timeout_time, aggregate_wait_time}
-use Rattle.machine.specs.Ages.{forgotten_age, no_send}
+use Rattle.machine.specs.Ages.{forgotten_age}
 use Rattle.port.specs.declared.record.Own.{Own}
 use Rattle.port.specs.declared.record.Port.{Port}
 
@@ -14,8 +14,9 @@ unfoldable pub timers_in_range : Timers → Bool
 timers_in_range t = leb t.current.0 long_timeout_time && (leb t.periodic.0 slow_periodic_time && leb t.wait.0 aggregate_wait_time)
 
 -- a send that is remembered, or none
-abbrev pub age_in_range : ℕ → Bool
-age_in_range a = ltb a forgotten_age || eqb a no_send
+abbrev pub age_in_range : Option ℕ → Bool
+age_in_range None = true
+age_in_range (Some a) = ltb a forgotten_age
 
 -- each of the three ages
 unfoldable pub ages_in_range : Ages → Bool

@@ -6,8 +6,7 @@ ghost use Rattle.settings.specs.Settings.{regrouped, same_grouping, same_setting
 
 use frame::block::{Address, Block};
 use frame::state::PortState;
-use machine::ages::NO_SEND;
-use machine::states::{Ages, Line, Mux, Periodic, Phase, Receive, Selection, Ticks, Timers};
+use machine::states::{Ages, Line, Mux, Periodic, Phase, Receive, Selection, Timers};
 use port::record::{Own, Port};
 
 #[derive(Clone, Copy, PartialEq, Eq)]
@@ -56,45 +55,24 @@ impl Settings {
     fn blank_port(self) -> Port
         ensures { result ≡ blank self }
     {
-        let clear = PortState {
-            activity: false,
-            timeout: false,
-            aggregation: false,
-            synchronization: false,
-            collecting: false,
-            distributing: false,
-            defaulted: false,
-            expired: false,
-        };
-        let phase = Phase {
-            receive: Receive::Initialize,
-            periodic: Periodic::NoPeriodic,
-            mux: Mux::Detached,
-            selected: Selection::Unselected,
-        };
-        let timers = Timers {
-            current: Ticks(0),
-            periodic: Ticks(0),
-            wait: Ticks(0),
-        };
-        let partner = self.default;
         Port {
-            phase,
+            phase: Phase {
+                receive: Receive::Initialize,
+                periodic: Periodic::NoPeriodic,
+                mux: Mux::Detached,
+                selected: Selection::Unselected,
+            },
             aggregator: 1,
             ntt: true,
             line: Line {
                 up: false,
                 full: true,
             },
-            actor: self.bits(clear),
-            timers,
-            ages: Ages {
-                first: NO_SEND,
-                second: NO_SEND,
-                third: NO_SEND,
-            },
+            actor: self.bits(PortState::default()),
+            timers: Timers::default(),
+            ages: Ages::default(),
             own: self.own(),
-            partner,
+            partner: self.default,
         }
     }
 

@@ -1,9 +1,16 @@
--- A flag and its octet tell the same, both ways, and the numbers of flags and states are within their ranges. By cases. Assumes nothing.
-use Prim.Native.Nat.{ℕ, zero, suc, ◌≤◌}
-use mathlib.Core.Path.{◌≡◌, refl}
-use mathlib.Core.Bool.{Bool, true, false}
+-- A flag, an age and its octet tell the same, both ways, and the numbers of flags and states are within their ranges. By cases. Assumes nothing.
+use Prim.Native.Nat.{ℕ, zero, suc, ◌≤◌, ◌<◌}
+use mathlib.Core.Path.{◌≡◌, refl, sym}
+use mathlib.Core.Bool.{Bool, true, false, cond}
 use native.Mathlib.Omega.{arith}
+use lib.Dec.{eqb}
+use borrow.Author.Tests.{eqb-true, ne_eqb, ltb-true}
+use Rattle.std.specs.Prelude.{Option, Some, None}
 use Rattle.octets.specs.Octets.{within}
+use Rattle.octets.proofs.RangeLaws.{both}
+use Rattle.machine.specs.declared.states.Ages.{Ages}
+use Rattle.machine.specs.Ages.{forgotten_age}
+use Rattle.port.specs.Range.{age_in_range, ages_in_range}
 use Rattle.machine.specs.declared.states.Receive.{Receive}
 use Rattle.machine.specs.declared.states.Receive.TheVariants.{Initialize, PortDisabled, Expired, LacpDisabled, Defaulted, Current}
 use Rattle.machine.specs.declared.states.Periodic.{Periodic}
@@ -13,7 +20,7 @@ use Rattle.machine.specs.declared.states.Mux.TheVariants.{Detached, Waiting, Att
 use Rattle.machine.specs.declared.states.Selection.{Selection}
 use Rattle.machine.specs.declared.states.Selection.TheVariants.{Unselected, Selected}
 use Rattle.machine.specs.Codes.{receive_code, periodic_code, mux_code, selected_code}
-use Rattle.table.specs.Codes.{flag_octet, flag_of}
+use Rattle.table.specs.Codes.{flag_octet, flag_of, no_age, age_octet, age_of}
 
 pub flag-back : (b : Bool) → flag_of (flag_octet b) ≡ b
 flag-back true = refl
@@ -52,3 +59,27 @@ mux-within Distributing = refl
 pub selected-within : (s : Selection) → within 0 (selected_code s) 1 ≡ true
 selected-within Unselected = refl
 selected-within Selected = refl
+
+-- ---- ages: in range they are told from none, and every octet goes back
+
+pub age-back : (a : Option ℕ) → age_in_range a ≡ true → age_of (age_octet a) ≡ a
+age-back None e = refl
+age-back (Some a) e = let young : a < 11 = ltb-true a forgotten_age e in rw (ne_eqb a no_age (λ x. omega (arith, young, x)))
+
+pub age_octet-back : (n : ℕ) → age_octet (age_of n) ≡ n
+age_octet-back n = by (eqb n no_age) refl
+  where
+    by : (b : Bool) → eqb n no_age ≡ b → age_octet (cond b None (Some n)) ≡ n
+    by true e = sym (eqb-true n no_age e)
+    by false e = refl
+
+age-fits : (a : Option ℕ) → age_in_range a ≡ true → age_octet a < 256
+age-fits None e = omega arith
+age-fits (Some a) e = let young : a < 11 = ltb-true a forgotten_age e in omega (arith, young)
+
+pub ages-fit : (g : Ages) → ages_in_range g ≡ true → (age_octet g.first < 256) × (age_octet g.second < 256) × (age_octet g.third < 256)
+unfolding ages_in_range
+ages-fit g e =
+    let first = both (age_in_range g.first) _ e in
+    let second = both (age_in_range g.second) _ first.1 in
+    (age-fits g.first first.0, age-fits g.second second.0, age-fits g.third second.1)

@@ -9,7 +9,7 @@ use lib.Seq.{length-take-le, get_or-take, get_or-drop}
 use Rattle.octets.specs.Octets.{Octets}
 use Rattle.octets.proofs.Laws.{number-back, spread, spread-all, spread-part}
 use Rattle.octets.proofs.OctetLists.{octets_of_lem, append-octets, take-octets, drop-octets, first_back, second_back}
-use Rattle.octets.proofs.RangeLaws.{both_true, small}
+use Rattle.octets.proofs.RangeLaws.{both, both_true, small}
 use Rattle.frame.specs.Block.{block_of, block_octets}
 use Rattle.frame.specs.Wire.{part}
 use Rattle.frame.proofs.BlockLaws.{port-state-back, octet-back, octet-le, block_back, block_octets-back}
@@ -20,9 +20,9 @@ use Rattle.table.specs.Record.{phase_octets, status_octets, timers_octets, ages_
 use Rattle.machine.specs.Codes.{receive_code, periodic_code, mux_code, selected_code}
 use Rattle.table.specs.Codes.{flag_octet}
 use Rattle.machine.proofs.CodeLaws.{receive-back, periodic-back, mux-back, selected-back, receive_code-back, periodic_code-back, mux_code-back, selected_code-back}
-use Rattle.table.proofs.CodeLaws.{flag-back, flag_octet-back, flag-within, receive-within, periodic-within, mux-within, selected-within}
-use Rattle.port.specs.Range.{values_in_range, port_in_range}
-use Rattle.port.proofs.RangeLaws.{ranged-values, wait-fits, ages-fit, ranged}
+use Rattle.table.proofs.CodeLaws.{age-back, age_octet-back, ages-fit, flag-back, flag_octet-back, flag-within, receive-within, periodic-within, mux-within, selected-within}
+use Rattle.port.specs.Range.{age_in_range, ages_in_range, values_in_range, port_in_range}
+use Rattle.port.proofs.RangeLaws.{ranged-values, wait-fits, ranged}
 use Rattle.table.specs.Range.{codes_in_range, record_in_range}
 use Rattle.table.proofs.RangeLaws.{own-fits, own-octets, timers-octets, ranged-octets}
 use mathlib.Core.Bool.{Bool, true}
@@ -38,10 +38,12 @@ pub encoded-length : (p : Port) → length (encoded p) ≡ record_size
 unfolding encoded
 encoded-length p = refl
 
--- record to octets to record, where the wait timer fits its one octet
-pub record_back : (p : Port) → p.timers.wait.0 < 256 → decoded (encoded p) ≡ p
-unfolding encoded decoded
-record_back p h =
+-- record to octets to record, where the wait timer fits its one octet and the ages are in range
+record_back : (p : Port) → p.timers.wait.0 < 256 → ages_in_range p.ages ≡ true → decoded (encoded p) ≡ p
+unfolding encoded decoded ages_in_range
+record_back p h e =
+    let first = both (age_in_range p.ages.first) _ e in
+    let second = both (age_in_range p.ages.second) _ first.1 in
     let wait : p.timers.wait.0 % 256 ≡ p.timers.wait.0 = omega arith in
     λ i. record {
       phase = record {
@@ -59,7 +61,7 @@ record_back p h =
         periodic = record { 0 = number-back p.timers.periodic.0 i };
         wait = record { 0 = wait i };
       };
-      ages = p.ages;
+      ages = record { first = age-back p.ages.first first.0 i; second = age-back p.ages.second second.0 i; third = age-back p.ages.third second.1 i };
       own = record {
         address = record {
           high = number-back p.own.address.high i;
@@ -102,7 +104,7 @@ record_octets-back count l n o e =
     ∷ first_back l o 9 i ∷ second_back l o 9 i
     ∷ first_back l o 11 i ∷ second_back l o 11 i
     ∷ wait i
-    ∷ get_or l 14 0 ∷ get_or l 15 0 ∷ get_or l 16 0
+    ∷ age_octet-back (get_or l 14 0) i ∷ age_octet-back (get_or l 15 0) i ∷ age_octet-back (get_or l 16 0) i
     ∷ first_back l o 17 i ∷ second_back l o 17 i
     ∷ first_back l o 19 i ∷ second_back l o 19 i
     ∷ first_back l o 21 i ∷ second_back l o 21 i
@@ -115,7 +117,7 @@ record_octets-back count l n o e =
 
 -- record to octets to record
 pub port-back : (count : ℕ) (p : Port) → port_in_range count p ≡ true → decoded (encoded p) ≡ p
-port-back count p e = record_back p (wait-fits p.timers (ranged count p e).timers)
+port-back count p e = let r = ranged count p e in record_back p (wait-fits p.timers r.timers) r.ages
 
 -- a record in range has octets in range
 pub encoded_in_range : (count : ℕ) (p : Port) → port_in_range count p ≡ true → record_in_range count (encoded p) ≡ true

@@ -15,7 +15,7 @@ use Rattle.port.specs.declared.record.Own.{Own}
 use Rattle.port.specs.declared.record.Port.{Port}
 use Rattle.port.specs.Record.{port}
 use Rattle.machine.specs.Codes.{receive_code, receive_of, periodic_code, periodic_of, mux_code, mux_of, selected_code, selected_of}
-use Rattle.table.specs.Codes.{flag_octet, flag_of}
+use Rattle.table.specs.Codes.{flag_octet, flag_of, age_octet, age_of}
 
 -- ---- octets 0 to 3: receive state, periodic state, mux state, Selected
 
@@ -44,10 +44,10 @@ timers_in l = timers (ticks (number_at l 9)) (ticks (number_at l 11)) (ticks (ge
 -- ---- octets 14 to 16: ages of sends
 
 abbrev pub ages_octets : Ages → List ℕ
-ages_octets g = g.first ∷ g.second ∷ g.third ∷ []
+ages_octets g = age_octet g.first ∷ age_octet g.second ∷ age_octet g.third ∷ []
 
 abbrev pub ages_in : List ℕ → Ages
-ages_in l = ages (get_or l 14 0) (get_or l 15 0) (get_or l 16 0)
+ages_in l = ages (age_of (get_or l 14 0)) (age_of (get_or l 15 0)) (age_of (get_or l 16 0))
 
 -- ---- octets 17 to 41: own address, key, port priority, default partner block
 

@@ -5,7 +5,7 @@ ghost use Rattle.table.specs.Range.{codes_in_range, record_in_range};
 
 use crate::layout::RECORD;
 use crate::record::{ages_in, aggregator_in, timers_in};
-use machine::ages::{FORGOTTEN_AGE, NO_SEND};
+use machine::ages::FORGOTTEN_AGE;
 use machine::entry::AGGREGATE_WAIT_TIME;
 use machine::periodic::SLOW_PERIODIC_TIME;
 use machine::receive::LONG_TIMEOUT_TIME;
@@ -38,10 +38,10 @@ fn timers_in_range(timers: Timers) -> bool
 }
 
 // A send that is remembered, or none.
-fn age_in_range(age: u8) -> bool
+fn age_in_range(age: Option<u8>) -> bool
     ensures { result ≡ age_in_range age }
 {
-    (age < FORGOTTEN_AGE) | (age == NO_SEND)
+    age.is_none_or(|a| a < FORGOTTEN_AGE)
 }
 
 // Each of the three ages.

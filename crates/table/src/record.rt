@@ -5,7 +5,7 @@ ghost use Rattle.frame.specs.Block.{block_of};
 ghost use Rattle.frame.specs.State.{port_state_of};
 ghost use Rattle.frame.specs.Wire.{part};
 ghost use Rattle.port.specs.Compared.{compared};
-ghost use Rattle.table.specs.Codes.{flag_of};
+ghost use Rattle.table.specs.Codes.{flag_of, age_octet, age_of};
 ghost use Rattle.table.specs.Keys.{compared_by};
 ghost use Rattle.table.specs.Layout.{record_size};
 ghost use Rattle.octets.specs.Octets.{number_octets};
@@ -22,6 +22,8 @@ use port::record::{Own, Port};
 pub(crate) const TIMERS: usize = 9;
 // Where the ages of sends begin.
 pub(crate) const AGES: usize = 14;
+// What stands in an age's octet where no send is remembered.
+const NO_AGE: u8 = 255;
 
 // What the selection rule compares (R10): own key and Aggregation, and the partner's system, key and Aggregation.
 #[derive(Clone, Copy, PartialEq, Eq)]
@@ -137,11 +139,29 @@ pub fn timers_in(s: &[u8; RECORD]) -> Timers
     }
 }
 
+// The octet of an age.
+fn age_octet(age: Option<u8>) -> u8
+    ensures { result ≡ age_octet age }
+{
+    age.unwrap_or(NO_AGE)
+}
+
+// The age that an octet tells of.
+fn age_of(n: u8) -> Option<u8>
+    ensures { result ≡ age_of n }
+{
+    if n == NO_AGE { None } else { Some(n) }
+}
+
 // Octets 14 to 16: the ages of sends.
 pub(crate) fn ages_octets(ages: Ages) -> [u8; 3]
     ensures { result ≡ ages_octets ages }
 {
-    [ages.first, ages.second, ages.third]
+    [
+        age_octet(ages.first),
+        age_octet(ages.second),
+        age_octet(ages.third),
+    ]
 }
 
 // The ages in octets 14 to 16.
@@ -149,9 +169,9 @@ pub fn ages_in(s: &[u8; RECORD]) -> Ages
     ensures { result ≡ ages_in s.now }
 {
     Ages {
-        first: s[14],
-        second: s[15],
-        third: s[16],
+        first: age_of(s[14]),
+        second: age_of(s[15]),
+        third: age_of(s[16]),
     }
 }
 
