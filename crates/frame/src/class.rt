@@ -60,6 +60,7 @@ fn is_unknown(s: &[u8]) -> bool
 }
 
 // Of R5.3: a length octet that is wrong, of an LACPDU, a Marker or a Response.
+// Kept: `frame_size` is a clause of three functions, since their definitions speak of a frame and not of its first 124 octets.
 #[tactic(auto, unfolding(crate::specs::Class::wrong_length))]
 fn has_wrong_length(s: &[u8]) -> bool
     requires { frame_size ≤ length s.now }
