@@ -1,5 +1,5 @@
 -- Laws of what a port asked for: what is awaited comes to an end at the last tick of its time at the latest; a group and its octets. Assumes nothing.
-use Prim.Native.Nat.{ℕ, ◌+◌, ◌-◌, ◌*◌, ◌/◌, ◌%◌, ◌≤◌, ◌<◌}
+use Prim.Native.Nat.{ℕ, ◌+◌, ◌-◌, ◌≤◌, ◌<◌}
 use mathlib.Core.Path.{◌≡◌, refl, sym, ap, ◌∙◌}
 use mathlib.Core.Bool.{Bool, true, false, cond, ◌&&◌, false≢true}
 use mathlib.Core.List.{List}
@@ -7,8 +7,9 @@ use native.Mathlib.Omega.{arith}
 use lib.ListN.{get_or}
 use lib.Dec.{leb, ltb}
 use borrow.Author.Tests.{leb-true, le-leb, lt-ltb, eqb-false}
-use Rattle.octets.specs.Octets.{Octets, number_at, joined, high, low, long_at}
+use Rattle.octets.specs.Octets.{Octets, number_at, long_at}
 use Rattle.octets.proofs.Laws.{number-back}
+use Rattle.octets.proofs.LongLaws.{long-back, long-fits}
 use Rattle.octets.proofs.RangeLaws.{both, both_true}
 use Rattle.machine.specs.declared.states.Ticks.{Ticks}
 use Rattle.machine.specs.States.{ticks}
@@ -73,10 +74,7 @@ code-back Cancelled = refl
 
 pub group-back : (a : Ask) → group_of (group_octets a) ≡ a
 unfolding group_of group_octets
-group-back a = λ i. asking (code-back a.outcome i) (ticks (number-back a.timer.0 i)) (whole a.number i)
-  where
-    whole : (n : ℕ) → joined (high (n / 65536)) (low (n / 65536)) * 65536 + joined (high (n % 65536)) (low (n % 65536)) ≡ n
-    whole n = (λ i. number-back (n / 65536) i * 65536 + number-back (n % 65536) i) ∙ omega arith
+group-back a = λ i. asking (code-back a.outcome i) (ticks (number-back a.timer.0 i)) (long-back a.number i)
 
 code-small : (o : Outcome) → leb (outcome_code o) 4 ≡ true
 code-small Nothing = refl
@@ -95,11 +93,7 @@ pub group-fits : (l : List ℕ) → Octets l → group_in_range l ≡ true → a
 unfolding group_in_range group_of ask_fits
 group-fits l o e =
     let h = both (leb (get_or l 0 0) 4) (leb (number_at l 1) longest_wait) e in
-    let a = o 3 in
-    let b = o 4 in
-    let c = o 5 in
-    let d = o 6 in
-    both_true h.1 (lt-ltb (long_at l 3) 4294967296 (omega (arith, a, b, c, d)))
+    both_true h.1 (lt-ltb (long_at l 3) 4294967296 (long-fits l o 3))
 
 -- ---- what is made is in range
 

@@ -1,6 +1,6 @@
 -- What is made of the groups of all ports, by a start, a tick and a port's new value: it has its length, is in range and made of octets, and tells of what was meant.
 -- Assumes nothing.
-use Prim.Native.Nat.{ℕ, zero, suc, ◌*◌, ◌/◌, ◌%◌, ◌≤◌, ◌<◌}
+use Prim.Native.Nat.{ℕ, zero, suc, ◌*◌, ◌≤◌, ◌<◌}
 use mathlib.Core.Path.{◌≡◌, refl, sym, ap, ◌∙◌}
 use mathlib.Core.Bool.{Bool, true, false}
 use mathlib.Core.List.{List, [], ◌∷◌, ◌++◌, append-nil}
@@ -13,6 +13,7 @@ use Rattle.octets.specs.Octets.{Octets, put_at, number_octets, long_octets}
 use Rattle.octets.specs.Rows.{row_at, rows_to}
 use Rattle.octets.proofs.Laws.{length-put, put-here, put-after, put-before}
 use Rattle.octets.proofs.OctetLists.{octets_of_lem, append-octets, take-octets, drop-octets, put-octets}
+use Rattle.octets.proofs.LongLaws.{long-octets}
 use Rattle.octets.proofs.RangeLaws.{both, both_true, number-octets}
 use Rattle.octets.proofs.RowLaws.{rows_length, row_of}
 use Rattle.asks.specs.declared.ask.Outcome.{Outcome}
@@ -38,11 +39,8 @@ unfolding group_octets ask_fits
 group-octets a e =
     let h = both (leb a.timer.0 longest_wait) (ltb a.number 4294967296) e in
     let t = leb-true a.timer.0 longest_wait h.0 in
-    let n = ltb-true a.number 4294967296 h.1 in
-    let k : ℕ = a.number in
-    append-octets (outcome_code a.outcome ∷ []) (number_octets a.timer.0 ++ long_octets k) (octets_of_lem (outcome_code a.outcome ∷ []) (code-octet a.outcome, tt))
-    (append-octets (number_octets a.timer.0) (long_octets k) (number-octets a.timer.0 (lt-ltb a.timer.0 65536 (omega (arith, t))))
-    (append-octets (number_octets (k / 65536)) (number_octets (k % 65536)) (number-octets (k / 65536) (lt-ltb (k / 65536) 65536 (omega (arith, n)))) (number-octets (k % 65536) (lt-ltb (k % 65536) 65536 (omega arith)))))
+    append-octets (outcome_code a.outcome ∷ []) (number_octets a.timer.0 ++ long_octets a.number) (octets_of_lem (outcome_code a.outcome ∷ []) (code-octet a.outcome, tt))
+    (append-octets (number_octets a.timer.0) (long_octets a.number) (number-octets a.timer.0 (lt-ltb a.timer.0 65536 (omega (arith, t)))) (long-octets a.number (ltb-true a.number 4294967296 h.1)))
 
 -- ---- groups that are of n ports, in range and made of octets
 

@@ -16,6 +16,7 @@ pub enum Outcome {
 }
 
 // The timer is that of the Marker that is awaited; `number` is the transaction of the next one.
+// Kept: the timer stands beside the outcome, not in Awaiting, since octets may tell of one beside each, and `ask_fallen` lets it fall there too.
 #[derive(Clone, Copy, PartialEq, Eq)]
 pub struct Ask {
     pub outcome: Outcome,

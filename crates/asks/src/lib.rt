@@ -24,6 +24,7 @@ pub fn group_at(groups: &[u8], i: usize) -> &[u8; GROUP]
 }
 
 // What port `i`, from 0, asked for.
+// Kept: groups are octets with an index, not `&mut [[u8; GROUP]]`: the library promises nothing of octets that `as_chunks_mut` lent.
 #[tactic(auto, unfolding(crate::specs::Groups::ask_at))]
 pub fn at(groups: &[u8], i: usize) -> Ask
     requires { group_size * i + group_size ≤ length groups.now }

@@ -1,6 +1,6 @@
 -- Laws of the churn detection machine: a run leads to rest, whatever the memory held; it keeps the ranges; and a group and its octets fix each other.
 -- By the cases of the figures. Assumes nothing.
-use Prim.Native.Nat.{ℕ, ◌+◌, ◌*◌, ◌/◌, ◌%◌, ◌≤◌, ◌<◌}
+use Prim.Native.Nat.{ℕ, ◌≤◌, ◌<◌}
 use mathlib.Core.Path.{◌≡◌, refl, sym, ap, ◌∙◌}
 use mathlib.Core.Bool.{Bool, true, false}
 use mathlib.Core.List.{List}
@@ -11,6 +11,7 @@ use borrow.Author.Tests.{leb-true, le-leb, lt-ltb, ltb-true}
 use Rattle.std.specs.Prelude.{Option, Some, None}
 use Rattle.octets.specs.Octets.{Octets, number_at, joined, high, low, long_at}
 use Rattle.octets.proofs.Laws.{number-back}
+use Rattle.octets.proofs.LongLaws.{long-back, long-fits}
 use Rattle.octets.proofs.RangeLaws.{both, both_true}
 use Rattle.machine.specs.States.{ticks}
 use Rattle.machine.specs.Time.{ran_out}
@@ -107,9 +108,6 @@ code-back NoChurn = refl
 code-back Monitor = refl
 code-back Churn = refl
 
-long-back : (n : ℕ) → n / 65536 * 65536 + n % 65536 ≡ n
-long-back n = omega arith
-
 code-small : (s : State) → leb (churn_code s) 2 ≡ true
 code-small NoChurn = refl
 code-small Monitor = refl
@@ -119,11 +117,8 @@ pub group-back : (m : Monitors) → group_of (group_octets m) ≡ m
 unfolding group_of group_octets
 group-back m =
     λ i. monitors
-    (watch (code-back m.actor.state i) (ticks (number-back m.actor.timer.0 i)) (whole m.actor.count i))
-    (watch (code-back m.partner.state i) (ticks (number-back m.partner.timer.0 i)) (whole m.partner.count i))
-  where
-    whole : (n : ℕ) → joined (high (n / 65536)) (low (n / 65536)) * 65536 + joined (high (n % 65536)) (low (n % 65536)) ≡ n
-    whole n = (λ i. number-back (n / 65536) i * 65536 + number-back (n % 65536) i) ∙ long-back n
+    (watch (code-back m.actor.state i) (ticks (number-back m.actor.timer.0 i)) (long-back m.actor.count i))
+    (watch (code-back m.partner.state i) (ticks (number-back m.partner.timer.0 i)) (long-back m.partner.count i))
 
 pub group-ranged : (m : Monitors) → monitors_fit m ≡ true → group_in_range (group_octets m) ≡ true
 unfolding group_in_range group_octets monitors_fit
@@ -147,9 +142,4 @@ group-fits l o e =
     both_true (both_true t.0 (counts 6)) (both_true t.1 (counts 10))
   where
     counts : (i : ℕ) → ltb (long_at l i) 4294967296 ≡ true
-    counts i =
-        let a = o i in
-        let b = o (i + 1) in
-        let c = o (i + 2) in
-        let d = o (i + 2 + 1) in
-        lt-ltb (long_at l i) 4294967296 (omega (arith, a, b, c, d))
+    counts i = lt-ltb (long_at l i) 4294967296 (long-fits l o i)

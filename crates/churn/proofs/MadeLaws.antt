@@ -1,5 +1,5 @@
 -- A table with a group for each of its ports: the table comes back, each group does, and it has monitors in range where they fit. Assumes nothing.
-use Prim.Native.Nat.{ℕ, zero, suc, ◌+◌, ◌*◌, ◌/◌, ◌%◌, ◌≤◌, ◌<◌}
+use Prim.Native.Nat.{ℕ, zero, suc, ◌+◌, ◌*◌, ◌≤◌, ◌<◌}
 use mathlib.Core.Path.{◌≡◌, refl, sym, ap, ◌∙◌}
 use mathlib.Core.Bool.{Bool, true, false}
 use mathlib.Core.List.{List, [], ◌∷◌, ◌++◌}
@@ -10,6 +10,7 @@ use lib.Dec.{eqb, leb, ltb}
 use borrow.Author.Tests.{eqb-true, eqb-false, eq-eqb, leb-true, ltb-true, lt-ltb}
 use Rattle.octets.specs.Octets.{Octets, number_octets, long_octets}
 use Rattle.octets.proofs.OctetLists.{octets_of_lem, append-octets, take-octets, drop-octets}
+use Rattle.octets.proofs.LongLaws.{long-octets}
 use Rattle.octets.proofs.RangeLaws.{both, both_true, number-octets}
 use Rattle.table.specs.Layout.{place}
 use Rattle.table.specs.Table.{count_in, port_at}
@@ -105,16 +106,10 @@ group-octets m e =
     (octets_of_lem (churn_code m.actor.state ∷ churn_code m.partner.state ∷ []) (code-octet m.actor.state, (code-octet m.partner.state, tt)))
     (append-octets (number_octets m.actor.timer.0) (number_octets m.partner.timer.0 ++ (long_octets m.actor.count ++ long_octets m.partner.count)) (timed m.actor.timer.0 a.0)
     (append-octets (number_octets m.partner.timer.0) (long_octets m.actor.count ++ long_octets m.partner.count) (timed m.partner.timer.0 p.0)
-    (append-octets (long_octets m.actor.count) (long_octets m.partner.count) (long m.actor.count a.1) (long m.partner.count p.1))))
+    (append-octets (long_octets m.actor.count) (long_octets m.partner.count) (long-octets m.actor.count (ltb-true m.actor.count 4294967296 a.1)) (long-octets m.partner.count (ltb-true m.partner.count 4294967296 p.1)))))
   where
     timed : (n : ℕ) → leb n churn_detection_time ≡ true → Octets (number_octets n)
     timed n k = let most = leb-true n churn_detection_time k in number-octets n (lt-ltb n 65536 (omega (arith, most)))
-
-    long : (n : ℕ) → ltb n 4294967296 ≡ true → Octets (long_octets n)
-    long n k =
-        let most = ltb-true n 4294967296 k in
-        append-octets (number_octets (n / 65536)) (number_octets (n % 65536))
-        (number-octets (n / 65536) (lt-ltb (n / 65536) 65536 (omega (arith, most)))) (number-octets (n % 65536) (lt-ltb (n % 65536) 65536 (omega arith)))
 
 groups-octets : (f : ℕ → Monitors) (n : ℕ) → ((i : ℕ) → i < n → monitors_fit (f i) ≡ true) → Octets (groups_to f n)
 unfolding groups_to

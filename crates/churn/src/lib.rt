@@ -19,7 +19,7 @@ pub mod group;
 pub mod watch;
 
 // What goes before the machines in a call: a start begins them anew, a tick has made their timers fall.
-// Kept: what goes before is no closure, since `watched_all` and the theorem `two_runs` speak of it as a value.
+// Kept: a value and no closure, since `watched_all`, `stage_of` (whole) and `event_of` (promises) speak of it, and theorems of promises by them.
 #[derive(Clone, Copy, PartialEq, Eq)]
 pub enum Stage {
     Start,
@@ -60,6 +60,7 @@ fn run_both(s: &[u8; RECORD], m: Monitors) -> Monitors
 }
 
 // A run of the machines of port `i`, from 0.
+// Kept: its size stands in these contracts and in no type: a table is octets that C lends for one call, and a struct would be built of them anew in each.
 fn run_one(table: &mut [u8], i: usize, stage: Stage)
     requires { (length table.old ≡ whole_size (count_in table.old)) × (i < count_in table.old) }
     ensures { table.new ≡ put_at (group_place (count_in table.old) i) (group_octets (watched_at stage table.old i)) table.old }

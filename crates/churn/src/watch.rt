@@ -17,6 +17,7 @@ pub enum Churn {
 }
 
 // A machine's state and timer, and how often it found churn.
+// Kept: the timer stands beside the state, not in Monitor, since octets may tell of one beside each, and `watch_fallen` lets it fall there too.
 #[derive(Clone, Copy, PartialEq, Eq)]
 pub struct Watch {
     pub state: Churn,

@@ -7,3 +7,4 @@ pub mod SetLaws
 pub mod WordLaws
 pub mod RowLaws
 pub mod ChunkLaws
+pub mod LongLaws
