@@ -8,28 +8,20 @@ use lib.Dec.{ltb}
 use borrow.Author.Tests.{ltb-false}
 use Rattle.octets.specs.Octets.{same_octets}
 use Rattle.std.specs.Prelude.{Ok, Err}
+use Rattle.std.proofs.lemmas.Bool.{or_parts}
 use Rattle.frame.specs.declared.class.Refusal.TheVariants.{Foreign, Unknown, Illegal}
 use Rattle.frame.specs.Class.{Class, foreign, unknown, illegal, no_subtype, odd_subtype, short, wrong_length, wrong_marker_type, class_of, kind_of, slow_address, frame_size}
 
-left_clear : (a b : Bool) → a || b ≡ false → a ≡ false
-left_clear true b e = e
-left_clear false b e = refl
-
-pub right_clear : (a b : Bool) → a || b ≡ false → b ≡ false
-right_clear true true e = e
-right_clear true false e = refl
-right_clear false b e = e
-
 pub foreign_clear : (l : List ℕ) → foreign l ≡ false → 14 ≤ length l
 unfolding foreign
-foreign_clear l e = ltb-false (length l) 14 (left_clear (ltb (length l) 14) (not (same_octets (take 6 l) slow_address)) e)
+foreign_clear l e = ltb-false (length l) 14 (or_parts (ltb (length l) 14) (not (same_octets (take 6 l) slow_address)) e).0
 
 pub illegal_clear : (l : List ℕ) → illegal l ≡ false → frame_size ≤ length l
 unfolding illegal
 illegal_clear l e =
     let up_to = no_subtype l || odd_subtype l in
-    ltb-false (length l) frame_size
-    (right_clear up_to (short l) (left_clear (up_to || short l) (wrong_length l) (left_clear (up_to || short l || wrong_length l) (wrong_marker_type l) e)))
+    let parts = (or_parts (up_to || short l) (wrong_length l) (or_parts (up_to || short l || wrong_length l) (wrong_marker_type l) e).0).0 in
+    ltb-false (length l) frame_size (or_parts up_to (short l) parts).1
 
 -- a frame that is not refused has 124 octets or more, so that its blocks are there
 abbrev pub passes : Class → Bool

@@ -9,8 +9,9 @@ use native.Mathlib.Omega.{arith}
 use lib.ListN.{length, take, drop, get_or, replicate, length-append, length-take, length-drop}
 use lib.Seq.{take_all, take-take, length-take-le, get_or-take, take_at, drop_at}
 use lib.Dec.{eqb, ltb}
-use borrow.Author.Tests.{ltb-true, ltb-false, lt-ltb, le-ltb, le-leb, lt-leb, eqb-true, eqb-false, ne_eqb, not-false}
+use borrow.Author.Tests.{lt-ltb, le-ltb, le-leb, lt-leb, eqb-true, ne_eqb, not-false}
 use Rattle.std.specs.Prelude.{Ok, Err}
+use Rattle.std.proofs.lemmas.Bool.{cases_Bool, cases_lt, cases_eq, false_from_ne_true, or_parts}
 use Rattle.octets.specs.Octets.{Octets, same_octets, number_at}
 use Rattle.octets.proofs.Laws.{same_true}
 use Rattle.octets.proofs.RangeLaws.{both}
@@ -25,7 +26,7 @@ use Rattle.frame.specs.State.{state_octet}
 use Rattle.frame.specs.Block.{block_octets}
 use Rattle.frame.specs.Class.{Class, class_of, foreign, unknown, illegal, wrong_length, wrong_marker_type, kind_of, slow_address, slow_type}
 use Rattle.frame.specs.Wire.{actor_part, partner_part, request_part, lacpdu, marker, marker_type_octet, response}
-use Rattle.frame.proofs.ClassLaws.{foreign_clear, right_clear}
+use Rattle.frame.proofs.ClassLaws.{foreign_clear}
 
 -- ---- what a frame is
 
@@ -69,20 +70,6 @@ pub data Told (l : List ℕ) : Class → Type 0 where
 
 -- ---- tests and what they say
 
-either : (t : Bool) → (t ≡ true) ⊎ (t ≡ false)
-either true = inl refl
-either false = inr refl
-
-fails : (t : Bool) → (t ≡ true → ⊥) → t ≡ false
-fails true n = absurd (n refl)
-fails false n = refl
-
-less : (a b : ℕ) → (a < b) ⊎ (b ≤ a)
-less a b = ⊎_elim (λ e. inl (ltb-true a b e)) (λ e. inr (ltb-false a b e)) (either (ltb a b))
-
-equal : (a b : ℕ) → (a ≡ b) ⊎ (a ≡ b → ⊥)
-equal a b = ⊎_elim (λ e. inl (eqb-true a b e)) (λ e. inr (eqb-false a b e)) (either (eqb a b))
-
 module _ (l : List ℕ) where
   addressed_clear : Addressed l → foreign l ≡ false
   unfolding foreign same_octets
@@ -92,11 +79,11 @@ module _ (l : List ℕ) where
   unfolding foreign
   clear_addressed e = record {
     header = foreign_clear l e;
-    to = same_true (take 6 l) slow_address (not-false _ (right_clear (ltb (length l) 14) (not (same_octets (take 6 l) slow_address)) e));
+    to = same_true (take 6 l) slow_address (not-false _ (or_parts (ltb (length l) 14) (not (same_octets (take 6 l) slow_address)) e).1);
   }
 
   not-addressed-foreign : (Addressed l → ⊥) → foreign l ≡ true
-  not-addressed-foreign n = ⊎_elim (λ e. e) (λ e. absurd (n (clear_addressed e))) (either (foreign l))
+  not-addressed-foreign n = ⊎_elim (λ e. e) (λ e. absurd (n (clear_addressed e))) (cases_Bool (foreign l))
 
   abbrev slowTest : Bool
   slowTest = eqb (number_at l 12) slow_type
@@ -150,7 +137,7 @@ module _ (l : List ℕ) where
   pub told_class : Octets l → (c : Class) → Told l c → class_of l ≡ c
   unfolding class_of unknown illegal wrong_length wrong_marker_type
   told_class o c (not-addressed n) = rw (not-addressed-foreign n)
-  told_class o c (other-type a n) = rw (addressed_clear a, fails slowTest (λ e. n (true-slow o a e)))
+  told_class o c (other-type a n) = rw (addressed_clear a, false_from_ne_true slowTest (λ e. n (true-slow o a e)))
   told_class o c (other-subtype s h p q) =
       rw (addressed_clear s.addressed, slow-true s, le-ltb (length l) 15 h, le-leb 3 (get_or l 14 0) p, le-leb (get_or l 14 0) 10 q)
   told_class o c (no_subtype_lem s h) = refused s (slow_known s (inl h)) (rw (lt-ltb (length l) 15 h))
@@ -158,7 +145,7 @@ module _ (l : List ℕ) where
   told_class o c (odd_subtype_lem s h (inr e)) = refused s (slow_known s (inr (inr e))) (rw (le-leb 11 (get_or l 14 0) e, or-true, or-true))
   told_class o c (short s h (inl k) e) = refused s (small_known s (omega arith) k) (rw (lt-ltb (length l) 124 e, or-true))
   told_class o c (short s h (inr k) e) = refused s (small_known s (omega arith) k) (rw (lt-ltb (length l) 124 e, or-true))
-  told_class o c (wrong_lengths f n) = full-refused (omega arith) (omega arith) f (rw (f.subtype, fails lengthsTest (λ e. n (true_lengths e))))
+  told_class o c (wrong_lengths f n) = full-refused (omega arith) (omega arith) f (rw (f.subtype, false_from_ne_true lengthsTest (λ e. n (true_lengths e))))
   told_class o c (wrong_length_lem f n) = full-refused (omega arith) (omega arith) f (rw (f.subtype, ne_eqb (get_or l 17 0) 16 n))
   told_class o c (wrong_type f n m) = full-refused (omega arith) (omega arith) f (rw (f.subtype, ne_eqb (get_or l 16 0) 1 n, ne_eqb (get_or l 16 0) 2 m, or-true))
   told_class o c (is-lacpdu f n) = full-passed (omega arith) (omega arith) f (rw (f.subtype, n.actor, n.partner, n.collector)) ∙ rw f.subtype
@@ -176,37 +163,37 @@ module _ (l : List ℕ) where
 
     by_lengths : Full l 1 → Told l (class_of l)
     by_lengths f =
-        ⊎_elim (λ e. goes (is-lacpdu f (true_lengths e))) (λ e. goes (wrong_lengths f (λ n. false≢true (sym e ∙ lengths_true n)))) (either lengthsTest)
+        ⊎_elim (λ e. goes (is-lacpdu f (true_lengths e))) (λ e. goes (wrong_lengths f (λ n. false≢true (sym e ∙ lengths_true n)))) (cases_Bool lengthsTest)
 
     by-type : Full l 2 → get_or l 17 0 ≡ 16 → (get_or l 16 0 ≡ 1) ⊎ (get_or l 16 0 ≡ 1 → ⊥) → Told l (class_of l)
     by-type f e (inl t) = goes (is-marker f t e)
-    by-type f e (inr n) = ⊎_elim (λ t. goes (is-response f t e)) (λ m. goes (wrong_type f n m)) (equal (get_or l 16 0) 2)
+    by-type f e (inr n) = ⊎_elim (λ t. goes (is-response f t e)) (λ m. goes (wrong_type f n m)) (cases_eq (get_or l 16 0) 2)
 
     by_length : Full l 2 → Told l (class_of l)
-    by_length f = ⊎_elim (λ e. by-type f e (equal (get_or l 16 0) 1)) (λ n. goes (wrong_length_lem f n)) (equal (get_or l 17 0) 16)
+    by_length f = ⊎_elim (λ e. by-type f e (cases_eq (get_or l 16 0) 1)) (λ n. goes (wrong_length_lem f n)) (cases_eq (get_or l 17 0) 16)
 
     by-subtype : Slow l → 15 ≤ length l → (n : ℕ) → get_or l 14 0 ≡ n → Told l (class_of l)
     by-subtype s h zero e = goes (odd_subtype_lem s h (inl e))
     by-subtype s h (suc zero) e =
-        ⊎_elim (λ k. goes (short s h (inl e) k)) (λ k. by_lengths (record { slow = s; whole = k; subtype = e })) (less (length l) 124)
+        ⊎_elim (λ k. goes (short s h (inl e) k)) (λ k. by_lengths (record { slow = s; whole = k; subtype = e })) (cases_lt (length l) 124)
     by-subtype s h (suc (suc zero)) e =
-        ⊎_elim (λ k. goes (short s h (inr e) k)) (λ k. by_length (record { slow = s; whole = k; subtype = e })) (less (length l) 124)
+        ⊎_elim (λ k. goes (short s h (inr e) k)) (λ k. by_length (record { slow = s; whole = k; subtype = e })) (cases_lt (length l) 124)
     by-subtype s h (suc (suc (suc n))) e =
-        ⊎_elim (λ k. goes (odd_subtype_lem s h (inr k))) (λ k. goes (other-subtype s h (omega arith) k)) (less 10 (get_or l 14 0))
+        ⊎_elim (λ k. goes (odd_subtype_lem s h (inr k))) (λ k. goes (other-subtype s h (omega arith) k)) (cases_lt 10 (get_or l 14 0))
 
     by-slow : Addressed l → (slowTest ≡ true) ⊎ (slowTest ≡ false) → Told l (class_of l)
     by-slow a (inl e) =
         let s = true-slow o a e in
-        ⊎_elim (λ k. goes (no_subtype_lem s k)) (λ k. by-subtype s k (get_or l 14 0) refl) (less (length l) 15)
+        ⊎_elim (λ k. goes (no_subtype_lem s k)) (λ k. by-subtype s k (get_or l 14 0) refl) (cases_lt (length l) 15)
     by-slow a (inr e) = goes (other-type a (λ s. false≢true (sym e ∙ slow-true s)))
 
     by_address : (foreign l ≡ true) ⊎ (foreign l ≡ false) → Told l (class_of l)
     by_address (inl e) = goes (not-addressed (λ a. false≢true (sym (addressed_clear a) ∙ e)))
-    by_address (inr e) = by-slow (clear_addressed e) (either slowTest)
+    by_address (inr e) = by-slow (clear_addressed e) (cases_Bool slowTest)
 
     -- and a frame of a class goes one of its ways
     pub class_told : (c : Class) → class_of l ≡ c → Told l c
-    class_told c e = subst (λ (k : Class). Told l k) e (by_address (either (foreign l)))
+    class_told c e = subst (λ (k : Class). Told l k) e (by_address (cases_Bool (foreign l)))
 
 -- ---- what is not looked at
 
@@ -222,7 +209,7 @@ pub record Alike (l m : List ℕ) : Type 0 where
 -- R5.4: no other octet of a long enough frame tells what it is: no version, no type of an LACPDU, nothing reserved, no terminator
 pub alike_class : (l m : List ℕ) → 124 ≤ length l → 124 ≤ length m → Alike l m → class_of l ≡ class_of m
 unfolding class_of foreign unknown illegal wrong_length wrong_marker_type
-alike_class l m h k a = by (equal (get_or l 14 0) 1)
+alike_class l m h k a = by (cases_eq (get_or l 14 0) 1)
   where
     long : (t : List ℕ) → 124 ≤ length t → (ltb (length t) 14 ≡ false) × (ltb (length t) 15 ≡ false) × (ltb (length t) 124 ≡ false)
     long t w = (le-ltb (length t) 14 (omega arith), le-ltb (length t) 15 (omega arith), le-ltb (length t) 124 w)
@@ -248,7 +235,7 @@ front (suc a) n (suc k) (x ∷ l) h = front a n k l (omega arith)
 
 -- R5.5: the first 124 octets tell what a frame is, and hold what is read of it
 pub first_class : (l : List ℕ) → class_of (take 124 l) ≡ class_of l
-first_class l = ⊎_elim (λ h. ap class_of (take_all 124 l (omega arith))) whole (less (length l) 124)
+first_class l = ⊎_elim (λ h. ap class_of (take_all 124 l (omega arith))) whole (cases_lt (length l) 124)
   where
     whole : 124 ≤ length l → class_of (take 124 l) ≡ class_of l
     whole h =

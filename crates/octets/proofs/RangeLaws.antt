@@ -2,20 +2,19 @@
 -- from octets or written as such. Assumes nothing.
 use Prim.Native.Nat.{ℕ, ◌+◌, ◌≤◌, ◌<◌}
 use mathlib.Core.Path.{◌≡◌}
-use mathlib.Core.Bool.{Bool, true, ◌&&◌, and-eq-true_iff}
+use mathlib.Core.Bool.{Bool, true, ◌&&◌}
 use mathlib.Core.List.{List}
 use native.Mathlib.Omega.{arith}
 use lib.ListN.{get_or}
 use lib.Dec.{leb}
 use borrow.Author.Tests.{leb-true, le-leb, ltb-true, lt-ltb}
+use Rattle.std.proofs.lemmas.Bool.{and_from}
+pub use Rattle.std.proofs.lemmas.Bool.{and_parts as both}
 use Rattle.octets.specs.Octets.{Octets, number_at, number_octets, fits, within}
 use Rattle.octets.proofs.OctetLists.{octets_of_lem}
 
-pub both : (a b : Bool) → a && b ≡ true → (a ≡ true) × (b ≡ true)
-both a b e = (and-eq-true_iff a b).0 e
-
 pub both_true : {a b : Bool} → a ≡ true → b ≡ true → a && b ≡ true
-both_true {a} {b} p q = (and-eq-true_iff a b).1 (p, q)
+both_true {a} {b} p q = and_from a b p q
 
 pub within-true : (low n high : ℕ) → within low n high ≡ true → (low ≤ n) × (n ≤ high)
 within-true low n high e =
