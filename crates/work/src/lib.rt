@@ -16,7 +16,7 @@ use frame::block::Block;
 use machine::states::Line;
 use port::record::Port;
 use settings::Settings;
-use table::layout::Header;
+use table::layout::{Header, read_header};
 use trunk::sweep::{displace_all, mux_all, periodic_all, tick_all};
 
 // The end of step 2, and steps 3 to 6.
@@ -52,8 +52,7 @@ pub fn set_line(table: &mut [u8], i: usize, line: Line)
     ensures { table.new ≡ on_octets (after_line i line) table.old }
 {
     let p = table::load(table, i);
-    let old = p.line;
-    if line.same(old) {
+    if line == p.line {
         return;
     }
     change(table, i, p.set_line(line));
@@ -71,13 +70,21 @@ pub fn configure(table: &mut [u8], i: usize, settings: Settings)
     change(table, i, settings.configure(p));
 }
 
-// An accepted LACPDU on port i, whose record is p, and the ports whose partner it shows to have moved.
+// An accepted LACPDU on port i, whose record is p (CURRENT, 43.4.12), and the ports whose partner it shows to have moved. One that says nothing
+// new starts the current-while timer again, and writes no more than that to the record.
 pub fn receive(table: &mut [u8], i: usize, p: Port, frame: &[u8])
     requires { InTable table.old i × (p ≡ port_at table.old i) × (frame_size ≤ length frame.now) }
     ensures { table.new ≡ on_octets (after_received i frame.now) table.old }
 {
-    let a = Block::read(frame::wire::actor(frame));
-    receive_one(table, i, p, a, frame);
+    let us = p.actor_block(read_header(table).system, number_of(i));
+    let actor = frame::wire::actor(frame);
+    let a = Block::read(actor);
+    let b = Block::read(frame::wire::partner(frame));
+    if p.repeats(us, a, b) {
+        table::store_current(table, i, p.timeout());
+    } else {
+        table::store(table, i, p.receive_lacpdu(us, actor, b));
+    }
     displace_all(table, i, a);
     finish(table);
 }
@@ -90,50 +97,15 @@ fn number_of(i: usize) -> u16
     (i + 1) as u16
 }
 
-// Port i, whose record is p, records what an LACPDU says (CURRENT, 43.4.12); a is the actor block in it. One that says nothing new starts the
-// current-while timer again, and writes no more than that.
-fn receive_one(table: &mut [u8], i: usize, p: Port, a: Block, frame: &[u8])
-    requires { InTable table.old i × (p ≡ port_at table.old i) × (a ≡ block_of (actor_part frame.now)) × (frame_size ≤ length frame.now) }
-    ensures { Became table.old table.new i (received_at i frame.now (state_of table.old)) }
-{
-    let ours = table::layout::read_header(table);
-    let us = ours.system;
-    let number = number_of(i);
-    if p.repeats(us, number, a, frame::wire::partner(frame)) {
-        table::store_current(table, i, p.timeout());
-        return;
-    }
-    let q = p.receive_lacpdu(
-        us,
-        number,
-        a,
-        frame::wire::actor(frame),
-        frame::wire::partner(frame),
-    );
-    table::store(table, i, q);
-}
-
 // Writes the LACPDU of port i, whose record is p, over the first 124 octets of out, and remembers the send.
 pub fn send(table: &mut [u8], i: usize, p: Port, out: &mut [u8])
     requires { InTable table.old i × (p ≡ port_at table.old i) × (frame_size ≤ length out.old) }
     ensures { (table.new ≡ on_octets (after_send i) table.old) × (out.new ≡ written_over (lacpdu_of (state_of table.old) i) out.old) }
 {
-    write_due(table, i, p, out);
+    let ours = read_header(table);
+    let actor = p.actor_block(ours.system, number_of(i));
+    frame::wire::write_lacpdu(out, p.own.address, actor, p.partner, ours.delay);
     table::store(table, i, p.sent());
-}
-
-// Writes the LACPDU of port i, whose record is p, over the first 124 octets of out.
-fn write_due(table: &[u8], i: usize, p: Port, out: &mut [u8])
-    requires { InTable table.now i × (p ≡ port_at table.now i) × (frame_size ≤ length out.old) }
-    ensures { out.new ≡ written_over (lacpdu_of (state_of table.now) i) out.old }
-{
-    let ours = table::layout::read_header(table);
-    let us = ours.system;
-    let delay = ours.delay;
-    let address = p.own.address;
-    let partner = p.partner;
-    let actor = p.actor_block(us, number_of(i));
-    frame::wire::write_lacpdu(out, address, actor, partner, delay);
 }
 
 // Writes the Response to a Marker, from the port whose record is p, over the first 124 octets of out.
@@ -141,8 +113,7 @@ pub fn respond(p: Port, frame: &[u8], out: &mut [u8])
     requires { (frame_size ≤ length frame.now) × (frame_size ≤ length out.old) }
     ensures { out.new ≡ written_over (response p.own.address frame.now) out.old }
 {
-    let address = p.own.address;
-    frame::wire::write_response(out, address, frame);
+    frame::wire::write_response(out, p.own.address, frame);
 }
 
 // A table of memory with any content: every port begins alike, and steps 3 to 5, and 6.

@@ -28,6 +28,7 @@ returns c =
     let a = c.args in
     let laid = c.fill.ensures in
     let first = c.join_all.ensures in
-    let both = said (ap (λ (l : List Port). map muxed l) first.records) (then first c.mux_all.ensures) in
+    let second = c.mux_all.ensures in
+    let both = said (ap (λ (l : List Port). map muxed l) first.records) (then first second) in
     made_of both (λ j. (c.type_inv.table j).fits)
     ∙ (λ j. table_octets (laid.0 j) (settled (laid.0 j) ((laid.2 ∙ ap (replicate a.header.count) c.start.ensures) j)))
