@@ -48,9 +48,9 @@ causes = record {
   in_unanswered = refl;
   held_up_lem = refl;
   by_word_lem = refl;
-  own-ticks = refl;
+  own-ticks = (refl, refl);
   held_cause = refl;
-  held-ticks = refl;
+  held-ticks = (refl, refl);
   apart = refl;
   itself = refl;
 }

@@ -31,8 +31,9 @@ use Rattle.trunk.specs.Selection.{rule_of}
 use Rattle.trunk.specs.Settled.{must_move, muxed}
 use Rattle.trunk.proofs.MoveLaws.{settled-stays}
 use Rattle.work.specs.Work.{worked}
+use Rattle.std.specs.Prelude.{Option, Some, None}
 use Rattle.why.specs.declared.cause.Cause.{Cause}
-use Rattle.why.specs.declared.cause.Cause.TheVariants.{NoCause, Carries, CarriesByDefault, LinkDown, HalfDuplex, Defaulted, Expired, Waits, HeldBack, OutOfSync, NotCollecting}
+use Rattle.why.specs.declared.cause.Cause.TheVariants.{Carries, CarriesByDefault, LinkDown, HalfDuplex, Defaulted, Expired, Waits, HeldBack, OutOfSync, NotCollecting}
 use Rattle.why.specs.Cause.{is_defaulted, is_expired, is_by_default, cause_of, why_of}
 use Rattle.claims.specs.AtRest.{Sound}
 use Rattle.claims.specs.Moves.{Begins}
@@ -54,7 +55,7 @@ waits-only mux.Distributing e = absurd (false≢true e)
 
 -- that waits with its timer running
 led-parts : (b up full : Bool) (r : Receive) (held sync coll : Bool) → up ≡ true → is_expired r ≡ false
-    → carrying false b (lined up full (heard r (placed true false held sync coll))) ≡ cond full (cond (is_defaulted r) Defaulted Waits) HalfDuplex
+    → carrying false b (lined up full (heard r (placed true false held sync coll))) ≡ Some (cond full (cond (is_defaulted r) Defaulted Waits) HalfDuplex)
 led-parts b false full r held sync coll u e = absurd (false≢true u)
 led-parts b true false r held sync coll u e = refl
 led-parts b true true receive.Initialize held sync coll u e = refl
@@ -64,7 +65,7 @@ led-parts b true true receive.LacpDisabled held sync coll u e = refl
 led-parts b true true receive.Defaulted held sync coll u e = refl
 led-parts b true true receive.Current held sync coll u e = refl
 
-led_cause : (held : Bool) (q : Port) → waits q.phase.mux ≡ true → ran_out q.timers.wait ≡ false → q.line.up ≡ true → is_expired q.phase.receive ≡ false → cause_of held q ≡ led_down q
+led_cause : (held : Bool) (q : Port) → waits q.phase.mux ≡ true → ran_out q.timers.wait ≡ false → q.line.up ≡ true → is_expired q.phase.receive ≡ false → cause_of held q ≡ Some (led_down q)
 led_cause held q w out u e =
     let r = q.phase.receive in
     let sync = q.partner.state.synchronization in
@@ -74,13 +75,13 @@ led_cause held q w out u e =
     ∙ led-parts (is_by_default r) q.line.up q.line.full r held sync coll u e
 
 -- with the link down, at half duplex, or in EXPIRED
-pub down_cause : (held : Bool) (q : Port) → distributes q.phase.mux ≡ false → q.line.up ≡ false → cause_of held q ≡ LinkDown
+pub down_cause : (held : Bool) (q : Port) → distributes q.phase.mux ≡ false → q.line.up ≡ false → cause_of held q ≡ Some LinkDown
 down_cause held q d u = cause_parts held q ∙ rw (d, u)
 
-half_cause : (held : Bool) (q : Port) → distributes q.phase.mux ≡ false → q.line.up ≡ true → q.line.full ≡ false → cause_of held q ≡ HalfDuplex
+half_cause : (held : Bool) (q : Port) → distributes q.phase.mux ≡ false → q.line.up ≡ true → q.line.full ≡ false → cause_of held q ≡ Some HalfDuplex
 half_cause held q d u f = cause_parts held q ∙ rw (d, u, f)
 
-expired_cause : (held : Bool) (q : Port) → distributes q.phase.mux ≡ false → q.line.up ≡ true → q.line.full ≡ true → q.phase.receive ≡ receive.Expired → cause_of held q ≡ Expired
+expired_cause : (held : Bool) (q : Port) → distributes q.phase.mux ≡ false → q.line.up ≡ true → q.line.full ≡ true → q.phase.receive ≡ receive.Expired → cause_of held q ≡ Some Expired
 expired_cause held q d u f r = cause_parts held q ∙ rw (d, u, f, r)
 
 -- a SELECTED port that distributes does not wait after step 6
@@ -148,11 +149,11 @@ module _ (t : List ℕ) (s : Sound t) (i : ℕ) (h : i < count_in t) (ps : List 
       by_state receive.Current x = refl
 
   -- it is led down
-  begun_cause : Begins q → q.line.up ≡ true → is_expired q.phase.receive ≡ false → cause_of (held_in u i) q ≡ led_down q
+  begun_cause : Begins q → q.line.up ≡ true → is_expired q.phase.receive ≡ false → cause_of (held_in u i) q ≡ Some (led_down q)
   begun_cause x up e = led_cause (held_in u i) q x.waiting (ap (λ (n : ℕ). eqb n 0) x.whole) up e
 
   pub led : must_move (rule_of (ours t) (map compared (map periodic_run ps)) i) (get_or (map periodic_run ps) i (decoded [])) ≡ true → (get_or ps i (decoded [])).partner.state.synchronization ≡ true
-      → (why_in (again t (worked (ours t) ps)) i).cause ≡ led_down (port_at (again t (worked (ours t) ps)) i)
+      → (why_in (again t (worked (ours t) ps)) i).cause ≡ Some (led_down (port_at (again t (worked (ours t) ps)) i))
   unfolding why_of u p q
   led e sync =
       let x = heard_now sync in
@@ -177,18 +178,18 @@ module _ (t : List ℕ) (s : Sound t) (i : ℕ) (h : i < count_in t) (ps : List 
 
   -- ---- by an LACPDU
 
-  named-frame : (c : Cause) → Stands c q → q.phase.receive ≡ receive.Current → distributes q.phase.mux ≡ false → waits q.phase.mux ≡ false → by_frame c ≡ true
-  named-frame NoCause x r d w = absurd x
-  named-frame Carries x r d w = absurd (true≢false (sym (ap distributes x.0) ∙ d))
-  named-frame CarriesByDefault x r d w = absurd (true≢false (sym (ap distributes x) ∙ d))
-  named-frame LinkDown x r d w = let e : receive.PortDisabled ≡ receive.Current = sym x ∙ r in cc
-  named-frame HalfDuplex x r d w = let e : receive.LacpDisabled ≡ receive.Current = sym x ∙ r in cc
-  named-frame Defaulted x r d w = let e : receive.Defaulted ≡ receive.Current = sym x ∙ r in cc
-  named-frame Expired x r d w = let e : receive.Expired ≡ receive.Current = sym x ∙ r in cc
-  named-frame Waits x r d w = refl
-  named-frame HeldBack x r d w = absurd (true≢false (sym (ap waits x.0) ∙ w))
-  named-frame OutOfSync x r d w = refl
-  named-frame NotCollecting x r d w = refl
+  named-frame : (c : Option Cause) → Stands c q → q.phase.receive ≡ receive.Current → distributes q.phase.mux ≡ false → waits q.phase.mux ≡ false → by_frame c ≡ true
+  named-frame None x r d w = absurd x
+  named-frame (Some Carries) x r d w = absurd (true≢false (sym (ap distributes x.0) ∙ d))
+  named-frame (Some CarriesByDefault) x r d w = absurd (true≢false (sym (ap distributes x) ∙ d))
+  named-frame (Some LinkDown) x r d w = let e : receive.PortDisabled ≡ receive.Current = sym x ∙ r in cc
+  named-frame (Some HalfDuplex) x r d w = let e : receive.LacpDisabled ≡ receive.Current = sym x ∙ r in cc
+  named-frame (Some Defaulted) x r d w = let e : receive.Defaulted ≡ receive.Current = sym x ∙ r in cc
+  named-frame (Some Expired) x r d w = let e : receive.Expired ≡ receive.Current = sym x ∙ r in cc
+  named-frame (Some Waits) x r d w = refl
+  named-frame (Some HeldBack) x r d w = absurd (true≢false (sym (ap waits x.0) ∙ w))
+  named-frame (Some OutOfSync) x r d w = refl
+  named-frame (Some NotCollecting) x r d w = refl
 
   pub by-frame : (get_or ps i (decoded [])).phase.mux ≡ mux.Distributing → (get_or ps i (decoded [])).phase.receive ≡ receive.Current
       → distributes (port_at (again t (worked (ours t) ps)) i).phase.mux ≡ false → i < count_in (again t (worked (ours t) ps)) → by_frame (why_in (again t (worked (ours t) ps)) i).cause ≡ true
@@ -204,20 +205,20 @@ module _ (t : List ℕ) (s : Sound t) (i : ℕ) (h : i < count_in t) (ps : List 
       by : (w : Bool) → waits q.phase.mux ≡ w → by_frame (cause_of (held_in u i) q) ≡ true
       by true w =
           let down : led_down q ≡ Waits = rw (in_use.1, here) in
-          ap by_frame (begun_cause (begins-if m w) in_use.0 (ap is_expired here) ∙ down)
+          ap by_frame (begun_cause (begins-if m w) in_use.0 (ap is_expired here) ∙ ap (λ (c : Cause). Some c) down)
       by false w = named-frame (cause_of (held_in u i) q) (sound-told u (work_sound t s ps b) i less) here d w
 
   -- ---- by silence, and by another line
 
   pub by-tick : (get_or ps i (decoded [])).phase.receive ≡ receive.Expired → distributes (port_at (again t (worked (ours t) ps)) i).phase.mux ≡ false
-      → (why_in (again t (worked (ours t) ps)) i).cause ≡ Expired
+      → (why_in (again t (worked (ours t) ps)) i).cause ≡ Some Expired
   unfolding why_of u p q
   by-tick r d =
       let g = both p.line.up p.line.full (ap (goes_with p.line) (sym r) ∙ standing.receive.state) in
       expired_cause (held_in u i) q d (ap (λ (l : Line). l.up) line-is ∙ g.0) (ap (λ (l : Line). l.full) line-is ∙ g.1) (receive-is ∙ r)
 
   pub by-other-line : (l : Line) → (get_or ps i (decoded [])).line ≡ l → (l.up ≡ true → l.full ≡ true → (get_or ps i (decoded [])).phase.receive ≡ receive.Expired)
-      → distributes (port_at (again t (worked (ours t) ps)) i).phase.mux ≡ false → (why_in (again t (worked (ours t) ps)) i).cause ≡ by_line l
+      → distributes (port_at (again t (worked (ours t) ps)) i).phase.mux ≡ false → (why_in (again t (worked (ours t) ps)) i).cause ≡ Some (by_line l)
   unfolding why_of u p q
   by-other-line l is expires d = by l.up refl l.full refl
     where
@@ -227,7 +228,7 @@ module _ (t : List ℕ) (s : Sound t) (i : ℕ) (h : i < count_in t) (ps : List 
       full_is : q.line.full ≡ l.full
       full_is = ap (λ (x : Line). x.full) (line-is ∙ is)
 
-      by : (x : Bool) → l.up ≡ x → (y : Bool) → l.full ≡ y → cause_of (held_in u i) q ≡ cond x (cond y Expired HalfDuplex) LinkDown
+      by : (x : Bool) → l.up ≡ x → (y : Bool) → l.full ≡ y → cause_of (held_in u i) q ≡ Some (cond x (cond y Expired HalfDuplex) LinkDown)
       by false a y c = down_cause (held_in u i) q d (up_is ∙ a)
       by true a false c = half_cause (held_in u i) q d (up_is ∙ a) (full_is ∙ c)
       by true a true c = expired_cause (held_in u i) q d (up_is ∙ a) (full_is ∙ c) (receive-is ∙ expires a c)

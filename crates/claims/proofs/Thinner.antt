@@ -128,7 +128,7 @@ module _ (c : Call) (t : List ℕ) (s : Sound t) (i : ℕ) (h : i < count_in t) 
       ∙ carries-on was q y
 
   -- a port that carried on is led down
-  led-down : Carrying was (get_or ps i (decoded [])) → (was ≡ rule_of (ours t) (map compared qs) i → ⊥) → (why_in (again t (worked (ours t) ps)) i).cause ≡ led_down (port_at (again t (worked (ours t) ps)) i)
+  led-down : Carrying was (get_or ps i (decoded [])) → (was ≡ rule_of (ours t) (map compared qs) i → ⊥) → (why_in (again t (worked (ours t) ps)) i).cause ≡ Some (led_down (port_at (again t (worked (ours t) ps)) i))
   unfolding qs must_move
   led-down x differs =
       let q = get_or qs i (decoded []) in
@@ -136,7 +136,7 @@ module _ (c : Call) (t : List ℕ) (s : Sound t) (i : ℕ) (h : i < count_in t) 
       let other : eqb q.aggregator (rule_of (ours t) (map compared qs) i) ≡ false = ne_eqb q.aggregator (rule_of (ours t) (map compared qs) i) (λ e. differs (sym holds ∙ e)) in
       led t s i h ps b (rw other (or-true (is_unselected q.phase.selected))) x.synchronization
 
-  shifted : after c t ≡ again t (worked (ours t) ps) → (port_at t i).aggregator ≡ was → (why_in (after c t) i).cause ≡ led_down (port_at (after c t) i)
+  shifted : after c t ≡ again t (worked (ours t) ps) → (port_at t i).aggregator ≡ was → (why_in (after c t) i).cause ≡ Some (led_down (port_at (after c t) i))
       → Shift (ours t) (map compared (ports t)) (map compared qs) i → Thinned c t i
   unfolding qs was rule_of
   shifted is holds x (lower_joined k less before then) = record {
@@ -155,7 +155,7 @@ module _ (c : Call) (t : List ℕ) (s : Sound t) (i : ℕ) (h : i < count_in t) 
   unfolding was
   stops x is holds e =
       let differs : was ≡ rule_of (ours t) (map compared qs) i → ⊥ = λ y. true≢false (sym (keeps x y) ∙ ap (λ (u : List ℕ). distributes (port_at u i).phase.mux) (sym is) ∙ e) in
-      shifted is holds (subst (λ (u : List ℕ). (why_in u i).cause ≡ led_down (port_at u i)) (sym is) (led-down x differs))
+      shifted is holds (subst (λ (u : List ℕ). (why_in u i).cause ≡ Some (led_down (port_at u i))) (sym is) (led-down x differs))
       (rule_shifts (ours t) (map compared (ports t)) (map compared qs) i differs)
 
 -- ---- what the call's own rule makes of it

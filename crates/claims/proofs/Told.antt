@@ -1,6 +1,6 @@
 -- The cause that is given, and the states that go with it: at rest a port that does not carry has one, by its line, then its receive state, then its mux state. Read off
 -- a sound table, port by port. Assumes nothing.
-use Prim.Native.Nat.{ℕ, ◌≤◌, ◌<◌}
+use Prim.Native.Nat.{ℕ, ◌<◌}
 use mathlib.Core.Path.{◌≡◌, refl, sym, ap, ◌∙◌, subst}
 use mathlib.Core.Logic.{◌≢◌}
 use mathlib.Core.Bool.{Bool, true, false, cond, not, ◌&&◌, true≢false, false≢true}
@@ -8,8 +8,8 @@ use mathlib.Core.List.{List, []}
 use native.Mathlib.Omega.{arith}
 use lib.Dec.{eqb}
 use lib.ListN.{get_or}
-use borrow.Author.Tests.{eqb-true, eqb-false, eq-eqb, ltb-true, not-true, not-false}
-use Rattle.std.specs.Prelude.{None}
+use borrow.Author.Tests.{eqb-true, eqb-false, eq-eqb, not-true, not-false}
+use Rattle.std.specs.Prelude.{None, Option, Some, is_some}
 use Rattle.std.proofs.lemmas.Option.{none-some}
 use Rattle.octets.proofs.RangeLaws.{both, both_true}
 use Rattle.machine.specs.declared.states.Line.{Line}
@@ -31,9 +31,9 @@ use Rattle.table.proofs.StoreLaws.{ports-length, ports-at}
 use Rattle.trunk.specs.Ready.{waits_for}
 use Rattle.trunk.specs.Settled.{Chosen}
 use Rattle.why.specs.declared.cause.Cause.{Cause}
-use Rattle.why.specs.declared.cause.Cause.TheVariants.{NoCause, Carries, CarriesByDefault, LinkDown, HalfDuplex, Defaulted, Expired, Waits, HeldBack, OutOfSync, NotCollecting}
+use Rattle.why.specs.declared.cause.Cause.TheVariants.{Carries, CarriesByDefault, LinkDown, HalfDuplex, Defaulted, Expired, Waits, HeldBack, OutOfSync, NotCollecting}
 use Rattle.why.specs.declared.cause.Hold.{Hold}
-use Rattle.why.specs.Cause.{is_defaulted, is_expired, is_by_default, first_of, cause_of, cause_number, longest, detail, why_of}
+use Rattle.why.specs.Cause.{is_defaulted, is_expired, is_by_default, first_of, cause_of, cause_number, longest, holder, ticks, why_of}
 use Rattle.why.proofs.CauseLaws.{causes-true, longest-holds, longest-true}
 use Rattle.claims.specs.AtRest.{Sound}
 use Rattle.claims.specs.Told.{why_in, held_in, Stands, AlwaysTold, Waiting, Behind, BesideTrue}
@@ -44,17 +44,17 @@ use Rattle.claims.proofs.Carries.{sound-waits}
 
 -- ---- the cause by its parts: whether the port distributes, its line, its receive state, and then its mux state and its partner
 
-abbrev pub carrying : Bool → Bool → Cause → Cause
-carrying d b x = cond (d && not b) Carries (cond (d && b) CarriesByDefault x)
+abbrev pub carrying : Bool → Bool → Option Cause → Option Cause
+carrying d b x = cond (d && not b) (Some Carries) (cond (d && b) (Some CarriesByDefault) x)
 
-abbrev pub lined : Bool → Bool → Cause → Cause
-lined up full x = cond (not up) LinkDown (cond (up && not full) HalfDuplex x)
+abbrev pub lined : Bool → Bool → Option Cause → Option Cause
+lined up full x = cond (not up) (Some LinkDown) (cond (up && not full) (Some HalfDuplex) x)
 
-abbrev pub heard : Receive → Cause → Cause
-heard r x = cond (is_defaulted r) Defaulted (cond (is_expired r) Expired x)
+abbrev pub heard : Receive → Option Cause → Option Cause
+heard r x = cond (is_defaulted r) (Some Defaulted) (cond (is_expired r) (Some Expired) x)
 
-abbrev pub placed : Bool → Bool → Bool → Bool → Bool → Cause
-placed w out held sync coll = cond (w && not out) Waits (cond (w && held) HeldBack (cond (not sync) OutOfSync (cond (sync && not coll) NotCollecting NoCause)))
+abbrev pub placed : Bool → Bool → Bool → Bool → Bool → Option Cause
+placed w out held sync coll = cond (w && not out) (Some Waits) (cond (w && held) (Some HeldBack) (cond (not sync) (Some OutOfSync) (cond (sync && not coll) (Some NotCollecting) None)))
 
 pub cause_parts : (held : Bool) (p : Port) → cause_of held p
     ≡ carrying (distributes p.phase.mux) (is_by_default p.phase.receive) (lined p.line.up p.line.full
@@ -118,7 +118,7 @@ module _ (p : Port) (rest : Resting p) (chosen : Chosen p) (stays : mux_choice f
     by-mux r mux.Collecting e d false coll n out h w = absurd (none-some mux.Attached (sym n))
     by-mux r mux.Distributing e d sync coll n out h w = absurd (true≢false d)
 
-    last : Cause
+    last : Option Cause
     last = placed (waits p.phase.mux) (ran_out p.timers.wait) held p.partner.state.synchronization p.partner.state.collecting
 
     -- by the receive state, with the link up at full duplex
@@ -141,7 +141,7 @@ module _ (p : Port) (rest : Resting p) (chosen : Chosen p) (stays : mux_choice f
 
     pub stands : Stands (cause_of held p) p
     unfolding last
-    stands = subst (λ (c : Cause). Stands c p) (sym (cause_parts held p)) (by (distributes p.phase.mux) refl (is_by_default p.phase.receive) refl)
+    stands = subst (λ (c : Option Cause). Stands c p) (sym (cause_parts held p)) (by (distributes p.phase.mux) refl (is_by_default p.phase.receive) refl)
       where
         by : (d : Bool) → distributes p.phase.mux ≡ d → (b : Bool) → is_by_default p.phase.receive ≡ b
             → Stands (carrying d b (lined p.line.up p.line.full (heard p.phase.receive last))) p
@@ -160,28 +160,28 @@ always_told t m i h = sound-told t (never_stuck t m) i h
 
 -- ---- beside a cause
 
-pub other_cause : (x y : Cause) → eqb (cause_number x) (cause_number y) ≡ false → x ≢ y
+pub other_cause : (x y : Option Cause) → eqb (cause_number x) (cause_number y) ≡ false → x ≢ y
 other_cause x y e is = true≢false (sym (eq-eqb (cause_number x) (cause_number y) (ap cause_number is)) ∙ e)
 
 -- who is held back has no ticks of its own left
-placed_ran : (w out held sync coll : Bool) → placed w out held sync coll ≡ HeldBack → w && not out ≡ false
-placed_ran true false held sync coll e = absurd (other_cause Waits HeldBack refl e)
+placed_ran : (w out held sync coll : Bool) → placed w out held sync coll ≡ Some HeldBack → w && not out ≡ false
+placed_ran true false held sync coll e = absurd (other_cause (Some Waits) (Some HeldBack) refl e)
 placed_ran true true held sync coll e = refl
 placed_ran false out held sync coll e = refl
 
-heard_ran : (r : Receive) (w out held sync coll : Bool) → heard r (placed w out held sync coll) ≡ HeldBack → w && not out ≡ false
+heard_ran : (r : Receive) (w out held sync coll : Bool) → heard r (placed w out held sync coll) ≡ Some HeldBack → w && not out ≡ false
 heard_ran receive.Initialize w out held sync coll e = placed_ran w out held sync coll e
 heard_ran receive.PortDisabled w out held sync coll e = placed_ran w out held sync coll e
-heard_ran receive.Expired w out held sync coll e = absurd (other_cause Expired HeldBack refl e)
+heard_ran receive.Expired w out held sync coll e = absurd (other_cause (Some Expired) (Some HeldBack) refl e)
 heard_ran receive.LacpDisabled w out held sync coll e = placed_ran w out held sync coll e
-heard_ran receive.Defaulted w out held sync coll e = absurd (other_cause Defaulted HeldBack refl e)
+heard_ran receive.Defaulted w out held sync coll e = absurd (other_cause (Some Defaulted) (Some HeldBack) refl e)
 heard_ran receive.Current w out held sync coll e = placed_ran w out held sync coll e
 
-held_ran : (d b up full : Bool) (r : Receive) (w out held sync coll : Bool) → carrying d b (lined up full (heard r (placed w out held sync coll))) ≡ HeldBack → w && not out ≡ false
-held_ran true true up full r w out held sync coll e = absurd (other_cause CarriesByDefault HeldBack refl e)
-held_ran true false up full r w out held sync coll e = absurd (other_cause Carries HeldBack refl e)
-held_ran false b false full r w out held sync coll e = absurd (other_cause LinkDown HeldBack refl e)
-held_ran false b true false r w out held sync coll e = absurd (other_cause HalfDuplex HeldBack refl e)
+held_ran : (d b up full : Bool) (r : Receive) (w out held sync coll : Bool) → carrying d b (lined up full (heard r (placed w out held sync coll))) ≡ Some HeldBack → w && not out ≡ false
+held_ran true true up full r w out held sync coll e = absurd (other_cause (Some CarriesByDefault) (Some HeldBack) refl e)
+held_ran true false up full r w out held sync coll e = absurd (other_cause (Some Carries) (Some HeldBack) refl e)
+held_ran false b false full r w out held sync coll e = absurd (other_cause (Some LinkDown) (Some HeldBack) refl e)
+held_ran false b true false r w out held sync coll e = absurd (other_cause (Some HalfDuplex) (Some HeldBack) refl e)
 held_ran false b true true r w out held sync coll e = heard_ran r w out held sync coll e
 
 module _ (t : List ℕ) (s : Sound t) (i : ℕ) (h : i < count_in t) where
@@ -191,18 +191,18 @@ module _ (t : List ℕ) (s : Sound t) (i : ℕ) (h : i < count_in t) where
   k : ℕ
   k = p.aggregator
 
-  hold : Hold
+  hold : Option Hold
   unfolding k
   hold = longest k 1 (ports t)
 
-  waits-beside : cause_of (held_in t i) p ≡ Waits → Waiting t i
+  waits-beside : cause_of (held_in t i) p ≡ Some Waits → Waiting t i
   unfolding why_of p k hold
   waits-beside e =
-      let so = both (waits p.phase.mux) (not (ran_out p.timers.wait)) ((causes-true (held_in t i) p Waits (other_cause Waits NoCause refl)).only e).so in
-      let is : (why_in t i).hold.ticks ≡ p.timers.wait.0 = ap (λ (c : Cause). (detail c p.timers.wait.0 hold).ticks) e in
+      let so = both (waits p.phase.mux) (not (ran_out p.timers.wait)) ((causes-true (held_in t i) p Waits).only e).so in
+      let is : (why_in t i).ticks ≡ p.timers.wait.0 = ap (λ (c : Option Cause). ticks c p.timers.wait.0 hold) e in
       let left : p.timers.wait.0 ≢ 0 = eqb-false p.timers.wait.0 0 (not-true (eqb p.timers.wait.0 0) so.1) in
       record {
-        nobody = ap (λ (c : Cause). (detail c p.timers.wait.0 hold).port) e;
+        nobody = ap (λ (c : Option Cause). holder c hold) e;
         ticks = is;
         some = rw is (omega (arith, left));
         most = rw is (port-resting t s i h).wait.within;
@@ -216,32 +216,39 @@ module _ (t : List ℕ) (s : Sound t) (i : ℕ) (h : i < count_in t) where
   unfolding waits_for p k
   waits_for_lem j less same w = rw (at j less) (both_true (eq-eqb (port_at t j).aggregator p.aggregator same) w)
 
-  held-beside : cause_of (held_in t i) p ≡ HeldBack → Behind t i
+  held-beside : cause_of (held_in t i) p ≡ Some HeldBack → Behind t i
   unfolding why_of waits_for p k hold
   held-beside e =
-      let so = both (waits p.phase.mux) (held_in t i) ((causes-true (held_in t i) p HeldBack (other_cause HeldBack NoCause refl)).only e).so in
-      let is : (why_in t i).hold ≡ hold = ap (λ (c : Cause). detail c p.timers.wait.0 hold) e in
-      let some : 1 ≤ hold.ticks = ltb-true 0 hold.ticks (longest-holds k 1 (ports t) ∙ so.1) in
-      let l = longest-true k 1 (ports t) (decoded []) some in
-      let there : l.index < count_in t = rw ports-length at l.there in
-      let waiting = both (eqb (port_at t l.index).aggregator k) (waits (port_at t l.index).phase.mux) (rw (at l.index there) at l.waiting) in
-      let ticks : hold.ticks ≡ (port_at t l.index).timers.wait.0 = sym l.ticks ∙ ap (λ (x : Port). x.timers.wait.0) (at l.index there) in
-      let ran : waits p.phase.mux && not (ran_out p.timers.wait) ≡ false = held_ran (distributes p.phase.mux) (is_by_default p.phase.receive) p.line.up p.line.full p.phase.receive
-      (waits p.phase.mux) (ran_out p.timers.wait) (held_in t i) p.partner.state.synchronization p.partner.state.collecting (sym (cause_parts (held_in t i) p) ∙ e) in
-      let out : eqb p.timers.wait.0 0 ≡ true = not-false (eqb p.timers.wait.0 0) (sym (ap (λ (b : Bool). b && not (eqb p.timers.wait.0 0)) so.0) ∙ ran) in
-      let none : p.timers.wait.0 ≡ 0 = eqb-true p.timers.wait.0 0 out in
-      record {
-        holder = l.index;
-        there = there;
-        is = ap (λ (x : Hold). x.port) is ∙ l.is ∙ omega arith;
-        other = λ x. let same = ticks ∙ ap (λ (j : ℕ). (port_at t j).timers.wait.0) x in omega (arith, some, same, none);
-        same = eqb-true (port_at t l.index).aggregator k waiting.0;
-        waiting = waiting.1;
-        ticks = ap (λ (x : Hold). x.ticks) is ∙ ticks;
-        some = rw is some;
-        longest = λ j less same w. rw (is, sym (at j less)) (l.most j (rw ports-length less) (waits_for_lem j less same w));
-        lowest = λ j less same w. let inside : j < count_in t = omega (arith, less, there) in rw (is, sym (at j inside)) (l.lowest j less (waits_for_lem j inside same w));
-      }
+      let so = both (waits p.phase.mux) (held_in t i) ((causes-true (held_in t i) p HeldBack).only e).so in
+      behind so.0 hold refl (longest-holds k 1 (ports t) ∙ so.1)
+    where
+      ran : waits p.phase.mux && not (ran_out p.timers.wait) ≡ false
+      ran =
+          held_ran (distributes p.phase.mux) (is_by_default p.phase.receive) p.line.up p.line.full p.phase.receive
+          (waits p.phase.mux) (ran_out p.timers.wait) (held_in t i) p.partner.state.synchronization p.partner.state.collecting (sym (cause_parts (held_in t i) p) ∙ e)
+
+      behind : waits p.phase.mux ≡ true → (o : Option Hold) → longest k 1 (ports t) ≡ o → is_some o ≡ true → Behind t i
+      behind w None o-is held = absurd (false≢true held)
+      behind w (Some x) o-is held =
+          let l = longest-true k 1 (ports t) (decoded []) x o-is in
+          let there : l.index < count_in t = rw ports-length at l.there in
+          let waiting = both (eqb (port_at t l.index).aggregator k) (waits (port_at t l.index).phase.mux) (rw (at l.index there) at l.waiting) in
+          let ticks-is : x.ticks ≡ (port_at t l.index).timers.wait.0 = sym l.ticks ∙ ap (λ (q : Port). q.timers.wait.0) (at l.index there) in
+          let out : eqb p.timers.wait.0 0 ≡ true = not-false (eqb p.timers.wait.0 0) (sym (ap (λ (b : Bool). b && not (eqb p.timers.wait.0 0)) w) ∙ ran) in
+          let none : p.timers.wait.0 ≡ 0 = eqb-true p.timers.wait.0 0 out in
+          let left : (why_in t i).ticks ≡ x.ticks = (λ j. ticks (e j) p.timers.wait.0 (o-is j)) in
+          record {
+            holder = l.index;
+            there = there;
+            is = (λ j. holder (e j) (o-is j)) ∙ ap (λ (n : ℕ). Some n) (l.is ∙ omega arith);
+            other = λ y. let same = ticks-is ∙ ap (λ (j : ℕ). (port_at t j).timers.wait.0) y in omega (arith, l.some, same, none);
+            same = eqb-true (port_at t l.index).aggregator k waiting.0;
+            waiting = waiting.1;
+            ticks = left ∙ ticks-is;
+            some = rw left l.some;
+            longest = λ j less same w. rw (left, sym (at j less)) (l.most j (rw ports-length less) (waits_for_lem j less same w));
+            lowest = λ j less same w. let inside : j < count_in t = omega (arith, less, there) in rw (left, sym (at j inside)) (l.lowest j less (waits_for_lem j inside same w));
+          }
 
 pub beside-true : BesideTrue
 unfolding why_of p

@@ -1,5 +1,5 @@
 -- What the reports beyond R15 say of the run of the witness, computed: every cause, who waits for whom, and reasons.
-use Rattle.std.specs.Prelude.{ℕ, ◌≡◌, true, List, [], ◌∷◌, map}
+use Rattle.std.specs.Prelude.{ℕ, ◌≡◌, true, List, [], ◌∷◌, map, Some, None}
 use Rattle.port.specs.Compared.{compared}
 use Rattle.table.specs.Table.{ports, ours}
 use Rattle.why.specs.declared.cause.Cause.TheVariants.{HeldBack}
@@ -48,9 +48,9 @@ pub record Causes : Type 0 where
   pub held_up_lem : causes_in held_up ≡ 8 ∷ 7 ∷ 3 ∷ []
   pub by_word_lem : causes_in by_word ≡ 2 ∷ 3 ∷ 3 ∷ []
   -- ticks of its own, and of the port that holds it back
-  pub own-ticks : (why_in trunk 2).hold ≡ record { port = 0; ticks = 10 }
-  pub held_cause : (why_in held_up 0).cause ≡ HeldBack
-  pub held-ticks : (why_in held_up 0).hold ≡ record { port = 2; ticks = 10 }
+  pub own-ticks : ((why_in trunk 2).holder ≡ None) × ((why_in trunk 2).ticks ≡ 10)
+  pub held_cause : (why_in held_up 0).cause ≡ Some HeldBack
+  pub held-ticks : ((why_in held_up 0).holder ≡ Some 2) × ((why_in held_up 0).ticks ≡ 10)
   -- both partners individual; none; another partner's key; another key; another partner; and a port and itself
   pub apart : apart_in begun 0 1 ∷ apart_in trunk 0 1 ∷ apart_in trunk 0 2 ∷ apart_in rekeyed 0 1 ∷ apart_in parted 0 1 ∷ [] ≡ 0x12 ∷ 0 ∷ 0x200 ∷ 0x40 ∷ 0x100 ∷ []
   pub itself : apart_in begun 1 1 ≡ 0
