@@ -23,12 +23,16 @@ use Rattle.asked.specs.Layer.{new_layer}
 use Rattle.asked.specs.Calls.{asked_answer}
 use Rattle.why.specs.declared.cause.Cause.{Cause}
 use Rattle.why.specs.declared.cause.Why.{Why}
+use Rattle.why.specs.declared.apart.Apart.{Apart}
+use Rattle.control.specs.declared.answer.Reason.{Reason}
+use Rattle.control.specs.Report.{answered_with}
+use Rattle.std.specs.Prelude.{Option, Result, Ok, Err}
 use Rattle.why.specs.Cause.{no_why, why_of}
 use Rattle.why.specs.Apart.{nothing, apart_of, apart_number}
 use Rattle.why.specs.Exact.{is_carrying, Differ}
 use Rattle.why.proofs.CauseLaws.{carrying-true, causes-true}
 use Rattle.why.proofs.ApartLaws.{apart-shares, reasons-true}
-use Rattle.reasons.specs.Reasons.{records_in, why_at, apart_at, answer_of_two, why_report, apart_report}
+use Rattle.reasons.specs.Reasons.{records_in, why_at, apart_at, answer_of_two, why_report, apart_report, why_told, apart_told}
 use Rattle.claims.specs.Run.{Takes, Made}
 use Rattle.claims.specs.Told.{why_in, held_in, Stands}
 use Rattle.claims.proofs.Calls.{never_stuck}
@@ -55,14 +59,14 @@ module _ (m : List ℕ) (made : NewAsked m) where
   t : List ℕ
   t = table_in (new m)
 
-  found : (n : ℕ) → IsPort (front_in (new m)) n → asked_answer new_layer (report n) m ≡ Done
+  found : (n : ℕ) → IsPort (front_in (new m)) n → asked_answer new_layer (report n) m ≡ Ok Done
   found n p =
       (front-calls (new m) made (report n) tt refl).answers ∙ (base-calls (front_in (new m)) (front-made (new m) made) (report n) tt).answers
       ∙ unfold answer in rw ((never_stuck (table_in (new m)) (table-made m made)).ranged, within-is 1 n (count_in (table_in (new m))) p.some p.most)
 
-  why-is : (n : ℕ) → IsPort (front_in (new m)) n → (why_report n m).why ≡ why_in (table_in (new m)) (n - 1)
+  why-is : (n : ℕ) → IsPort (front_in (new m)) n → why_report n m ≡ Ok (why_in (table_in (new m)) (n - 1))
   unfolding why_report
-  why-is n p = ap (λ (a : Answer). unless a no_why (why_at n (records_in m))) (found n p)
+  why-is n p = ap (λ (a : Answer). answered_with a (why_at n (records_in m))) (found n p)
 
   why-true : (n : ℕ) → IsPort (front_in (new m)) n → WhyTrue m n
   unfolding why_report why_of
@@ -70,24 +74,24 @@ module _ (m : List ℕ) (made : NewAsked m) where
       let i = n - 1 in
       let q = port_at (table_in (new m)) i in
       let held = held_in (table_in (new m)) i in
-      let is = ap (λ (w : Why). w.cause) (why-is n p) in
+      let is = ap (λ (w : Result Why Reason). (why_told w).cause) (why-is n p) in
       let less = below (new m) n p in
       record {
-        answered = found n p;
+        answered = ap accepted (why-is n p);
         carries = ap is_carrying is ∙ carrying-true held q;
-        only = λ c some e. (causes-true held q c some).only (sym is ∙ e);
-        whenever = λ c some e. is ∙ (causes-true held q c some).whenever e;
-        stands = subst (λ (c : Cause). Stands c q) (sym is) (always_told (table_in (new m)) (table-made m made) i less);
+        only = λ c e. (causes-true held q c).only (sym is ∙ e);
+        whenever = λ c e. is ∙ (causes-true held q c).whenever e;
+        stands = subst (λ (c : Option Cause). Stands c q) (sym is) (always_told (table_in (new m)) (table-made m made) i less);
         why = why-is n p;
         beside = beside-true (table_in (new m)) (table-made m made) i less;
       }
 
-  both_found : (n k : ℕ) → IsPort (front_in (new m)) n → IsPort (front_in (new m)) k → answer_of_two n k m ≡ Done
+  both_found : (n k : ℕ) → IsPort (front_in (new m)) n → IsPort (front_in (new m)) k → answer_of_two n k m ≡ Ok Done
   both_found n k p q = (λ j. unless (found n p j) (found n p j) (found k q j))
 
-  apart-is : (n k : ℕ) → IsPort (front_in (new m)) n → IsPort (front_in (new m)) k → (apart_report n k m).apart ≡ apart_at n k (table_in (new m))
+  apart-is : (n k : ℕ) → IsPort (front_in (new m)) n → IsPort (front_in (new m)) k → apart_report n k m ≡ Ok (apart_at n k (table_in (new m)))
   unfolding apart_report
-  apart-is n k p q = ap (λ (a : Answer). unless a nothing (apart_at n k (records_in m))) (both_found n k p q)
+  apart-is n k p q = ap (λ (a : Answer). answered_with a (apart_at n k (records_in m))) (both_found n k p q)
 
   read_at : (n : ℕ) → IsPort (front_in (new m)) n → get_or (map compared (ports (table_in (new m)))) (n - 1) nobody ≡ compared (record_of (front_in (new m)) n)
   read_at n p =
@@ -99,9 +103,9 @@ module _ (m : List ℕ) (made : NewAsked m) where
   apart-true n k p q =
       let u = table_in (new m) in
       let cs = map compared (ports u) in
-      let is = ap apart_number (apart-is n k p q) in
+      let is = ap (λ (r : Result Apart Reason). apart_number (apart_told r)) (apart-is n k p q) in
       record {
-        answered = unfold apart_report in both_found n k p q;
+        answered = ap accepted (apart-is n k p q);
         shares = ap (λ (x : ℕ). eqb x 0) is ∙ apart-shares (ours u) cs (n - 1) (k - 1);
         differ = λ other.
             let apart : n - 1 ≢ k - 1 = λ e. let a = p.some in let b = q.some in other (omega (arith, a, b, e)) in
@@ -131,15 +135,23 @@ module _ (m : List ℕ) (made : NewAsked m) (c : Call) (k : Takes c) (n : ℕ) (
         (ap (λ (u : List ℕ). distributes (port_at u (n - 1)).phase.mux) (sym (table-after m made c k)) ∙ e);
     told =
         why-is (memory_of (done (plain (call c)) (new m))) then n still
-        ∙ ap (λ (u : List ℕ). why_in u (n - 1)) (table-after m made c k);
+        ∙ ap (λ (u : List ℕ). Ok (why_in u (n - 1))) (table-after m made c k);
   }
 
+-- beside a refusal nothing is told
+why-unsaid : (r : Result Why Reason) → accepted r ≡ false → why_told r ≡ no_why
+why-unsaid (Ok w) e = absurd (true≢false e)
+why-unsaid (Err r) e = refl
+
+apart-unsaid : (r : Result Apart Reason) → accepted r ≡ false → apart_told r ≡ nothing
+apart-unsaid (Ok a) e = absurd (true≢false e)
+apart-unsaid (Err r) e = refl
+
 pub reasons : Reasons
-unfolding why_report apart_report
 reasons = record {
   why = why-true;
   apart = apart-true;
   thinner = thinner-true;
-  unsaid = λ m n e. taken_back no_why (why_at n (records_in m)) (asked_answer new_layer (report n) m) e;
-  unparted = λ m n k e. taken_back nothing (apart_at n k (records_in m)) (answer_of_two n k m) e;
+  unsaid = λ m n e. why-unsaid (why_report n m) e;
+  unparted = λ m n k e. apart-unsaid (apart_report n k m) e;
 }
