@@ -2,7 +2,7 @@
 use Prim.Native.Nat.{ℕ, ◌-◌}
 use mathlib.Core.Path.{◌≡◌, refl, sym, ap, ◌∙◌, subst}
 use mathlib.Core.Logic.{◌≢◌}
-use mathlib.Core.Bool.{true, false}
+use mathlib.Core.Bool.{true, false, true≢false}
 use mathlib.Core.List.{List, map}
 use native.Mathlib.Omega.{arith}
 use lib.Dec.{eqb}
@@ -14,11 +14,11 @@ use Rattle.port.specs.Compared.{Compared, compared}
 use Rattle.table.specs.Table.{count_in, port_at, ports, ours}
 use Rattle.table.proofs.StoreLaws.{ports-length, ports-at}
 use Rattle.trunk.specs.Selection.{nobody}
-use Rattle.control.specs.declared.answer.Answer.{Answer}
-use Rattle.control.specs.declared.answer.Answer.TheVariants.{Done}
+use Rattle.control.specs.declared.answer.Accepted.TheVariants.{Done}
+use Rattle.control.specs.Answer.{Answer}
 use Rattle.control.specs.Call.{Call, report}
 use Rattle.control.specs.After.{answer, after, unless}
-use Rattle.whole.proofs.CallLaws.{taken_back}
+use Rattle.control.specs.Accepted.{accepted}
 use Rattle.asked.specs.Layer.{new_layer}
 use Rattle.asked.specs.Calls.{asked_answer}
 use Rattle.why.specs.declared.cause.Cause.{Cause}

@@ -13,26 +13,22 @@ use Rattle.table.specs.Table.{count_in, InTable}
 use Rattle.table.proofs.TableLaws.{in_range}
 use Rattle.churn.specs.Whole.{whole_size}
 use Rattle.asks.specs.Groups.{groups_in_range}
-use Rattle.control.specs.declared.answer.Answer.{Answer}
-use Rattle.control.specs.declared.answer.Answer.TheVariants.{Refused}
+use Rattle.control.specs.Answer.{Answer}
+use Rattle.control.specs.declared.answer.Reason.{Reason}
+use Rattle.std.specs.Prelude.{Result, Ok, Err}
 use Rattle.control.specs.declared.answer.Reason.TheVariants as reason
 use Rattle.control.specs.Accepted.{accepted}
 use Rattle.control.specs.Call.{report}
 use Rattle.control.specs.After.{unless}
+use Rattle.control.specs.Report.{answered_with}
 use Rattle.whole.specs.Calls.{whole_answer}
-use Rattle.whole.proofs.CallLaws.{given_back, taken_back}
+use Rattle.whole.proofs.CallLaws.{given_back}
 use Rattle.asked.specs.Layer.{new_layer}
 use Rattle.asked.specs.Asked.{asked_size, groups_of, has_asks}
 use Rattle.asked.specs.Calls.{asked_answer}
 use Rattle.asked.proofs.AskLaws.{There, port-there}
 use Rattle.asked.proofs.CallLaws.{base-is, base-count}
-use Rattle.why.specs.declared.apart.Apart.{Apart}
-use Rattle.why.specs.declared.cause.Why.{Why}
-use Rattle.why.specs.Cause.{no_why}
-use Rattle.why.specs.Apart.{nothing}
-use Rattle.reasons.specs.declared.ApartReport.{ApartReport}
-use Rattle.reasons.specs.declared.WhyReport.{WhyReport}
-use Rattle.reasons.specs.Reasons.{records_in, first, why_at, apart_at, answer_of_two, why_report, apart_report}
+use Rattle.reasons.specs.Reasons.{records_in, first, why_at, apart_at, port_found, answer_of_two, why_report, apart_report}
 
 pub records_are : (m : List ℕ) → records_in m ≡ first m
 records_are m = base-is m (whole_size (count_in m)) (place (count_in m)) refl refl
@@ -44,7 +40,7 @@ pub record Found (m : List ℕ) (n : ℕ) : Type 0 where
   pub long : place (count_in m) ≤ length m
   pub there : InTable (first m) (n - 1)
 
-accepted-both : (x : Bool) (a : Answer) → accepted (cond x a (Refused reason.Table)) ≡ true → (x ≡ true) × (accepted a ≡ true)
+accepted-both : (x : Bool) (a : Answer) → accepted (cond x a (Err reason.Table)) ≡ true → (x ≡ true) × (accepted a ≡ true)
 accepted-both true a e = (refl, e)
 accepted-both false a e = absurd (false≢true e)
 
@@ -73,41 +69,64 @@ module _ (m : List ℕ) (n : ℕ) (e : accepted (asked_answer new_layer (report 
         there = (port.ranged, rw base (omega (arith, port.some, port.most)));
       }
 
+-- ---- what `?` finds
+
+answered : {T A : Type 0} (a : Result T Reason) (x : A) → accepted a ≡ true → answered_with a x ≡ Ok x
+answered (Ok b) x e = refl
+answered (Err r) x e = absurd (false≢true e)
+
+module _ (n : ℕ) (w : List ℕ) where
+  -- the port, accepted
+  pub found-ok : {i : ℕ} → port_found n w ≡ Ok i → (accepted (asked_answer new_layer (report n) w) ≡ true) × (i ≡ n - 1)
+  unfolding port_found
+  found-ok {i} e = by (asked_answer new_layer (report n) w) e
+    where
+      at : Result ℕ Reason → ℕ
+      at (Ok j) = j
+      at (Err r) = i
+
+      by : (a : Answer) → answered_with a (n - 1) ≡ Ok i → (accepted a ≡ true) × (i ≡ n - 1)
+      by (Ok a) e = (refl, sym (ap at e))
+      by (Err r) e = absurd (false≢true (ap accepted e))
+
+  -- or why it is refused
+  pub found-err : {r : Reason} → port_found n w ≡ Err r → asked_answer new_layer (report n) w ≡ Err r
+  unfolding port_found
+  found-err {r} e = by (asked_answer new_layer (report n) w) e
+    where
+      reason-of : Result ℕ Reason → Reason
+      reason-of (Ok j) = r
+      reason-of (Err s) = s
+
+      by : (a : Answer) → answered_with a (n - 1) ≡ Err r → a ≡ Err r
+      by (Ok a) e = absurd (false≢true (sym (ap accepted e)))
+      by (Err s) e = ap (λ (x : Reason). Err x) (ap reason-of e)
+
 -- ---- the two reports
 
--- a refusal, and where the port is found
-module _ (n : ℕ) (w : List ℕ) (a : Answer) (is : a ≡ asked_answer new_layer (report n) w) where
-  pub why-refused : accepted a ≡ false → ◌≡◌ {A = WhyReport} (record { answer = a; why = no_why }) (why_report n w)
+module _ (n : ℕ) (w : List ℕ) where
+  pub why-refused : {r : Reason} → asked_answer new_layer (report n) w ≡ Err r → Err r ≡ why_report n w
   unfolding why_report
-  why-refused e =
-      λ j. record { answer = is j; why = (sym (taken_back no_why (why_at n (records_in w)) a e) ∙ ap (λ (x : Answer). unless x no_why (why_at n (records_in w))) is) j }
+  why-refused e = sym (ap (λ (a : Answer). answered_with a (why_at n (records_in w))) e)
 
-  pub why-told : accepted a ≡ true → (x : Why) → x ≡ why_at n (first w) → ◌≡◌ {A = WhyReport} (record { answer = a; why = x }) (why_report n w)
+  pub why-given : accepted (asked_answer new_layer (report n) w) ≡ true → Ok (why_at n (first w)) ≡ why_report n w
   unfolding why_report
-  why-told e x told =
-      let why = told ∙ ap (why_at n) (sym (records_are w)) ∙ sym (given_back no_why (why_at n (records_in w)) a e) ∙ ap (λ (x : Answer). unless x no_why (why_at n (records_in w))) is in
-      λ j. record { answer = is j; why = why j }
+  why-given e = ap (λ (t : List ℕ). Ok (why_at n t)) (sym (records_are w)) ∙ sym (answered (asked_answer new_layer (report n) w) (why_at n (records_in w)) e)
 
   module _ (m : ℕ) where
-    pub apart-refused : accepted a ≡ false → ◌≡◌ {A = ApartReport} (record { answer = a; apart = nothing }) (apart_report n m w)
+    pub apart-refused : {r : Reason} → asked_answer new_layer (report n) w ≡ Err r → Err r ≡ apart_report n m w
     unfolding apart_report
-    apart-refused e = refused a (sym (taken_back a (asked_answer new_layer (report m) w) a e) ∙ ap (λ (x : Answer). unless x x (asked_answer new_layer (report m) w)) is) e
-      where
-        refused : (b : Answer) → b ≡ answer_of_two n m w → accepted b ≡ false
-            → ◌≡◌ {A = ApartReport} (record { answer = b; apart = nothing }) (record { answer = answer_of_two n m w; apart = unless (answer_of_two n m w) nothing (apart_at n m (records_in w)) })
-        refused b x e = λ j. record { answer = x j; apart = (sym (taken_back nothing (apart_at n m (records_in w)) b e) ∙ ap (λ (y : Answer). unless y nothing (apart_at n m (records_in w))) x) j }
+    apart-refused e = sym (ap (λ (a : Answer). answered_with (unless a a (asked_answer new_layer (report m) w)) (apart_at n m (records_in w))) e)
 
-    module _ (done : accepted a ≡ true) (b : Answer) (so : b ≡ asked_answer new_layer (report m) w) where
-      second : b ≡ answer_of_two n m w
-      second = sym (given_back a b a done) ∙ (λ j. unless (is j) (is j) (so j))
+    second : accepted (asked_answer new_layer (report n) w) ≡ true → answer_of_two n m w ≡ asked_answer new_layer (report m) w
+    second e = given_back (asked_answer new_layer (report n) w) (asked_answer new_layer (report m) w) (asked_answer new_layer (report n) w) e
 
-      pub apart-refused-then : accepted b ≡ false → ◌≡◌ {A = ApartReport} (record { answer = b; apart = nothing }) (apart_report n m w)
-      unfolding apart_report
-      apart-refused-then e =
-          λ j. record { answer = second j; apart = (sym (taken_back nothing (apart_at n m (records_in w)) b e) ∙ ap (λ (y : Answer). unless y nothing (apart_at n m (records_in w))) second) j }
+    pub apart-refused-then : {r : Reason} → accepted (asked_answer new_layer (report n) w) ≡ true → asked_answer new_layer (report m) w ≡ Err r → Err r ≡ apart_report n m w
+    unfolding apart_report
+    apart-refused-then done e = sym (ap (λ (a : Answer). answered_with a (apart_at n m (records_in w))) (second done ∙ e))
 
-      pub apart-told : accepted b ≡ true → (x : Apart) → x ≡ apart_at n m (first w) → ◌≡◌ {A = ApartReport} (record { answer = b; apart = x }) (apart_report n m w)
-      unfolding apart_report
-      apart-told e x told =
-          let apart = told ∙ ap (apart_at n m) (sym (records_are w)) ∙ sym (given_back nothing (apart_at n m (records_in w)) b e) ∙ ap (λ (y : Answer). unless y nothing (apart_at n m (records_in w))) second in
-          λ j. record { answer = second j; apart = apart j }
+    pub apart-given : accepted (asked_answer new_layer (report n) w) ≡ true → accepted (asked_answer new_layer (report m) w) ≡ true → Ok (apart_at n m (first w)) ≡ apart_report n m w
+    unfolding apart_report
+    apart-given done e =
+        ap (λ (t : List ℕ). Ok (apart_at n m t)) (sym (records_are w))
+        ∙ sym (ap (λ (a : Answer). answered_with a (apart_at n m (records_in w))) (second done) ∙ answered (asked_answer new_layer (report m) w) (apart_at n m (records_in w)) e)

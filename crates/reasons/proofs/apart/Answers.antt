@@ -1,44 +1,44 @@
 -- `apart` meets its contract: both ports are found, or the first that is not is refused as a report of it is. Assumes nothing.
+use Prim.Native.Nat.{ℕ}
 use mathlib.Core.Path.{sym, ap, ◌∙◌}
-use Rattle.control.specs.Accepted.{accepted}
-use Rattle.reasons.specs.Reasons.{apart_at}
-use Rattle.reasons.proofs.FoundLaws.{found, apart-refused, apart-refused-then, apart-told}
+use mathlib.Core.List.{map}
+use Rattle.std.specs.Prelude.{Ok}
+use Rattle.port.specs.Compared.{compared}
+use Rattle.table.specs.Table.{ports, ours}
+use Rattle.why.specs.declared.apart.Apart.{Apart}
+use Rattle.why.specs.Apart.{apart_of}
+use Rattle.control.proofs.CallLaws.{passed-up}
+use Rattle.reasons.proofs.FoundLaws.{found, found-ok, found-err, apart-refused, apart-refused-then, apart-given}
 use Rattle.reasons.proofs.apart.Goals as goal
 
-pub returns-then-not-is_accepted : goal.returns-then-not-is_accepted
-returns-then-not-is_accepted c =
+pub returns-in_err-i : goal.returns-in_err-i
+returns-in_err-i c =
     let a = c.args in
-    (λ j. record { answer = c.find-a.result; apart = c.nothing.ensures j })
-    ∙ apart-refused a.n a.table.now c.find-a.result c.find-a.ensures a.m (sym c.is_accepted.ensures ∙ c.if-not-is_accepted.true)
+    passed-up _ c.from_residual.ensures.1 ∙ apart-refused a.n a.table.now a.m (found-err a.n a.table.now (sym c.find.ensures ∙ c.in_err-i.was))
 
-pub returns-then-not-is_accepted-2 : goal.returns-then-not-is_accepted-2
-returns-then-not-is_accepted-2 c =
+pub returns-in_err-j : goal.returns-in_err-j
+returns-in_err-j c =
     let a = c.args in
-    (λ j. record { answer = c.find-c.result; apart = c.nothing-then-not-is_accepted-2.ensures j })
-    ∙ apart-refused-then a.n a.table.now c.find-a.result c.find-a.ensures a.m (sym c.is_accepted.ensures ∙ c.if-not-is_accepted.false) c.find-c.result c.find-c.ensures (sym c.is_accepted-2.ensures ∙ c.if-not-is_accepted-2.true)
-
-pub overflow_sub-i : goal.overflow_sub-i
-overflow_sub-i c =
-    let a = c.args in
-    (found a.table.now a.n (sym (ap accepted c.find-a.ensures) ∙ sym c.is_accepted.ensures ∙ c.if-not-is_accepted.false)).some
-
-pub overflow_sub-j : goal.overflow_sub-j
-overflow_sub-j c =
-    let a = c.args in
-    (found a.table.now a.m (sym (ap accepted c.find-c.ensures) ∙ sym c.is_accepted-2.ensures ∙ c.if-not-is_accepted-2.false)).some
+    let here = found-ok a.n a.table.now (sym c.find.ensures ∙ c.in_ok-i.was) in
+    passed-up _ c.from_residual-2.ensures.1 ∙ apart-refused-then a.n a.table.now a.m here.0 (found-err a.m a.table.now (sym c.find-2.ensures ∙ c.in_err-j.was))
 
 pub records-requires : goal.records-requires
 records-requires c =
     let a = c.args in
-    (found a.table.now a.n (sym (ap accepted c.find-a.ensures) ∙ sym c.is_accepted.ensures ∙ c.if-not-is_accepted.false)).long
+    (found a.table.now a.n (found-ok a.n a.table.now (sym c.find.ensures ∙ c.in_ok-i.was)).0).long
 
 pub apart_of-requires : goal.apart_of-requires
 apart_of-requires c =
     let a = c.args in
-    rw c.records.ensures ((found a.table.now a.n (sym (ap accepted c.find-a.ensures) ∙ sym c.is_accepted.ensures ∙ c.if-not-is_accepted.false)).there, (found a.table.now a.m (sym (ap accepted c.find-c.ensures) ∙ sym c.is_accepted-2.ensures ∙ c.if-not-is_accepted-2.false)).there)
+    let first = found-ok a.n a.table.now (sym c.find.ensures ∙ c.in_ok-i.was) in
+    let second = found-ok a.m a.table.now (sym c.find-2.ensures ∙ c.in_ok-j.was) in
+    rw (c.records.ensures, first.1, second.1) ((found a.table.now a.n first.0).there, (found a.table.now a.m second.0).there)
 
 pub returns : goal.returns
 returns c =
     let a = c.args in
-    apart-told a.n a.table.now c.find-a.result c.find-a.ensures a.m (sym c.is_accepted.ensures ∙ c.if-not-is_accepted.false) c.find-c.result c.find-c.ensures (sym c.is_accepted-2.ensures ∙ c.if-not-is_accepted-2.false)
-    c.apart_of.result (c.apart_of.ensures ∙ ap (apart_at a.n a.m) c.records.ensures)
+    let first = found-ok a.n a.table.now (sym c.find.ensures ∙ c.in_ok-i.was) in
+    let second = found-ok a.m a.table.now (sym c.find-2.ensures ∙ c.in_ok-j.was) in
+    ap (λ (x : Apart). Ok x)
+    (c.apart_of.ensures ∙ (λ j. apart_of (ours (c.records.ensures j)) (map compared (ports (c.records.ensures j))) (first.1 j) (second.1 j)))
+    ∙ apart-given a.n a.table.now a.m first.0 second.0
