@@ -24,6 +24,7 @@ pub fn same_view(x: Block, y: Block) -> bool
 }
 
 // Whether a frame's sender is in sync: `us` is what we say of ourselves, the frame says `a` of its sender and `b` of us.
+#[tactic(auto, unfolding(crate::specs::Compare::in_sync, crate::specs::Compare::maintained))]
 pub fn in_sync(us: Block, a: Block, b: Block) -> bool
     ensures { result ≡ in_sync us a b }
 {

@@ -59,6 +59,7 @@ pub struct Line {
 }
 
 // The three timers; each stands at 0 in a state that has no use for it (R3.13).
+// Kept: no Option, since 0 in a state that uses the timer is another thing, a timer that has run out (R3.12).
 #[derive(Clone, Copy, Default, PartialEq, Eq)]
 pub struct Timers {
     pub current: Ticks,

@@ -3,7 +3,7 @@
 use mathlib.Core.Path.{◌≡◌, refl, sym, ap, ◌∙◌}
 use mathlib.Core.Bool.{Bool, true, false, cond, not, ◌&&◌, false≢true}
 use borrow.Author.Tests.{not-true}
-use Rattle.std.specs.Prelude.{Option, Some, None, is_none}
+use Rattle.std.specs.Prelude.{Option, Some, None, is_none, unwrap_or}
 use Rattle.octets.proofs.RangeLaws.{both, both_true}
 use Rattle.machine.specs.declared.states.Receive.{Receive}
 use Rattle.machine.specs.declared.states.Receive.TheVariants.{Initialize, PortDisabled, Expired, LacpDisabled, Defaulted, Current}
@@ -76,12 +76,8 @@ unfolding rests_mux mux_run mux_step
 mux-gives-back p e = let stays = none-is (mux_choice false p) e in rw (stays, stays)
 
 -- the state in which a step ends, and two
-landing : Option Mux → Mux → Mux
-landing None m = m
-landing (Some n) m = n
-
 lands : Mux → Selection → Bool → Bool → Mux
-lands m s sync coll = landing (mux_next (landing (mux_next m s false sync coll) m) s false sync coll) (landing (mux_next m s false sync coll) m)
+lands m s sync coll = unwrap_or (mux_next (unwrap_or (mux_next m s false sync coll) m) s false sync coll) (unwrap_or (mux_next m s false sync coll) m)
 
 -- what the transitions look at beside the state, a step keeps
 record Looked (p q : Port) (m : Mux) : Type 0 where
@@ -90,8 +86,7 @@ record Looked (p q : Port) (m : Mux) : Type 0 where
   synchronization : q.partner.state.synchronization ≡ p.partner.state.synchronization
   collecting : q.partner.state.collecting ≡ p.partner.state.collecting
 
-taken-lands : (k : Option Mux) (p : Port) → Looked p (mux_taken k p) (landing k p.phase.mux)
-unfolding landing
+taken-lands : (k : Option Mux) (p : Port) → Looked p (mux_taken k p) (unwrap_or k p.phase.mux)
 taken-lands None p = record { state = refl; selected = refl; synchronization = refl; collecting = refl }
 taken-lands (Some m) p = record { state = refl; selected = refl; synchronization = refl; collecting = refl }
 
@@ -105,7 +100,7 @@ run-lands p =
 
 -- where a transition applies, that is another than the state in which it began
 mux-other : (m : Mux) (s : Selection) (sync coll : Bool) → lands m s sync coll ≡ m → is_none (mux_next m s false sync coll) ≡ true
-unfolding lands landing
+unfolding lands
 mux-other Detached Unselected sync coll e = refl
 mux-other Detached Selected sync coll e = let x : Waiting ≡ Detached = e in cc
 mux-other Waiting Unselected sync coll e = let x : Detached ≡ Waiting = e in cc

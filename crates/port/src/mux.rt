@@ -42,14 +42,14 @@ impl Port {
     }
 
     // Step 3: state by state down to DETACHED, so that no frame reaches two aggregators.
+    #[tactic(auto, using(crate::proofs::MuxLaws::detached_descends), unfolding(crate::specs::Mux::entered_all))]
     pub fn detach(self) -> Self
         ensures { result ≡ detached self }
     {
         let p = self.with_selected(Selection::Unselected);
         match self.phase.mux {
             Mux::Detached => p,
-            Mux::Waiting => p.enter_mux(Mux::Detached),
-            Mux::Attached => p.enter_mux(Mux::Detached),
+            Mux::Waiting | Mux::Attached => p.enter_mux(Mux::Detached),
             Mux::Collecting => p.enter_mux(Mux::Attached).enter_mux(Mux::Detached),
             Mux::Distributing => p
                 .enter_mux(Mux::Collecting)
@@ -81,6 +81,7 @@ impl Port {
     }
 
     // Step 6: up or down as the partner's bits say, to where the machine rests.
+    #[tactic(auto, unfolding(crate::specs::Mux::mux_run))]
     pub fn mux(self) -> Self
         ensures { result ≡ mux_run self }
     {

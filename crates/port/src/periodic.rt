@@ -40,6 +40,7 @@ impl Port {
     }
 
     // The machine until no step applies.
+    #[tactic(auto, unfolding(crate::specs::Periodic::periodic_run))]
     pub fn periodic(self) -> Self
         ensures { result ≡ periodic_run self }
     {

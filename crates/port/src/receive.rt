@@ -30,6 +30,7 @@ impl Port {
     }
 
     // Is lent the frame's block and the default one, and records the one that applies; Defaulted says which it was.
+    // Kept: document 01 names this form, a step that is lent both blocks, and no Option of the frame's.
     fn record<'a>(mut self, source: Source, pdu: &'a [u8; 15], default: &'a [u8; 15]) -> Self
         ensures { result ≡ recorded source (block_of pdu.now) (block_of default.now) self }
     {
@@ -39,6 +40,7 @@ impl Port {
     }
 
     // recordDefault: no frame is at hand, so 15 zeros are lent in its place.
+    #[tactic(auto, using(frame::proofs::BlockLaws::block_back), unfolding(crate::specs::Receive::record_default))]
     fn record_default(self) -> Self
         ensures { result ≡ record_default self }
     {
@@ -47,6 +49,7 @@ impl Port {
     }
 
     // recordPDU: the frame's actor block, in sync or not.
+    #[tactic(auto, unfolding(crate::specs::Receive::record_pdu))]
     fn record_pdu(self, us: Block, actor: &[u8; 15], b: Block) -> Self
         ensures { result ≡ record_pdu us (block_of actor.now) b self }
     {
@@ -76,6 +79,7 @@ impl Port {
         self
     }
 
+    #[tactic(auto, unfolding(crate::specs::Receive::initialized))]
     fn initialize(self) -> Self
         ensures { result ≡ initialized self }
     {
@@ -84,6 +88,7 @@ impl Port {
         p.in_state(Receive::Initialize, Ticks(0))
     }
 
+    #[tactic(auto, unfolding(crate::specs::Receive::port_disabled))]
     fn port_disabled(mut self) -> Self
         ensures { result ≡ port_disabled self }
     {
@@ -101,6 +106,7 @@ impl Port {
         self.in_state(Receive::Expired, SHORT_TIMEOUT_TIME)
     }
 
+    #[tactic(auto, unfolding(crate::specs::Receive::lacp_disabled))]
     fn lacp_disabled(self) -> Self
         ensures { result ≡ lacp_disabled self }
     {
@@ -111,6 +117,7 @@ impl Port {
     }
 
     // DEFAULTED: compares before it records.
+    #[tactic(auto, unfolding(crate::specs::Receive::defaulted, crate::specs::Receive::update_default_selected))]
     fn default_partner(self) -> Self
         ensures { result ≡ defaulted self }
     {
@@ -155,6 +162,7 @@ impl Port {
     }
 
     // The machine without an LACPDU, until no step applies: mostly none does, or one.
+    #[tactic(auto, unfolding(crate::specs::Receive::receive_run, crate::specs::Receive::receive_step))]
     pub fn receive(self) -> Self
         ensures { result ≡ receive_run self }
     {
@@ -166,6 +174,7 @@ impl Port {
     }
 
     // The partner of this port, which is disabled, was seen on another one.
+    #[tactic(auto, unfolding(crate::specs::Receive::moved))]
     pub fn moved_away(self) -> Self
         ensures { result ≡ moved self }
     {
@@ -205,6 +214,7 @@ impl Port {
     }
 
     // Another link and duplex. Every change goes by way of down.
+    #[tactic(auto, unfolding(crate::specs::Receive::lined))]
     pub fn set_line(mut self, line: Line) -> Self
         ensures { result ≡ lined line self }
     {

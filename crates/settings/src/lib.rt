@@ -20,18 +20,20 @@ pub struct Settings {
     pub default: Block,
 }
 
-impl Settings {
-    fn own(self) -> Own
-        ensures { result ≡ own_of self }
-    {
+impl From<Settings> for Own {
+    ghost from_gives = { λ settings own. own ≡ own_of settings };
+
+    fn from(settings: Settings) -> Own {
         Own {
-            address: self.address,
-            key: self.key,
-            priority: self.priority,
-            default: self.default,
+            address: settings.address,
+            key: settings.key,
+            priority: settings.priority,
+            default: settings.default,
         }
     }
+}
 
+impl Settings {
     // The default partner block has Collecting and Synchronization alike.
     #[tactic(auto, unfolding(crate::specs::Settings::lawful))]
     pub fn is_lawful(self) -> bool
@@ -71,7 +73,7 @@ impl Settings {
             actor: self.bits(PortState::default()),
             timers: Timers::default(),
             ages: Ages::default(),
-            own: self.own(),
+            own: Own::from(self),
             partner: self.default,
         }
     }
@@ -122,7 +124,7 @@ impl Settings {
     {
         let mut q = self.regroup(p);
         q.actor = self.bits(p.actor);
-        q.own = self.own();
+        q.own = Own::from(self);
         q.ntt = true;
         q
     }
