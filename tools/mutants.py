@@ -316,10 +316,10 @@ MUTANTS = [
          "(Periodic::PeriodicTx, false, _, true) => Some(Periodic::NoPeriodic)"))),
     Mutant("4 at rest", "one step of the mux", ("at_rest",), "", (
         ("port/specs/Mux.antt", "mux_run p = mux_step false (mux_step false p)", "mux_run p = mux_step false p"),)),
-    Mutant("5 read-back", "the two blocks exchanged", ("read_back",), "work::write_due", (
+    Mutant("5 read-back", "the two blocks exchanged", ("read_back",), "work::send", (
         ("work/specs/Work.antt", "lacpdu_of s i = lacpdu (port_of s i).own.address (actor_block s.common.system (i + 1) (port_of s i)) (port_of s i).partner s.common.delay",
          "lacpdu_of s i = lacpdu (port_of s i).own.address (port_of s i).partner (actor_block s.common.system (i + 1) (port_of s i)) s.common.delay"),
-        ("work/src/lib.rt", "frame::wire::write_lacpdu(out, address, actor, partner, delay);", "frame::wire::write_lacpdu(out, address, partner, actor, delay);"))),
+        ("work/src/lib.rt", "frame::wire::write_lacpdu(out, p.own.address, actor, p.partner, ours.delay);", "frame::wire::write_lacpdu(out, p.own.address, p.partner, actor, ours.delay);"))),
     Mutant("6 the live partner", "EXPIRED that records the default block", ("live_though_silent",), "port::record::Port::expire", (
         ("port/specs/Receive.antt", "expired p =\n    with_receive (expired_bit (with_current (with_partner_state p (with_timeout (with_synchronization p.partner.state false) true)) (ticks short_timeout_time)) true) Expired",
          "expired p =\n    let d = record_default p in\n    with_receive (expired_bit (with_current (with_partner_state d (with_timeout (with_synchronization d.partner.state false) true)) (ticks short_timeout_time)) true) Expired"),
