@@ -343,13 +343,12 @@ MUTANTS = [
     Mutant("6 the live partner", "a line call that takes the new duplex first, and then the link", ("live_though_dropped",), "", (
         ("port/specs/Receive.antt", "lined l p = receive_run (with_line (receive_run (with_line p (down p.line))) l)",
          "lined l p = receive_run (with_line (receive_run (with_line (receive_run (with_line p (down p.line))) (record { up = p.line.up; full = l.full }))) l)"),)),
-    Mutant("7 reports", "COLLECTING counted as distributing", ("narrowed-true",), "report::stands_to", (
-        ("report/specs/Sets.antt", "stands Distributes k p = eqb p.aggregator k && distributes p.phase.mux",
-         "stands Distributes k p = eqb p.aggregator k && Rattle.machine.specs.Mux.collects p.phase.mux"),
-        ("report/src/lib.rt", "Role::Distributes => (held == k) & m.distributes()", "Role::Distributes => (held == k) & m.collects()"),
-        ("report/proofs/stands_to/Answers.antt", "c.distributes.ensures", "c.collects.ensures"))),
+    Mutant("7 reports", "COLLECTING counted as distributing", ("narrowed-true",), "report::aggregator_of", (
+        ("report/specs/Sets.antt", "distributes_in k p = holds k p && distributes p.phase.mux",
+         "distributes_in k p = holds k p && Rattle.machine.specs.Mux.collects p.phase.mux"),
+        ("report/src/lib.rt", "holds(table, i, k) & table::phase(table, i).mux.distributes()", "holds(table, i, k) & table::phase(table, i).mux.collects()"))),
     Mutant("7 reports", "the count of the attached ports", ("narrowed-true",), "report::aggregator_of", (
-        ("report/specs/Sets.antt", "count = ones (set_of (stands Distributes k) ps);", "count = ones (set_of (stands Attached k) ps);"),
+        ("report/specs/Sets.antt", "count = ones (set_of (distributes_in k) ps);", "count = ones (set_of (attached_to k) ps);"),
         ("report/src/lib.rt", "count: u32::count_ones(distributing),", "count: u32::count_ones(attached),"))),
     Mutant("8 three sends", "a send forgotten once ten ticks have come after it", ("fourth_too_soon",), "machine::ages::aged", (
         ("machine/specs/Ages.antt", "forgotten_age = 11", "forgotten_age = 10"),

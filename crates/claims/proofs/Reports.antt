@@ -8,8 +8,7 @@ use native.Mathlib.Omega.{arith}
 use lib.ListN.{length}
 use Rattle.std.specs.Prelude.{Ok, Err, MatchResult}
 use Rattle.port.specs.declared.record.Port.{Port}
-use Rattle.report.specs.declared.Role.TheVariants.{Holds, Attached, Distributes}
-use Rattle.report.specs.Sets.{stands, set_of, sets_of}
+use Rattle.report.specs.Sets.{holds, attached_to, distributes_in, set_of, sets_of}
 use Rattle.octets.specs.Sets.{member}
 use Rattle.report.proofs.SetLaws.{set-member, set-member-beyond, set-count, none-lowest, lowest-least}
 use Rattle.table.specs.Layout.{most_ports}
@@ -47,18 +46,18 @@ module _ (t : List ℕ) (ranged : table_in_range t ≡ true) (k : ℕ) where
   beyond f i h = set-member-beyond f (ports t) i (rw ports-length h)
 
   sets_true : SetsTrue k t (sets_of k (ports t))
-  unfolding sets_of stands
+  unfolding sets_of
   sets_true = record {
-    holding = λ i h. at (stands Holds k) i h;
-    attached = λ i h. at (stands Attached k) i h;
-    distributing = λ i h. at (stands Distributes k) i h;
-    nobody = λ i h. (beyond (stands Holds k) i h, beyond (stands Attached k) i h, beyond (stands Distributes k) i h);
-    count = set-count (stands Distributes k) (ports t);
-    none = λ f. none-lowest (stands Distributes k) (ports t) (decoded [])
-        (λ i h. let below : i < count_in t = rw ports-length at h in ap (stands Distributes k) (ports-at t i (decoded []) below) ∙ f i below);
-    least = λ i h e f. lowest-least (stands Distributes k) (ports t) i (decoded []) few (in_list i h)
-        (ap (stands Distributes k) (ports-at t i (decoded []) h) ∙ e)
-        (λ j g. let below : j < count_in t = omega arith in ap (stands Distributes k) (ports-at t j (decoded []) below) ∙ f j g);
+    holding = λ i h. at (holds k) i h;
+    attached = λ i h. at (attached_to k) i h;
+    distributing = λ i h. at (distributes_in k) i h;
+    nobody = λ i h. (beyond (holds k) i h, beyond (attached_to k) i h, beyond (distributes_in k) i h);
+    count = set-count (distributes_in k) (ports t);
+    none = λ f. none-lowest (distributes_in k) (ports t) (decoded [])
+        (λ i h. let below : i < count_in t = rw ports-length at h in ap (distributes_in k) (ports-at t i (decoded []) below) ∙ f i below);
+    least = λ i h e f. lowest-least (distributes_in k) (ports t) i (decoded []) few (in_list i h)
+        (ap (distributes_in k) (ports-at t i (decoded []) h) ∙ e)
+        (λ j g. let below : j < count_in t = omega arith in ap (distributes_in k) (ports-at t j (decoded []) below) ∙ f j g);
   }
 
 -- one that is accepted

@@ -24,7 +24,7 @@ use Rattle.octets.specs.Octets.{Octets, same_octets}
 use Rattle.frame.specs.Class.{foreign, unknown, wrong_length, wrong_marker_type, illegal, class_of, frame_size}
 use Rattle.frame.specs.Wire.{zeros}
 use Rattle.octets.specs.Sets.{member}
-use Rattle.report.specs.Sets.{stands, set_of, sets_of, due_of}
+use Rattle.report.specs.Sets.{set_of, sets_of, due_of}
 use Rattle.table.specs.Range.{codes_in_range, record_in_range, header_fits}
 use Rattle.table.specs.Record.{encoded, decoded}
 use Rattle.table.specs.State.{port_in}
@@ -64,7 +64,7 @@ takes =
     (tt, (tt, (tt, (refl, (received-takes 1 1 0x3F refl, (received-takes 1 2 0x3F refl, ticks-take 10 later then))))))
 
 pub witness : Witness
-unfolding same_address same_system same_numbers same_party same_view maintained in_sync same_state same_block record_default record_pdu update_selected update_default_selected update_ntt initialized port_disabled expired lacp_disabled defaulted pdu_recorded current moved received receive_choice receive_step receive_run lined periodic_choice periodic_step periodic_run due is_due sent port_silent ntt_cleared ticked mux_choice mux_step detached placed attached_if mux_run same_grouping same_settings regrouped configured lawful blank started advanced individual same_keys same_group joins shares_group first_from lowest rule_of waits_for has_waiting holds_back held_back ready map_from must_move reselected selected_all attached_all muxed settled is_displaced displaced_if displaced same_octets foreign unknown wrong_length wrong_marker_type illegal class_of stands set_of sets_of due_of member codes_in_range timers_in_range ages_in_range values_in_range record_in_range block_fits own_fits header_fits encoded decoded record_at decoded_at port_in ports_from ports records_octets table_octets first_in_range table_in_range worked after_one after_start received_at after_received after_tick after_line after_settings after_send lacpdu_of found answer effect after written_by outgoing port_report aggregator_report due_report ones ones_in count_trailing_zeros run ticks tables begun trunk parted narrowed fallen halved dropped rekeyed silent restarted three_groups plugged_over two_lags every none_ends fourth sends
+unfolding same_address same_system same_numbers same_party same_view maintained in_sync same_state same_block record_default record_pdu update_selected update_default_selected update_ntt initialized port_disabled expired lacp_disabled defaulted pdu_recorded current moved received receive_choice receive_step receive_run lined periodic_choice periodic_step periodic_run due is_due sent port_silent ntt_cleared ticked mux_choice mux_step detached placed attached_if mux_run same_grouping same_settings regrouped configured lawful blank started advanced individual same_keys same_group joins shares_group first_from lowest rule_of waits_for has_waiting holds_back held_back ready map_from must_move reselected selected_all attached_all muxed settled is_displaced displaced_if displaced same_octets foreign unknown wrong_length wrong_marker_type illegal class_of set_of sets_of due_of member codes_in_range timers_in_range ages_in_range values_in_range record_in_range block_fits own_fits header_fits encoded decoded record_at decoded_at port_in ports_from ports records_octets table_octets first_in_range table_in_range worked after_one after_start received_at after_received after_tick after_line after_settings after_send lacpdu_of found answer effect after written_by outgoing port_report aggregator_report due_report ones ones_in count_trailing_zeros run ticks tables begun trunk parted narrowed fallen halved dropped rekeyed silent restarted three_groups plugged_over two_lags every none_ends fourth sends
 witness = record {
   started = refl;
   made = record {

@@ -5,16 +5,17 @@ use Rattle.frame.specs.State.{weighed}
 use Rattle.machine.specs.Mux.{is_attached, distributes}
 use Rattle.port.specs.declared.record.Port.{Port}
 use Rattle.port.specs.Transmit.{is_due}
-use Rattle.report.specs.declared.Role.{Role}
-use Rattle.report.specs.declared.Role.TheVariants.{Holds, Attached, Distributes, Due}
 use Rattle.report.specs.declared.Sets.{Sets}
 
--- how a port stands to aggregator k, or whether an LACPDU is due on it
-unfoldable pub stands : Role → ℕ → Port → Bool
-stands Holds k p = eqb p.aggregator k
-stands Attached k p = eqb p.aggregator k && is_attached p.phase.mux
-stands Distributes k p = eqb p.aggregator k && distributes p.phase.mux
-stands Due k p = is_due p
+-- whether a port holds aggregator k, is attached to it, and distributes in it
+abbrev pub holds : ℕ → Port → Bool
+holds k p = eqb p.aggregator k
+
+abbrev pub attached_to : ℕ → Port → Bool
+attached_to k p = holds k p && is_attached p.phase.mux
+
+abbrev pub distributes_in : ℕ → Port → Bool
+distributes_in k p = holds k p && distributes p.phase.mux
 
 -- the ports that pass a test, bit 0 the first
 unfoldable pub set_of : (Port → Bool) → List Port → ℕ
@@ -28,11 +29,11 @@ lowest_of x = cond (eqb x 0) 0 (count_trailing_zeros 32 x + 1)
 -- what the report says of aggregator k
 unfoldable pub sets_of : ℕ → List Port → Sets
 sets_of k ps = record {
-  holding = set_of (stands Holds k) ps;
-  attached = set_of (stands Attached k) ps;
-  distributing = set_of (stands Distributes k) ps;
-  count = ones (set_of (stands Distributes k) ps);
-  lowest = lowest_of (set_of (stands Distributes k) ps);
+  holding = set_of (holds k) ps;
+  attached = set_of (attached_to k) ps;
+  distributing = set_of (distributes_in k) ps;
+  count = ones (set_of (distributes_in k) ps);
+  lowest = lowest_of (set_of (distributes_in k) ps);
 }
 
 -- the ports on which an LACPDU is due (R15.5)

@@ -8,5 +8,5 @@ pub returns : goal.returns
 unfolding decoded
 returns c =
     let l = c.args.s.now in
-    rw (c.is_barred.ensures, c.ntt_in.ensures, c.ages_in-ages.ensures, c.line_in-line.ensures)
+    rw (c.is_barred.ensures, c.ntt_in.ensures, c.ages_in.ensures, c.line_in-line.ensures)
     (sym (due-at_once (decoded l)))

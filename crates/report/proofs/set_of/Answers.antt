@@ -1,8 +1,9 @@
 -- `report::set_of` meets its contract: from the top port down, the set is that of the records from i on, and it fits 32 bits since a table
 -- has at most 32 ports. Assumes nothing.
 use Prim.Native.Nat.{ℕ, suc, ◌≤◌, ◌<◌, ◌-◌, ◌*◌, ◌+◌}
-use mathlib.Core.Path.{◌≡◌, sym, ap, ap₂, ◌∙◌}
-use mathlib.Core.Bool.{Bool, true}
+use mir.Val.{bool_byte}
+use mathlib.Core.Path.{◌≡◌, refl, sym, ap, ap₂, ◌∙◌}
+use mathlib.Core.Bool.{Bool, true, false}
 use mathlib.Core.List.{List}
 use native.Mathlib.Omega.{arith}
 use lib.ListN.{drop}
@@ -11,7 +12,7 @@ use Rattle.port.specs.declared.record.Port.{Port}
 use Rattle.table.specs.Table.{table_in_range, count_in, ports, port_at}
 use Rattle.table.proofs.StoreLaws.{ports-length, ports-at}
 use Rattle.table.proofs.TableLaws.{in_range}
-use Rattle.report.specs.Sets.{stands, set_of}
+use Rattle.report.specs.Sets.{set_of}
 use Rattle.report.proofs.SetLaws.{weight_less, set_next, set_end, set-fits}
 use Rattle.report.proofs.set_of.Goals as goal
 
@@ -30,55 +31,43 @@ turn f t i more h {set} so_far =
     ∙ ap₂ (λ (m : ℕ) (q : Port). set_of f (drop m (ports t)) * 2 + weighed (f q) 1) back (ports-at t (i - 1) p below)
     ∙ ap (λ (x : ℕ). x * 2 + weighed (f p) 1) (sym so_far))
 
-pub count-i-requires : goal.count-i-requires
-count-i-requires c = c.requires
+-- a flag as a number is its weight
+weight : (b : Bool) → bool_byte b ≡ weighed b 1
+weight true = refl
+weight false = refl
 
 pub loop-i-init : goal.loop-i-init
-loop-i-init c =
+loop-i-init g c =
     let t = c.args.table.now in
-    (omega arith, sym (set_end (stands c.args.role c.args.k) (ports t) c.count-i.result (ports-length t ∙ sym c.count-i.ensures)))
-
-pub overflow_sub-i : goal.overflow_sub-i
-overflow_sub-i c = omega arith
+    sym (set_end g.test (ports t) c.count-i.result (ports-length t ∙ sym c.count-i.ensures))
 
 pub overflow_mul-set : goal.overflow_mul-set
-overflow_mul-set c =
-    let a = c.args in
-    let loop = c.loop-i in
-    let less = fits (stands a.role a.k) a.table.now c.requires loop.i (omega arith) loop.invariant.1 in
-    omega arith
+overflow_mul-set g c =
+    let less = fits g.test c.args.table.now c.requires.1.0 c.loop-i.i (omega (arith, c.loop-i-test.true)) c.loop-i.invariant in
+    omega (arith, less)
 
-pub stands_to-requires : goal.stands_to-requires
-stands_to-requires c = (c.requires, omega arith)
-
-pub weigh-requires : goal.weigh-requires
-weigh-requires c = tt
+pub passes-requires : goal.passes-requires
+passes-requires g c =
+    let h : c.loop-i.i - 1 < count_in c.args.table.now = omega (arith, c.loop-i-test.true, c.loop-i.auto.i, c.count-i.ensures) in
+    c.requires.1.1.0 _ (c.loop-i.i - 1) (c.requires.1.0, h)
 
 pub overflow_add-set : goal.overflow_add-set
-overflow_add-set c =
-    let a = c.args in
-    let pre = c.requires in
-    let loop = c.loop-i in
-    let less = fits (stands a.role a.k) a.table.now pre loop.i (omega arith) loop.invariant.1 in
-    let least = weight_less c.stands_to.result in
-    rw c.weigh.ensures (omega arith)
-
-pub loop-i-smaller : goal.loop-i-smaller
-loop-i-smaller c = omega arith
+overflow_add-set g c =
+    let less = fits g.test c.args.table.now c.requires.1.0 c.loop-i.i (omega (arith, c.loop-i-test.true)) c.loop-i.invariant in
+    let least = weight_less c.passes.result in
+    omega (arith, less, least, c.from.ensures ∙ weight c.passes.result)
 
 pub loop-i-preserved : goal.loop-i-preserved
-loop-i-preserved c =
-    let a = c.args in
-    let loop = c.loop-i in
-    let inv = loop.invariant in (
-      omega arith,
-      rw (c.weigh.ensures, c.stands_to.ensures)
-          (turn (stands a.role a.k) a.table.now loop.i (omega arith) inv.0 inv.1),
-    )
+loop-i-preserved g c =
+    let t = c.args.table.now in
+    let i = c.loop-i.i in
+    let most : i ≤ count_in t = omega (arith, c.loop-i.auto.i, c.count-i.ensures) in
+    let h : i - 1 < count_in t = omega (arith, c.loop-i-test.true, most) in
+    let told : c.passes.result ≡ g.test (port_at t (i - 1)) = c.requires.1.1.1 _ (i - 1) _ (c.requires.1.0, h) c.passes.ensures in
+    ap (λ (n : ℕ). c.loop-i.set * 2 + n) (c.from.ensures ∙ weight c.passes.result ∙ ap (λ (b : Bool). weighed b 1) told)
+    ∙ turn g.test t i (omega (arith, c.loop-i-test.true)) most c.loop-i.invariant
 
 pub returns : goal.returns
-returns c =
-    let a = c.args in
-    let inv = c.loop-i.invariant in
-    let end : c.loop-i.i ≡ 0 = omega arith in
-    inv.1 ∙ ap (λ (m : ℕ). set_of (stands a.role a.k) (drop m (ports a.table.now))) end
+returns g c =
+    let end : c.loop-i.i ≡ 0 = omega (arith, c.loop-i-test.false) in
+    c.loop-i.invariant ∙ ap (λ (m : ℕ). set_of g.test (drop m (ports c.args.table.now))) end
