@@ -2,6 +2,7 @@
 ghost use Rattle.std.specs.Prelude.{◌≡◌, ℕ};
 ghost use Rattle.frame.specs.declared.class.Refusal.{Refusal};
 ghost use Rattle.control.specs.declared.answer.Reason.TheVariants.{Frame};
+ghost use Rattle.control.specs.Accepted.{is_lacpdu};
 ghost use Rattle.control.specs.Answer.{reason_number, number_by, length_sent, undue_reason};
 
 use frame::class::{FRAME, Refusal};
@@ -100,6 +101,13 @@ impl<T: Copy, E: Numbered> Numbered for Result<T, E> {
             Err(why) => why.number(),
         }
     }
+}
+
+// Whether a call was accepted by doing a received LACPDU.
+pub fn is_lacpdu(answer: Answer) -> bool
+    ensures { result ≡ is_lacpdu answer }
+{
+    matches!(answer, Ok(Accepted::Lacpdu))
 }
 
 // The length that was sent for a received frame.

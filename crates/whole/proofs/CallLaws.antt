@@ -1,9 +1,9 @@
 -- What the wrappers rest on: memory with monitors is a table without them and the rest, a call on the first leaves the size and the port count, and so what
 -- is put together again is what the definitions say. Assumes nothing.
-use Rattle.std.specs.Prelude.{Ok, Err}
+use Rattle.std.specs.Prelude.{Result, Ok, Err, is_ok, IsErrAnd}
 use Prim.Native.Nat.{ℕ, ◌+◌, ◌-◌, ◌≤◌, ◌<◌}
 use mathlib.Core.Path.{◌≡◌, refl, sym, ap, ◌∙◌}
-use mathlib.Core.Bool.{Bool, true, false, cond, not, ◌&&◌, false≢true}
+use mathlib.Core.Bool.{Bool, true, false, cond, not, ◌&&◌, false≢true, true≢false}
 use mathlib.Core.List.{List, ◌++◌, append_assoc, append-nil}
 use native.Mathlib.Omega.{arith}
 use lib.ListN.{length, take, drop, get_or, replicate, length-append, length-drop, drop_of_length-le}
@@ -26,7 +26,8 @@ use Rattle.table.proofs.RuleLaws.{absent_zeros}
 use Rattle.churn.specs.Group.{group_size}
 use Rattle.churn.specs.Whole.{whole_size, base_of, group_at, groups_in_range, has_monitors}
 use Rattle.churn.proofs.WholeLaws.{base-count}
-use Rattle.control.specs.declared.answer.Accepted.TheVariants.{Done, Lacpdu, Marker}
+use Rattle.control.specs.declared.answer.Accepted.TheVariants.{Done}
+use Rattle.control.specs.declared.answer.Reason.{Reason}
 use Rattle.control.specs.declared.answer.Reason.TheVariants as reason
 use Rattle.control.specs.Accepted.{accepted}
 use Rattle.control.specs.Answer.{Answer, is_number, on_port}
@@ -34,9 +35,9 @@ use Rattle.control.specs.Call.{Call, start, report, is_start}
 use Rattle.control.specs.After.{answer, unless, after, buffer_of, outgoing}
 use Rattle.control.specs.Report.{port_report}
 use Rattle.control.proofs.RuleLaws.{refused-port}
-use Rattle.control.proofs.CallLaws.{after-accepted}
+use Rattle.control.proofs.CallLaws.{after-accepted, passed-up}
 use Rattle.control.proofs.CountLaws.{after-count, started-count}
-use Rattle.whole.specs.Calls.{count_for, base_for, rest_for, is_whole_room, has_room, settles, stage_of, watched_if, whole_answer, whole_after, whole_outgoing}
+use Rattle.whole.specs.Calls.{count_for, base_for, rest_for, is_whole_room, has_room, base_found, settles, stage_of, watched_if, whole_answer, whole_after, whole_outgoing}
 use Rattle.whole.specs.Meets.{Meets, MeetsOut, MeetsPort}
 use Rattle.whole.specs.Report.{whole_record_size, whole_record}
 
@@ -45,6 +46,40 @@ use Rattle.whole.specs.Report.{whole_record_size, whole_record}
 pub whole-size : (w : List ℕ) → has_monitors w ≡ true → length w ≡ whole_size (count_in w)
 unfolding has_monitors
 whole-size w e = eqb-true (length w) (whole_size (count_in w)) (both (eqb (length w) (whole_size (count_in w))) (groups_in_range (count_in w) w) e).0
+
+-- ---- what the first test finds: the octets of the table without monitors, or answer 1
+
+pub record Base (w : List ℕ) (b : ℕ) : Type 0 where
+  pub has : has_monitors w ≡ true
+  pub is : b ≡ place (count_in w)
+  pub most : b ≤ length w
+
+at : Result ℕ Reason → ℕ
+at (Ok b) = b
+at (Err r) = 0
+
+why : Result ℕ Reason → Reason
+why (Ok b) = reason.Table
+why (Err r) = r
+
+pub found-base : (w : List ℕ) {b : ℕ} → base_found w ≡ Ok b → Base w b
+unfolding base_found at
+found-base w {b} e = by (has_monitors w) refl e
+  where
+    by : (x : Bool) → has_monitors w ≡ x → cond x (Ok (place (count_in w))) (Err reason.Table) ≡ Ok b → Base w b
+    by true has h =
+        let size = whole-size w has in
+        let is : b ≡ place (count_in w) = sym (ap at h) in
+        record { has = has; is = is; most = omega (arith, size, is) }
+    by false none h = absurd (false≢true (ap is_ok h))
+
+pub found-none : (w : List ℕ) {r : Reason} → base_found w ≡ Err r → (has_monitors w ≡ false) × (r ≡ reason.Table)
+unfolding base_found why
+found-none w {r} e = by (has_monitors w) refl e
+  where
+    by : (x : Bool) → has_monitors w ≡ x → cond x (Ok (place (count_in w))) (Err reason.Table) ≡ Err r → (has_monitors w ≡ false) × (r ≡ reason.Table)
+    by true has h = absurd (true≢false (ap is_ok h))
+    by false none h = (none, sym (ap why h))
 
 -- the count is the front's
 pub front-count : (u v : List ℕ) → 1 ≤ length u → count_in (u ++ v) ≡ count_in u
@@ -69,6 +104,19 @@ module _ (c : Call) (w : List ℕ) where
   pub roomless-out : has_room c w ≡ false → MeetsOut c w (Err reason.Table) w (buffer_of c)
   unfolding whole_answer whole_after whole_outgoing
   roomless-out e = (rw e, rw e, rw e)
+
+  -- answer 1 goes up by `?`
+  pub unfound : {r : Reason} (a : Answer) → has_room c w ≡ has_monitors w → base_found w ≡ Err r → IsErrAnd a (λ s. s ≡ r) → Meets c w a w
+  unfound a plain e up =
+      let none = found-none w e in
+      let lost = roomless (plain ∙ none.0) in
+      (passed-up a up ∙ ap Err none.1 ∙ lost.0, lost.1)
+
+  pub unfound-out : {r : Reason} (a : Answer) → has_room c w ≡ has_monitors w → base_found w ≡ Err r → IsErrAnd a (λ s. s ≡ r) → MeetsOut c w a w (buffer_of c)
+  unfound-out a plain e up =
+      let none = found-none w e in
+      let lost = roomless-out (plain ∙ none.0) in
+      (passed-up a up ∙ ap Err none.1 ∙ lost.0, lost.1, lost.2)
 
   pub roomy : (a : Answer) (u : List ℕ) → has_room c w ≡ true → a ≡ answer c (base_for c w)
       → u ≡ watched_if (settles c (base_for c w) a) (stage_of c) (after c (base_for c w) ++ rest_for c w) → Meets c w a u
@@ -117,9 +165,7 @@ rejoined c s w has b is u same left =
 
 -- whether there is such a port does not matter to a call that is refused then
 pub same-settles : (a : Answer) (r s : Bool) → (accepted a ≡ true → r ≡ s) → accepted a && not r ≡ accepted a && not s
-same-settles (Ok Done) r s f = ap not (f refl)
-same-settles (Ok Lacpdu) r s f = ap not (f refl)
-same-settles (Ok Marker) r s f = ap not (f refl)
+same-settles (Ok a) r s f = ap not (f refl)
 same-settles (Err x) r s f = refl
 
 -- an accepted call on a port has one
@@ -223,9 +269,7 @@ record_parts n w e = rw e (by (answer (report n) (take (place (count_in w)) w)) 
     by : (a : Answer) → answer (report n) (take (place (count_in w)) w) ≡ a
         → unless a (replicate whole_record_size 0) (encoded (port_report n (take (place (count_in w)) w)) ++ group_at w (n - 1))
         ≡ encoded (port_report n (take (place (count_in w)) w)) ++ unless a (replicate group_size 0) (group_at w (n - 1))
-    by (Ok Done) f = refl
-    by (Ok Lacpdu) f = refl
-    by (Ok Marker) f = refl
+    by (Ok a) f = refl
     by (Err r) f =
         let none = refused-port (take (place (count_in w)) w) n r f in
         sym (ap (λ (p : Port). encoded p ++ replicate group_size 0) none ∙ ap (λ (l : List ℕ). l ++ replicate group_size 0) absent_zeros)
@@ -281,13 +325,9 @@ group-there n w has e =
     (h.0, rw (base-count w) at h.1)
 
 pub given_back : {A : Type 0} (x y : A) (a : Answer) → accepted a ≡ true → unless a x y ≡ y
-given_back x y (Ok Done) e = refl
-given_back x y (Ok Lacpdu) e = refl
-given_back x y (Ok Marker) e = refl
+given_back x y (Ok a) e = refl
 given_back x y (Err r) e = absurd (false≢true e)
 
 pub taken_back : {A : Type 0} (x y : A) (a : Answer) → accepted a ≡ false → unless a x y ≡ x
-taken_back x y (Ok Done) e = absurd (false≢true (sym e))
-taken_back x y (Ok Lacpdu) e = absurd (false≢true (sym e))
-taken_back x y (Ok Marker) e = absurd (false≢true (sym e))
+taken_back x y (Ok a) e = absurd (false≢true (sym e))
 taken_back x y (Err r) e = refl

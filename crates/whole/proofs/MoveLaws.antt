@@ -85,18 +85,9 @@ module _ (w u : List ℕ) (goes : goes_back w u ≡ true) where
       (rw goes, e ∙ ap (λ (x : List ℕ). put_at 0 x u) front ∙ sym (over-put (base_of w) u) ∙ over-all (base_of w) u (omega (arith, l, back-size)) ∙ rw goes)
 
 -- the test, by the front that it looked at
-module _ (w u : List ℕ) (b : ℕ) (is : b ≡ place (count_in w)) where
-  pub back_no_table : table_in_range (take b w) ≡ false → goes_back w u ≡ false
-  unfolding base_of
-  back_no_table e = by (has_monitors w) (ap (λ (n : ℕ). table_in_range (take n w)) (sym is) ∙ e)
-    where
-      by : (x : Bool) → table_in_range (take (place (count_in w)) w) ≡ false → (x && table_in_range (take (place (count_in w)) w)) && eqb (length u) (place (count_in w)) ≡ false
-      by true f = rw f
-      by false f = refl
-
-  pub back-by-size : has_monitors w ≡ true → table_in_range (take b w) ≡ true → goes_back w u ≡ eqb (length u) b
-  unfolding base_of
-  back-by-size has e = rw (has, ap (λ (n : ℕ). table_in_range (take n w)) (sym is) ∙ e) (ap (λ (n : ℕ). eqb (length u) n) (sym is))
+pub back-is : (w u : List ℕ) (b : ℕ) → b ≡ place (count_in w) → has_monitors w ≡ true → goes_back w u ≡ (table_in_range (take b w) && eqb (length u) b)
+unfolding base_of
+back-is w u b is has = rw has (ap (λ (n : ℕ). table_in_range (take n w) && eqb (length u) n) (sym is))
 
 -- ---- a table moved forward
 

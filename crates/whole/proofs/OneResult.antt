@@ -4,6 +4,9 @@ use Prim.Native.Nat.{ℕ}
 use mathlib.Core.Path.{◌≡◌, sym, ◌∙◌}
 use mathlib.Core.List.{List}
 use Rattle.control.specs.Answer.{Answer}
+use Rattle.std.specs.Prelude.{Result}
+use Rattle.report.specs.declared.Sets.{Sets}
+use Rattle.control.specs.declared.answer.Reason.{Reason}
 use Rattle.control.specs.Call.{Call}
 use Rattle.whole.specs.Meets.{Meets, MeetsOut, MeetsPort}
 use Rattle.whole.specs.Moves.{MeetsForward, MeetsBack}
@@ -24,10 +27,10 @@ module _ (c : Call) (w : List ℕ) (a b : Answer) (u v : List ℕ) where
 pub one-port_report : (n : ℕ) (w m : List ℕ) (a b : Answer) (r s : List ℕ) → MeetsPort n w m a r → MeetsPort n w m b s → (a ≡ b) × (r ≡ s)
 one-port_report n w m a b r s x y = (same x.0 y.0, same x.1 y.1)
 
-pub one-aggregator_report : (k : ℕ) (w : List ℕ) (r s : AggregatorReport) → r ≡ whole_aggregator k w → s ≡ whole_aggregator k w → r ≡ s
+pub one-aggregator_report : (k : ℕ) (w : List ℕ) (r s : Result Sets Reason) → r ≡ whole_aggregator k w → s ≡ whole_aggregator k w → r ≡ s
 one-aggregator_report k w r s x y = same x y
 
-pub one-due_report : (w : List ℕ) (r s : DueReport) → r ≡ whole_due w → s ≡ whole_due w → r ≡ s
+pub one-due_report : (w : List ℕ) (r s : Result ℕ Reason) → r ≡ whole_due w → s ≡ whole_due w → r ≡ s
 one-due_report w r s x y = same x y
 
 -- the moves: answer and target

@@ -2,7 +2,7 @@
 // the churn detection machines then run.
 #![tactic(auto)]
 
-ghost use Rattle.std.specs.Prelude.{◌≡◌, ◌-◌, true, length};
+ghost use Rattle.std.specs.Prelude.{◌≡◌, ◌-◌, ◌≤◌, true, length, IfOk};
 ghost use Rattle.machine.specs.States.{same_line};
 ghost use Rattle.settings.specs.Settings.{same_settings};
 ghost use Rattle.table.specs.Layout.{place};
@@ -17,7 +17,7 @@ ghost use Rattle.whole.specs.Report.{whole_aggregator, whole_due, whole_publishe
 
 use churn::Stage;
 use churn::group::GROUP;
-use control::answer::{Accepted, Answer, Reason};
+use control::answer::{Accepted, Answer, Reason, is_lacpdu};
 use frame::block::SystemId;
 use frame::wire::TensOfMicroseconds;
 use machine::states::Line;
@@ -30,7 +30,7 @@ pub const WHOLE_RECORD: usize = 71;
 
 // Answer 1, or the octets of the table without its monitors.
 fn base_size(table: &[u8]) -> Result<usize, Reason>
-    ensures { result ≡ base_found table.now }
+    ensures { (result ≡ base_found table.now) × IfOk result (λ b. b ≤ length table.now) }
 {
     if !churn::has_monitors(table) {
         return Err(Reason::Table);
@@ -64,7 +64,7 @@ pub fn receive(table: &mut [u8], n: u32, frame: &[u8], out: &mut [u8]) -> Answer
 {
     let b = base_size(table)?;
     let a = control::receive(&mut table[..b], n, frame, out);
-    watch_if(table, a == Ok(Accepted::Lacpdu), Stage::Other);
+    watch_if(table, is_lacpdu(a), Stage::Other);
     a
 }
 

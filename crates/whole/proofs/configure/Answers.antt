@@ -12,46 +12,45 @@ use Rattle.table.specs.Table.{port_at}
 use Rattle.control.specs.declared.answer.Accepted.TheVariants.{Done}
 use Rattle.control.specs.Accepted.{accepted}
 use Rattle.control.specs.After.{answer}
-use Rattle.whole.proofs.CallLaws.{roomless, finished, rejoined, base-whole, same-settles, accepted-number}
+use Rattle.whole.proofs.CallLaws.{unfound, found-base, finished, rejoined, base-whole, same-settles, accepted-number}
 use borrow.Author.Rules.{rules}
 use Rattle.whole.proofs.configure.Goals as goal
 
-pub returns-then-not-has_monitors : goal.returns-then-not-has_monitors
-returns-then-not-has_monitors c =
-    let a = c.args in
-    roomless (call.configure a.n a.settings) a.table.now (sym c.has_monitors.ensures ∙ c.if-not-has_monitors.true)
-
-pub base_size-b-requires : goal.base_size-b-requires
-base_size-b-requires c = sym c.has_monitors.ensures ∙ c.if-not-has_monitors.false
+pub returns-in_err-b : goal.returns-in_err-b
+returns-in_err-b c = unfound (call.configure c.args.n c.args.settings) c.args.table.now c.from_residual.result refl (sym c.base_size.ensures.0 ∙ c.in_err-b.was) c.from_residual.ensures.1
 
 pub slice_bounds-has_settings-end-2 : goal.slice_bounds-has_settings-end-2
-slice_bounds-has_settings-end-2 c = sym (length-take-le c.base_size-b.result c.args.table.now c.base_size-b.ensures.1)
+slice_bounds-has_settings-end-2 c =
+    let base = found-base c.args.table.now (sym c.base_size.ensures.0 ∙ c.in_ok-b.was) in
+    sym (length-take-le c.in_ok-b.b c.args.table.now base.most)
 
 pub has_settings-same-requires : goal.has_settings-same-requires
 has_settings-same-requires c =
+    let base = found-base c.args.table.now (sym c.base_size.ensures.0 ∙ c.in_ok-b.was) in
     let t = c.args.table.now in
-    let base = c.base_size-b.ensures in
-    base-whole t c.base_size-b.result base.0 base.1
+    base-whole t c.in_ok-b.b base.is base.most
 
 pub slice_bounds-configure-end-2 : goal.slice_bounds-configure-end-2
-slice_bounds-configure-end-2 c = sym (length-take-le c.base_size-b.result c.args.table.now c.base_size-b.ensures.1)
+slice_bounds-configure-end-2 c =
+    let base = found-base c.args.table.now (sym c.base_size.ensures.0 ∙ c.in_ok-b.was) in
+    sym (length-take-le c.in_ok-b.b c.args.table.now base.most)
 
 pub watch_if-requires : goal.watch_if-requires
 watch_if-requires c e =
+    let base = found-base c.args.table.now (sym c.base_size.ensures.0 ∙ c.in_ok-b.was) in
     let a = c.args in
-    let has = sym c.has_monitors.ensures ∙ c.if-not-has_monitors.false in
-    let same : length c.configure-a.new.table ≡ length (take c.base_size-b.result a.table.now) = search rules in
-    rejoined (call.configure a.n a.settings) refl a.table.now has c.base_size-b.result c.base_size-b.ensures.0 c.configure-a.new.table same c.configure-a.ensures.1
+    let same : length c.configure-a.new.table ≡ length (take c.in_ok-b.b a.table.now) = search rules in
+    rejoined (call.configure a.n a.settings) refl a.table.now base.has c.in_ok-b.b base.is c.configure-a.new.table same c.configure-a.ensures.1
 
 pub returns : goal.returns
 unfolding answer
 returns c =
+    let base = found-base c.args.table.now (sym c.base_size.ensures.0 ∙ c.in_ok-b.was) in
     let a = c.args in
     let w = a.table.now in
-    let has = sym c.has_monitors.ensures ∙ c.if-not-has_monitors.false in
     let told = c.configure-a.ensures in
-    let n = c.base_size-b.result in
-    let is = c.base_size-b.ensures.0 in
+    let n = c.in_ok-b.b in
+    let is = base.is in
     let same = c.has_settings-same.ensures in
-    let ran = ap (λ (x : Bool). x && not c.has_settings-same.result) c.is_accepted.ensures ∙ same-settles c.configure-a.result _ _ (λ e. same (accepted-number (take n w) a.n (with_default a.settings (Ok Done)) (ap accepted (sym told.0) ∙ e)) ∙ ap (λ (k : ℕ). same_settings a.settings (port_at (take k w) (a.n - 1))) is) in
-    finished (call.configure a.n a.settings) w n is _ _ _ _ has told.0 told.1 ran c.watch_if.ensures
+    let ran = ap (λ (x : Bool). x && not c.has_settings-same.result) c.is_ok.ensures.value ∙ same-settles c.configure-a.result _ _ (λ e. same (accepted-number (take n w) a.n (with_default a.settings (Ok Done)) (ap accepted (sym told.0) ∙ e)) ∙ ap (λ (k : ℕ). same_settings a.settings (port_at (take k w) (a.n - 1))) is) in
+    finished (call.configure a.n a.settings) w n is _ _ _ _ base.has told.0 told.1 ran c.watch_if.ensures

@@ -3,23 +3,20 @@ use mathlib.Core.Path.{refl, sym, ◌∙◌}
 use lib.Seq.{length-take-le}
 use Rattle.control.specs.Call as call
 use mathlib.Core.Bool.{false}
-use Rattle.whole.proofs.CallLaws.{roomless-out, finished-out}
+use Rattle.whole.proofs.CallLaws.{unfound-out, found-base, finished-out}
 use Rattle.whole.proofs.fetch.Goals as goal
 
-pub returns-then-not-has_monitors : goal.returns-then-not-has_monitors
-returns-then-not-has_monitors c =
-    let a = c.args in
-    roomless-out (call.fetch a.n a.out.now) a.table.now (sym c.has_monitors.ensures ∙ c.if-not-has_monitors.true)
-
-pub base_size-b-requires : goal.base_size-b-requires
-base_size-b-requires c = sym c.has_monitors.ensures ∙ c.if-not-has_monitors.false
+pub returns-in_err-b : goal.returns-in_err-b
+returns-in_err-b c = unfound-out (call.fetch c.args.n c.args.out.now) c.args.table.now c.from_residual.result refl (sym c.base_size.ensures.0 ∙ c.in_err-b.was) c.from_residual.ensures.1
 
 pub slice_bounds-fetch-end-2 : goal.slice_bounds-fetch-end-2
-slice_bounds-fetch-end-2 c = sym (length-take-le c.base_size-b.result c.args.table.now c.base_size-b.ensures.1)
+slice_bounds-fetch-end-2 c =
+    let base = found-base c.args.table.now (sym c.base_size.ensures.0 ∙ c.in_ok-b.was) in
+    sym (length-take-le c.in_ok-b.b c.args.table.now base.most)
 
 pub returns : goal.returns
 returns c =
+    let base = found-base c.args.table.now (sym c.base_size.ensures.0 ∙ c.in_ok-b.was) in
     let a = c.args in
-    let has = sym c.has_monitors.ensures ∙ c.if-not-has_monitors.false in
     let told = c.fetch.ensures in
-    finished-out (call.fetch a.n a.out.now) a.table.now c.base_size-b.result c.base_size-b.ensures.0 _ _ _ _ false has told.0 told.1 told.2 refl refl
+    finished-out (call.fetch a.n a.out.now) a.table.now c.in_ok-b.b base.is _ _ _ _ false base.has told.0 told.1 told.2 refl refl

@@ -1,28 +1,23 @@
--- `goes_back_lem` meets its contract: each way out has the tests that led there. Assumes nothing.
-use mathlib.Core.Path.{sym, ◌∙◌}
+-- `goes_back` meets its contract: each way out has the tests that led there. Assumes nothing.
+use mathlib.Core.Path.{sym, ap, ◌∙◌}
+use mathlib.Core.Bool.{Bool, ◌&&◌}
+use lib.Dec.{eqb}
+use lib.ListN.{length}
 use lib.Seq.{length-take-le}
-use Rattle.whole.proofs.MoveLaws.{back_no_table, back-by-size}
+use Rattle.whole.proofs.CallLaws.{found-base, found-none}
+use Rattle.whole.proofs.MoveLaws.{back-is}
 use Rattle.whole.proofs.goes_back.Goals as goal
 
-pub returns-then-not-has_monitors : goal.returns-then-not-has_monitors
-returns-then-not-has_monitors c = rw (sym c.has_monitors.ensures ∙ c.if-not-has_monitors.true)
-
-pub base_size-b-requires : goal.base_size-b-requires
-base_size-b-requires c = sym c.has_monitors.ensures ∙ c.if-not-has_monitors.false
+pub returns-in-Err : goal.returns-in-Err
+returns-in-Err c = rw (found-none c.args.new.now (sym c.base_size.ensures.0 ∙ c.in-Err.is)).0
 
 pub slice_bounds-is_table-end : goal.slice_bounds-is_table-end
 slice_bounds-is_table-end c =
-    sym (length-take-le c.base_size-b.result c.args.new.now c.base_size-b.ensures.1)
+    let base = found-base c.args.new.now (sym c.base_size.ensures.0 ∙ c.in-Ok.is) in
+    sym (length-take-le c.in-Ok.b c.args.new.now base.most)
 
-pub returns-then-not-is_table : goal.returns-then-not-is_table
-returns-then-not-is_table c =
+pub returns-in-Ok : goal.returns-in-Ok
+returns-in-Ok c =
     let a = c.args in
-    sym (back_no_table a.new.now a.old.now c.base_size-b.result c.base_size-b.ensures.0
-    (sym c.is_table.ensures ∙ c.if-not-is_table.true))
-
-pub returns : goal.returns
-returns c =
-    let a = c.args in
-    sym (back-by-size a.new.now a.old.now c.base_size-b.result c.base_size-b.ensures.0
-    (sym c.has_monitors.ensures ∙ c.if-not-has_monitors.false)
-    (sym c.is_table.ensures ∙ c.if-not-is_table.false))
+    let base = found-base a.new.now (sym c.base_size.ensures.0 ∙ c.in-Ok.is) in
+    ap (λ (x : Bool). x && eqb (length a.old.now) c.in-Ok.b) c.is_table.ensures ∙ sym (back-is a.new.now a.old.now c.in-Ok.b base.is base.has)

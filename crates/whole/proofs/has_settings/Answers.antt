@@ -6,18 +6,6 @@ use Rattle.table.specs.Table.{count_in, decoded_at}
 use Rattle.table.proofs.StoreLaws.{port-decoded}
 use Rattle.whole.proofs.has_settings.Goals as goal
 
-pub returns-then-n-lt1 : goal.returns-then-n-lt1
-returns-then-n-lt1 c e =
-    let h = within-true 1 c.args.n (count_in c.args.table.now) e in
-    let some = h.0 in
-    absurd (omega (arith, c.if-n-lt1.true, some))
-
-pub returns-then-count-n : goal.returns-then-count-n
-returns-then-count-n c e =
-    let h = within-true 1 c.args.n (count_in c.args.table.now) e in
-    let most = h.1 in
-    absurd (omega (arith, c.if-count-n.true, most))
-
 pub returns : goal.returns
 unfolding decoded_at
 returns c e =

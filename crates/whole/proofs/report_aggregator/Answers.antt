@@ -6,20 +6,25 @@ use lib.Seq.{length-take-le}
 use Rattle.churn.specs.Whole.{base_of}
 use Rattle.control.specs.Report.{aggregator_report}
 use Rattle.whole.specs.Report.{whole_aggregator}
+use Rattle.std.specs.Prelude.{Err}
+use Rattle.control.proofs.CallLaws.{passed-up}
+use Rattle.whole.proofs.CallLaws.{found-base, found-none}
 use Rattle.whole.proofs.report_aggregator.Goals as goal
 
-pub returns-then-not-has_monitors : goal.returns-then-not-has_monitors
+pub returns-in_err-b : goal.returns-in_err-b
 unfolding whole_aggregator
-returns-then-not-has_monitors c = rw (sym c.has_monitors.ensures ∙ c.if-not-has_monitors.true, c.no_sets.ensures)
-
-pub base_size-b-requires : goal.base_size-b-requires
-base_size-b-requires c = sym c.has_monitors.ensures ∙ c.if-not-has_monitors.false
+returns-in_err-b c =
+    let none = found-none c.args.table.now (sym c.base_size.ensures.0 ∙ c.in_err-b.was) in
+    rw (none.0, passed-up _ c.from_residual.ensures.1) (ap Err none.1)
 
 pub slice_bounds-report_aggregator-end : goal.slice_bounds-report_aggregator-end
-slice_bounds-report_aggregator-end c = sym (length-take-le c.base_size-b.result c.args.table.now c.base_size-b.ensures.1)
+slice_bounds-report_aggregator-end c =
+    let base = found-base c.args.table.now (sym c.base_size.ensures.0 ∙ c.in_ok-b.was) in
+    sym (length-take-le c.in_ok-b.b c.args.table.now base.most)
 
 pub returns : goal.returns
 unfolding whole_aggregator base_of
 returns c =
+    let base = found-base c.args.table.now (sym c.base_size.ensures.0 ∙ c.in_ok-b.was) in
     let a = c.args in
-    rw (sym c.has_monitors.ensures ∙ c.if-not-has_monitors.false) (c.report_aggregator.ensures ∙ ap (λ (k : ℕ). aggregator_report a.n (take k a.table.now)) c.base_size-b.ensures.0)
+    rw base.has (c.report_aggregator.ensures ∙ ap (λ (k : ℕ). aggregator_report a.n (take k a.table.now)) base.is)

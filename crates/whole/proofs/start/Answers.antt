@@ -35,11 +35,11 @@ watch_if-requires c e =
     let same : length c.start-a.new.table ≡ length (take c.place_of-b.result a.table.now) = search rules in
     let told = c.start-a.ensures in
     restarted a.count a.system a.delay a.settings a.table.now has c.place_of-b.result c.place_of-b.ensures c.start-a.new.table same told.1
-    (ap accepted (sym told.0) ∙ sym c.is_accepted.ensures ∙ e)
+    (ap accepted (sym told.0) ∙ sym c.is_ok.ensures.value ∙ e)
 
 pub returns : goal.returns
 returns c =
     let a = c.args in
     let has = sym c.is_room.ensures ∙ c.if-not-is_room.false in
     let told = c.start-a.ensures in
-    finished (call.start a.count a.system a.delay a.settings) a.table.now c.place_of-b.result c.place_of-b.ensures _ _ _ _ has told.0 told.1 c.is_accepted.ensures c.watch_if.ensures
+    finished (call.start a.count a.system a.delay a.settings) a.table.now c.place_of-b.result c.place_of-b.ensures _ _ _ _ has told.0 told.1 c.is_ok.ensures.value c.watch_if.ensures

@@ -3,29 +3,26 @@ use mathlib.Core.Path.{◌≡◌, refl, sym, ◌∙◌}
 use lib.ListN.{length, take}
 use lib.Seq.{length-take-le}
 use Rattle.control.specs.Call as call
-use Rattle.whole.proofs.CallLaws.{roomless, finished, rejoined}
+use Rattle.whole.proofs.CallLaws.{unfound, found-base, finished, rejoined}
 use borrow.Author.Rules.{rules}
 use Rattle.whole.proofs.tick.Goals as goal
 
-pub returns-then-not-has_monitors : goal.returns-then-not-has_monitors
-returns-then-not-has_monitors c =
-    let t = c.args.table.now in
-    roomless call.tick t (sym c.has_monitors.ensures ∙ c.if-not-has_monitors.true)
-
-pub base_size-b-requires : goal.base_size-b-requires
-base_size-b-requires c = sym c.has_monitors.ensures ∙ c.if-not-has_monitors.false
+pub returns-in_err-b : goal.returns-in_err-b
+returns-in_err-b c = unfound call.tick c.args.table.now c.from_residual.result refl (sym c.base_size.ensures.0 ∙ c.in_err-b.was) c.from_residual.ensures.1
 
 pub slice_bounds-tick-end-2 : goal.slice_bounds-tick-end-2
-slice_bounds-tick-end-2 c = sym (length-take-le c.base_size-b.result c.args.table.now c.base_size-b.ensures.1)
+slice_bounds-tick-end-2 c =
+    let base = found-base c.args.table.now (sym c.base_size.ensures.0 ∙ c.in_ok-b.was) in
+    sym (length-take-le c.in_ok-b.b c.args.table.now base.most)
 
 pub watch_if-requires : goal.watch_if-requires
 watch_if-requires c e =
-    let has = sym c.has_monitors.ensures ∙ c.if-not-has_monitors.false in
+    let base = found-base c.args.table.now (sym c.base_size.ensures.0 ∙ c.in_ok-b.was) in
     let w = c.args.table.now in
-    let same : length c.tick-a.new.table ≡ length (take c.base_size-b.result w) = search rules in
-    rejoined call.tick refl w has c.base_size-b.result c.base_size-b.ensures.0 c.tick-a.new.table same c.tick-a.ensures.1
+    let same : length c.tick-a.new.table ≡ length (take c.in_ok-b.b w) = search rules in
+    rejoined call.tick refl w base.has c.in_ok-b.b base.is c.tick-a.new.table same c.tick-a.ensures.1
 
 pub returns : goal.returns
 returns c =
-    let has = sym c.has_monitors.ensures ∙ c.if-not-has_monitors.false in
-    finished call.tick c.args.table.now _ c.base_size-b.ensures.0 _ _ _ _ has c.tick-a.ensures.0 c.tick-a.ensures.1 c.is_accepted.ensures c.watch_if.ensures
+    let base = found-base c.args.table.now (sym c.base_size.ensures.0 ∙ c.in_ok-b.was) in
+    finished call.tick c.args.table.now _ base.is _ _ _ _ base.has c.tick-a.ensures.0 c.tick-a.ensures.1 c.is_ok.ensures.value c.watch_if.ensures
