@@ -1,9 +1,9 @@
 -- What the wrappers rest on: memory is a front and the groups behind it, a call below leaves the front's size, and so what is put together again is what the definitions
 -- say. Assumes nothing.
-use Rattle.std.specs.Prelude.{Ok, Err}
-use Prim.Native.Nat.{ℕ, ◌-◌, ◌≤◌}
-use mathlib.Core.Path.{◌≡◌, sym, ap, ◌∙◌}
-use mathlib.Core.Bool.{true, false, cond}
+use Rattle.std.specs.Prelude.{Result, Ok, Err, is_ok, IsErrAnd}
+use Prim.Native.Nat.{ℕ, ◌+◌, ◌-◌, ◌*◌, ◌≤◌}
+use mathlib.Core.Path.{◌≡◌, refl, sym, ap, ◌∙◌}
+use mathlib.Core.Bool.{Bool, true, false, cond, false≢true, true≢false}
 use mathlib.Core.List.{List, ◌++◌}
 use native.Mathlib.Omega.{arith}
 use lib.ListN.{length, take, drop, length-append, length-drop}
@@ -15,16 +15,19 @@ use Rattle.octets.specs.Octets.{within}
 use Rattle.octets.proofs.RangeLaws.{both, within-true}
 use Rattle.table.specs.Layout.{most_ports}
 use Rattle.table.specs.Table.{count_in}
+use Rattle.asks.specs.Group.{group_size}
 use Rattle.asks.specs.Groups.{groups_in_range}
 use Rattle.control.specs.Answer.{Answer}
 use Rattle.control.specs.declared.answer.Accepted.TheVariants.{Done}
+use Rattle.control.specs.declared.answer.Reason.{Reason}
 use Rattle.control.specs.declared.answer.Reason.TheVariants as reason
 use Rattle.control.specs.Call.{Call}
 use Rattle.control.specs.After.{buffer_of}
+use Rattle.control.proofs.CallLaws.{passed-up}
 use Rattle.whole.specs.Calls.{count_for}
 use Rattle.whole.proofs.CallLaws.{back_as}
 use Rattle.asked.specs.Layer.{Layer, new_layer}
-use Rattle.asked.specs.Asked.{asked_size, is_asked_room, groups_of, has_asks}
+use Rattle.asked.specs.Asked.{asked_size, is_asked_room, groups_of, has_asks, front_found}
 use Rattle.asked.specs.Calls.{room_for, is_ours, groups_after, asked_answer, asked_after, asked_outgoing}
 use Rattle.asked.specs.Meets.{Meets, MeetsOut}
 
@@ -33,6 +36,41 @@ use Rattle.asked.specs.Meets.{Meets, MeetsOut}
 pub asked-size : (L : Layer) (m : List ℕ) → has_asks L m ≡ true → length m ≡ asked_size L (count_in m)
 unfolding has_asks
 asked-size L m e = eqb-true (length m) (asked_size L (count_in m)) (both (eqb (length m) (asked_size L (count_in m))) (groups_in_range (count_in m) (groups_of L m)) e).0
+
+-- ---- what the first test finds: the octets of the front, or answer 1
+
+pub record Front (L : Layer) (m : List ℕ) (f : ℕ) : Type 0 where
+  pub has : has_asks L m ≡ true
+  pub is : f ≡ L.size (count_in m)
+  pub size : length m ≡ f + group_size * count_in m
+  pub most : f ≤ length m
+
+at : Result ℕ Reason → ℕ
+at (Ok f) = f
+at (Err r) = 0
+
+why : Result ℕ Reason → Reason
+why (Ok f) = reason.Table
+why (Err r) = r
+
+pub found-front : (L : Layer) (m : List ℕ) {f : ℕ} → front_found L m ≡ Ok f → Front L m f
+unfolding front_found at
+found-front L m {f} e = by (has_asks L m) refl e
+  where
+    by : (x : Bool) → has_asks L m ≡ x → cond x (Ok (L.size (count_in m))) (Err reason.Table) ≡ Ok f → Front L m f
+    by true has h =
+        let long = asked-size L m has in
+        let is : f ≡ L.size (count_in m) = sym (ap at h) in
+        record { has = has; is = is; size = omega (arith, long, is); most = omega (arith, long, is) }
+    by false none h = absurd (false≢true (ap is_ok h))
+
+pub found-none : (L : Layer) (m : List ℕ) {r : Reason} → front_found L m ≡ Err r → (has_asks L m ≡ false) × (r ≡ reason.Table)
+unfolding front_found why
+found-none L m {r} e = by (has_asks L m) refl e
+  where
+    by : (x : Bool) → has_asks L m ≡ x → cond x (Ok (L.size (count_in m))) (Err reason.Table) ≡ Err r → (has_asks L m ≡ false) × (r ≡ reason.Table)
+    by true has h = absurd (true≢false (ap is_ok h))
+    by false none h = (none, sym (ap why h))
 
 pub room-size : (L : Layer) (m : List ℕ) (count : ℕ) → is_asked_room L m count ≡ true → length m ≡ asked_size L count
 room-size L m count e = eqb-true (length m) (asked_size L count) (both (within 1 count most_ports) (eqb (length m) (asked_size L count)) e).1
@@ -68,6 +106,20 @@ module _ (c : Call) (m : List ℕ) where
   pub roomless-out : room_for new_layer c m ≡ false → MeetsOut c m (Err reason.Table) m (buffer_of c)
   unfolding asked_answer asked_after asked_outgoing
   roomless-out e = (rw e, rw e, rw e)
+
+  -- answer 1 goes up by `?`
+  pub unfound : {r : Reason} (a : Answer) → room_for new_layer c m ≡ has_asks new_layer m → front_found new_layer m ≡ Err r → IsErrAnd a (λ s. s ≡ r) → Meets c m a m
+  unfound a plain e up =
+      let none = found-none new_layer m e in
+      let lost = roomless (plain ∙ none.0) in
+      (passed-up a up ∙ ap Err none.1 ∙ lost.0, lost.1)
+
+  pub unfound-out : {r : Reason} (a : Answer) → room_for new_layer c m ≡ has_asks new_layer m → front_found new_layer m ≡ Err r → IsErrAnd a (λ s. s ≡ r)
+      → MeetsOut c m a m (buffer_of c)
+  unfound-out a plain e up =
+      let none = found-none new_layer m e in
+      let lost = roomless-out (plain ∙ none.0) in
+      (passed-up a up ∙ ap Err none.1 ∙ lost.0, lost.1, lost.2)
 
   -- what a wrapper has in hand: the call below on the first f octets, and the groups then
   module _ (f : ℕ) (is : f ≡ new_layer.size (count_for c m)) (room : room_for new_layer c m ≡ true) where

@@ -10,10 +10,9 @@ use lib.Seq.{get_or-take, take-take}
 use lib.Dec.{eqb, ltb}
 use borrow.Author.Tests.{eq-eqb}
 use Rattle.octets.proofs.RangeLaws.{within-true}
-use Rattle.frame.specs.declared.class.Class.{Class}
-use Rattle.frame.specs.declared.class.Class.TheVariants as class
+use Rattle.frame.specs.declared.class.Kind.TheVariants as kind
 use Rattle.frame.specs.declared.class.Refusal.TheVariants as refusal
-use Rattle.frame.specs.Class.{class_of, frame_size}
+use Rattle.frame.specs.Class.{Class, class_of, frame_size}
 use Rattle.frame.proofs.ClassLaws.{passes, passed-whole}
 use Rattle.machine.specs.declared.states.Line.{Line}
 use Rattle.machine.specs.declared.states.Mux.{Mux}
@@ -22,7 +21,7 @@ use Rattle.table.specs.Layout.{place}
 use Rattle.table.specs.Table.{count_in, port_at, ours, table_in_range}
 use Rattle.churn.specs.Whole.{whole_size, base_of}
 use Rattle.asks.specs.Groups.{ask_at}
-use Rattle.control.specs.declared.answer.Accepted.TheVariants.{Done, Lacpdu, Marker}
+use Rattle.control.specs.declared.answer.Accepted.TheVariants.{Done}
 use Rattle.control.specs.declared.answer.Reason.TheVariants as reason
 use Rattle.control.specs.Accepted.{accepted}
 use Rattle.control.specs.Answer.{Answer, answer_number, is_number, frame_answer}
@@ -83,12 +82,12 @@ pub record Responds (t : List ℕ) (n : ℕ) (frame : List ℕ) : Type 0 where
   pub long : frame_size ≤ length frame
 
 response-passes : (k : Class) (l : Line) (x : Mux) → answer_number (frame_answer k l x) ≡ 12 → passes k ≡ true
-response-passes class.Lacpdu l x e = refl
-response-passes class.Marker l x e = refl
-response-passes class.Response l x e = refl
-response-passes (class.Refused refusal.Foreign) l x e = absurd (omega (arith, e))
-response-passes (class.Refused refusal.Unknown) l x e = absurd (omega (arith, e))
-response-passes (class.Refused refusal.Illegal) l x e = absurd (omega (arith, e))
+response-passes (Ok kind.Lacpdu) l x e = refl
+response-passes (Ok kind.Marker) l x e = refl
+response-passes (Ok kind.Response) l x e = refl
+response-passes (Err refusal.Foreign) l x e = absurd (omega (arith, e))
+response-passes (Err refusal.Unknown) l x e = absurd (omega (arith, e))
+response-passes (Err refusal.Illegal) l x e = absurd (omega (arith, e))
 
 pub response-below : (n : ℕ) (frame out t : List ℕ) → answer_number (answer (receive n frame out) t) ≡ 12 → Responds t n frame
 unfolding answer
@@ -124,9 +123,7 @@ module _ (n : ℕ) (frame out m : List ℕ) (f b : ℕ) (isf : f ≡ whole_size 
   response-leaves e = by (whole_answer (receive n frame out) (take f m)) refl e
     where
       by : (a : Answer) → whole_answer (receive n frame out) (take f m) ≡ a → answer_number a ≡ 12 → whole_after (receive n frame out) (take f m) ≡ take f m
-      by (Ok Done) g h = absurd (omega (arith, h))
-      by (Ok Lacpdu) g h = absurd (omega (arith, h))
-      by (Ok Marker) g h = absurd (omega (arith, h))
+      by (Ok a) g h = absurd (omega (arith, h))
       by (Err r) g h = (whole-refused (receive n frame out) (take f m) r g).0
 
   -- whether it is ours, by the number alone, and then by the request

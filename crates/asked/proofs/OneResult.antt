@@ -5,7 +5,10 @@ use mathlib.Core.Path.{◌≡◌, sym, ◌∙◌}
 use mathlib.Core.List.{List}
 use Rattle.control.specs.Answer.{Answer}
 use Rattle.control.specs.Call.{Call}
-use Rattle.asked.specs.declared.said.Said.{Said}
+use Rattle.std.specs.Prelude.{Result}
+use Rattle.report.specs.declared.Sets.{Sets}
+use Rattle.control.specs.declared.answer.Reason.{Reason}
+use Rattle.asked.specs.Ask.{Said}
 use Rattle.asked.specs.Meets.{Meets, MeetsOut, MeetsAsk, MeetsPort, MeetsNumber, MeetsNumberOut, MeetsFrame, MeetsAskNumber, MeetsRecord, MeetsAggregator, MeetsDue}
 use Rattle.asked.specs.Moves.{MeetsForward, MeetsBack, MeetsForwardNumber, MeetsBackNumber}
 use Rattle.asked.specs.Report.{asked_aggregator, asked_due}
@@ -31,10 +34,10 @@ one-ask port wait out w a b u v o q x y = (same x.0 y.0, same x.1 y.1, same x.2 
 pub one-port_report : (n : ℕ) (w m : List ℕ) (a b : Answer) (r s : List ℕ) → MeetsPort n w m a r → MeetsPort n w m b s → (a ≡ b) × (r ≡ s)
 one-port_report n w m a b r s x y = (same x.0 y.0, same x.1 y.1)
 
-pub one-aggregator_report : (k : ℕ) (w : List ℕ) (r s : AggregatorReport) → r ≡ asked_aggregator k w → s ≡ asked_aggregator k w → r ≡ s
+pub one-aggregator_report : (k : ℕ) (w : List ℕ) (r s : Result Sets Reason) → r ≡ asked_aggregator k w → s ≡ asked_aggregator k w → r ≡ s
 one-aggregator_report k w r s x y = same x y
 
-pub one-due_report : (w : List ℕ) (r s : DueReport) → r ≡ asked_due w → s ≡ asked_due w → r ≡ s
+pub one-due_report : (w : List ℕ) (r s : Result ℕ Reason) → r ≡ asked_due w → s ≡ asked_due w → r ≡ s
 one-due_report w r s x y = same x y
 
 -- ---- the C functions

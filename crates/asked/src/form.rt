@@ -1,5 +1,7 @@
 // The two forms of a table (M-106): its front is without monitors or with them.
-ghost use Rattle.std.specs.Prelude.{◌≡◌, ◌≤◌};
+ghost use Rattle.std.specs.Prelude.{◌≡◌, ◌≤◌, ℕ};
+ghost use Rattle.std.proofs.Common.{rules};
+ghost use native.Mathlib.Omega.{arith};
 ghost use Rattle.asked.specs.Layer.{Layer, old_layer, new_layer};
 
 use table::layout::place_of;
@@ -12,6 +14,9 @@ pub trait Form {
         requires { count ≤ 255 }
         ensures is { result ≡ layer.size count }
         ensures small { result ≤ 20000 };
+
+    // A front has an octet that says the count.
+    ghost some: { (n : ℕ) → 1 ≤ layer.size n };
 }
 
 // Without monitors.
@@ -19,6 +24,8 @@ pub struct Old;
 
 impl Form for Old {
     ghost layer = { old_layer };
+
+    ghost some = { λ n. Prim.search (rules, arith) };
 
     fn front_size(count: usize) -> usize {
         place_of(count)
@@ -30,6 +37,8 @@ pub struct New;
 
 impl Form for New {
     ghost layer = { new_layer };
+
+    ghost some = { λ n. Prim.search (rules, arith) };
 
     fn front_size(count: usize) -> usize {
         churn::whole_size(count)

@@ -2,15 +2,17 @@
 // front of the memory, and then the groups behind it.
 #![tactic(auto)]
 
-ghost use Rattle.std.specs.Prelude.{◌≡◌, Bool, true, cond, ◌&&◌, ◌++◌, ◌+◌, ◌*◌, ◌-◌, ◌≤◌, ◌<◌, length, take, drop, eqb};
+ghost use Rattle.std.specs.Prelude.{◌≡◌, Bool, true, cond, ◌&&◌, ◌++◌, ◌+◌, ◌*◌, ◌-◌, ◌≤◌, ◌<◌, length, take, drop, eqb, IfOk};
+ghost use Rattle.octets.specs.Octets.{within};
 ghost use Rattle.frame.specs.Class.{frame_size};
 ghost use Rattle.frame.specs.Wire.{marker};
 ghost use Rattle.frame.specs.declared.wire.MarkerType.TheVariants as kind;
 ghost use Rattle.table.specs.Layout.{place};
 ghost use Rattle.table.specs.Table.{count_in, port_at, ours, InTable};
+ghost use Rattle.asks.specs.Ask.{longest_wait};
 ghost use Rattle.asks.specs.Group.{group_size};
 ghost use Rattle.asks.specs.Groups.{ask_at, groups_in_range, all_fallen, all_begun};
-ghost use Rattle.control.specs.Answer.{is_number};
+ghost use Rattle.control.specs.Answer.{answer_number, is_number};
 ghost use Rattle.control.specs.Call.{start as call_start, receive as call_receive, tick as call_tick, line as call_line, configure as call_configure, fetch as call_fetch, report as call_report};
 ghost use Rattle.whole.specs.Calls.{whole_answer};
 ghost use Rattle.asked.specs.Layer.{old_layer, new_layer};
@@ -60,9 +62,9 @@ fn is_asked(table: &[u8], f: usize) -> bool
 
 // Answer 1, or the octets of the front.
 fn front_size<F: Form>(table: &[u8]) -> Result<usize, Reason>
-    ensures { result ≡ front_found F.layer table.now }
+    ensures { (result ≡ front_found F.layer table.now) × IfOk result (λ f. f ≤ length table.now) }
 {
-    if table.is_empty() {
+    if table.len() == 0 {
         return Err(Reason::Table);
     }
     let f = F::front_size(table[0] as usize);
@@ -73,14 +75,14 @@ fn front_size<F: Form>(table: &[u8]) -> Result<usize, Reason>
 }
 
 // The octets of a table of `count` ports, for a count from 1 to 32.
-fn size_of<F: Form>(count: u32) -> Option<usize>
+fn size_of<F: Form>(count: u32) -> Option<u32>
     ensures { result ≡ size_found F.layer count }
 {
     if !(1..=32).contains(&count) {
         return None;
     }
     let n = count as usize;
-    Some(F::front_size(n) + GROUP * n)
+    Some((F::front_size(n) + GROUP * n) as u32)
 }
 
 // A tick of the groups of `n` ports behind a front of `f` octets, if it was accepted.
@@ -153,6 +155,13 @@ fn brings(table: &[u8], b: usize, f: usize, n: u32, frame: &[u8]) -> bool
     octets::same(frame::wire::request(frame), &request)
 }
 
+// Whether a received frame is refused as a Marker Response.
+fn is_response(a: Answer) -> bool
+    ensures { result ≡ eqb (answer_number a) 12 }
+{
+    matches!(a, Err(Reason::Response))
+}
+
 // A frame was received on port n. The Response to a Marker is written into `out`, and sent by the caller.
 pub fn receive(table: &mut [u8], n: u32, frame: &[u8], out: &mut [u8]) -> Answer
     ensures { MeetsOut (call_receive n frame.now out.old) table.old result table.new out.new }
@@ -160,12 +169,15 @@ pub fn receive(table: &mut [u8], n: u32, frame: &[u8], out: &mut [u8]) -> Answer
     let f = front_size::<New>(table)?;
     let b = place_of(table[0] as usize);
     let a = whole::receive(&mut table[..f], n, frame, out);
-    if a == Err(Reason::Response) && brings(table, b, f, n, frame) {
-        let i = n - 1;
-        end(table, f, i as usize, Outcome::Answered);
-        return Ok(Accepted::Done);
+    if !is_response(a) {
+        return a;
     }
-    a
+    if !brings(table, b, f, n, frame) {
+        return a;
+    }
+    let i = n - 1;
+    end(table, f, i as usize, Outcome::Answered);
+    Ok(Accepted::Done)
 }
 
 // The next LACPDU of port n is written into `out`, and sent by the caller.
@@ -186,7 +198,8 @@ fn falls(base: &[u8], n: u32, line: Line) -> bool
     }
     let i = n - 1;
     let before = table::record::line_in(table::record_at(base, i as usize));
-    before.up & (line != before)
+    let same = line == before;
+    before.up & !same
 }
 
 // The link of port n is up or down now, and its duplex full or half.
@@ -216,7 +229,10 @@ pub fn configure(table: &mut [u8], n: u32, settings: Settings) -> Answer
 fn is_room(table: &[u8], count: u32) -> bool
     ensures { result ≡ is_asked_room new_layer table.now count }
 {
-    Some(table.len()) == size_of::<New>(count)
+    match size_of::<New>(count) {
+        Some(size) => table.len() == size as usize,
+        None => false,
+    }
 }
 
 // Starts a table of `count` ports in memory of any content; every port begins with these settings.
@@ -264,6 +280,13 @@ fn write_marker(base: &[u8], n: u32, number: u32, out: &mut [u8])
     frame::wire::write_marker(out, own.address, MarkerType::Marker, &request);
 }
 
+// Whether a Marker can be awaited for so many ticks.
+fn is_wait(ticks: u32) -> bool
+    ensures { result ≡ within 1 ticks longest_wait }
+{
+    (1..=LONGEST_WAIT as u32).contains(&ticks)
+}
+
 // A Marker is asked for on port n, with a time to wait; it is written into `out`, and sent by the caller.
 pub fn ask(table: &mut [u8], n: u32, wait: u32, out: &mut [u8]) -> Result<(), AskRefusal>
     ensures { MeetsAsk n wait out.old table.old result table.new out.new }
@@ -274,7 +297,7 @@ pub fn ask(table: &mut [u8], n: u32, wait: u32, out: &mut [u8]) -> Result<(), As
     if out.len() < FRAME {
         return Err(AskRefusal::Plain(Reason::Buffer));
     }
-    if !(1..=LONGEST_WAIT as u32).contains(&wait) {
+    if !is_wait(wait) {
         return Err(AskRefusal::Wait);
     }
     let i = n - 1;
@@ -339,14 +362,14 @@ pub fn report_due(table: &[u8]) -> Result<u32, Reason>
 pub fn table_size(count: u32) -> u32
     ensures { result ≡ asked_published new_layer count }
 {
-    size_of::<New>(count).unwrap_or(0) as u32
+    size_of::<New>(count).unwrap_or(0)
 }
 
 // The same of the old form.
 pub fn old_table_size(count: u32) -> u32
     ensures { result ≡ asked_published old_layer count }
 {
-    size_of::<Old>(count).unwrap_or(0) as u32
+    size_of::<Old>(count).unwrap_or(0)
 }
 
 // ---- moves between the two forms of a table

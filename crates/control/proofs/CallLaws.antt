@@ -109,7 +109,7 @@ module _ (c : Call) (t : List ℕ) where
   done-table e = ap (λ (a : Answer). unless a t (changed_by c t)) e
 
 -- a reason that goes up by `?`
-pub passed-up : {T : Type 0} {r : Reason} (a : Result T Reason) → IsErrAnd a (λ s. s ≡ r) → a ≡ Err r
+pub passed-up : {T E : Type 0} {r : E} (a : Result T E) → IsErrAnd a (λ s. s ≡ r) → a ≡ Err r
 passed-up (Ok x) h = absurd h
 passed-up (Err s) h = ap Err h
 

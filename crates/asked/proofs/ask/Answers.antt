@@ -17,141 +17,132 @@ use Rattle.asks.specs.Groups.{ask_at}
 use Rattle.asks.specs.declared.ask.Ask.{Ask}
 use Rattle.control.specs.Accepted.{accepted}
 use Rattle.asked.specs.Asked.{with_ask}
-use Rattle.asked.proofs.AskedLaws.{tail_is, tail_put}
+use Rattle.asked.proofs.AskedLaws.{found-front, tail_is, tail_put}
 use Rattle.asked.proofs.CallLaws.{base-count}
-use Rattle.asked.proofs.AskLaws.{ask-roomless, port-there, ask-first, ask-short, ask-wait, ask-not, ask-awaits, ask-done}
+use Rattle.asked.proofs.AskLaws.{ask-unfound, port-there, ask-first, ask-short, ask-wait, ask-not, ask-awaits, ask-done}
 use Rattle.machine.specs.declared.states.Phase.{Phase}
 use borrow.Author.Rules.{rules}
+use Rattle.asked.specs.Layer.{new_layer}
 use Rattle.asked.proofs.ask.Goals as goal
 
-pub returns-then-not-has_asks : goal.returns-then-not-has_asks
-returns-then-not-has_asks c =
+pub returns-in_err-f : goal.returns-in_err-f
+returns-in_err-f c =
     let a = c.args in
-    ask-roomless a.n a.wait a.out.now a.table.now (sym c.has_asks.ensures ∙ c.if-not-has_asks.true)
+    ask-unfound a.n a.wait a.out.now a.table.now c.from_residual.result (sym c.front_size.ensures.0 ∙ c.in_err-f.was) c.from_residual.ensures.1
 
-pub front_size-f-requires : goal.front_size-f-requires
-front_size-f-requires c = sym c.has_asks.ensures ∙ c.if-not-has_asks.false
+pub bounds-table-0 : goal.bounds-table-0
+bounds-table-0 c =
+    let front = found-front new_layer c.args.table.now (sym c.front_size.ensures.0 ∙ c.in_ok-f.was) in
+    let size = front.size in
+    let is = front.is in
+    omega (arith, size, is)
 
 pub slice_bounds-find-end-2 : goal.slice_bounds-find-end-2
 slice_bounds-find-end-2 c =
+    let front = found-front new_layer c.args.table.now (sym c.front_size.ensures.0 ∙ c.in_ok-f.was) in
     let m = c.args.table.now in
-    let size = c.front_size-f.ensures.1 in let most : c.front_size-f.result ≤ length m = omega (arith, size) in
-    sym (length-take-le c.front_size-f.result m most)
+    sym (length-take-le c.in_ok-f.f m front.most)
 
-pub returns-then-not-is_accepted : goal.returns-then-not-is_accepted
-returns-then-not-is_accepted c =
+pub returns-in_err-find : goal.returns-in_err-find
+returns-in_err-find c =
+    let front = found-front new_layer c.args.table.now (sym c.front_size.ensures.0 ∙ c.in_ok-f.was) in
     let a = c.args in
     let m = a.table.now in
-    let f = c.front_size-f.result in
-    let isf = c.front_size-f.ensures.0 in
-    let size = c.front_size-f.ensures.1 in
-    let most : f ≤ length m = omega (arith, size) in
+    let f = c.in_ok-f.f in
+    let isf = front.is in
     let b = c.place_of-b.result in
     let isb = c.place_of-b.ensures in
     let n = a.n in
     let wait = a.wait in
     let out = a.out.now in
-    let held = sym c.has_asks.ensures ∙ c.if-not-has_asks.false in
-    ask-first n wait out m f b isf isb held _ c.find-a.ensures (sym c.is_accepted.ensures ∙ c.if-not-is_accepted.true)
+    let held = front.has in
+    ask-first n wait out m f b isf isb held c.from_residual-in_err-find.result (sym c.find.ensures ∙ c.in_err-find.was) c.from_residual-in_err-find.ensures.1
 
 pub returns-then-out-lt-FRAME : goal.returns-then-out-lt-FRAME
 returns-then-out-lt-FRAME c =
+    let front = found-front new_layer c.args.table.now (sym c.front_size.ensures.0 ∙ c.in_ok-f.was) in
     let a = c.args in
     let m = a.table.now in
-    let f = c.front_size-f.result in
-    let isf = c.front_size-f.ensures.0 in
-    let size = c.front_size-f.ensures.1 in
-    let most : f ≤ length m = omega (arith, size) in
+    let f = c.in_ok-f.f in
+    let isf = front.is in
     let b = c.place_of-b.result in
     let isb = c.place_of-b.ensures in
     let n = a.n in
     let wait = a.wait in
     let out = a.out.now in
-    let held = sym c.has_asks.ensures ∙ c.if-not-has_asks.false in
-    let done = sym c.is_accepted.ensures ∙ c.if-not-is_accepted.false in
-    ask-short n wait out m f b isf isb held _ c.find-a.ensures done c.if-out-lt-FRAME.true
+    let held = front.has in
+    let done = sym c.find.ensures ∙ c.in_ok-find.was in
+    ask-short n wait out m f b isf isb held done c.if-out-lt-FRAME.true
 
-pub returns-then-wait-lt1 : goal.returns-then-wait-lt1
-returns-then-wait-lt1 c =
+pub returns-then-not-is_wait : goal.returns-then-not-is_wait
+returns-then-not-is_wait c =
+    let front = found-front new_layer c.args.table.now (sym c.front_size.ensures.0 ∙ c.in_ok-f.was) in
     let a = c.args in
     let m = a.table.now in
-    let f = c.front_size-f.result in
-    let isf = c.front_size-f.ensures.0 in
-    let size = c.front_size-f.ensures.1 in
-    let most : f ≤ length m = omega (arith, size) in
+    let f = c.in_ok-f.f in
+    let isf = front.is in
     let b = c.place_of-b.result in
     let isb = c.place_of-b.ensures in
     let n = a.n in
     let wait = a.wait in
     let out = a.out.now in
-    let held = sym c.has_asks.ensures ∙ c.if-not-has_asks.false in
-    let done = sym c.is_accepted.ensures ∙ c.if-not-is_accepted.false in
+    let held = front.has in
+    let done = sym c.find.ensures ∙ c.in_ok-find.was in
     let roomy : frame_size ≤ length out = c.if-out-lt-FRAME.false in
-    ask-wait n wait out m f b isf isb held _ c.find-a.ensures done roomy (rw (lt-leb 1 wait c.if-wait-lt1.true) refl)
-
-pub returns-then-wait : goal.returns-then-wait
-returns-then-wait c =
-    let a = c.args in
-    let m = a.table.now in
-    let f = c.front_size-f.result in
-    let isf = c.front_size-f.ensures.0 in
-    let size = c.front_size-f.ensures.1 in
-    let most : f ≤ length m = omega (arith, size) in
-    let b = c.place_of-b.result in
-    let isb = c.place_of-b.ensures in
-    let n = a.n in
-    let wait = a.wait in
-    let out = a.out.now in
-    let held = sym c.has_asks.ensures ∙ c.if-not-has_asks.false in
-    let done = sym c.is_accepted.ensures ∙ c.if-not-is_accepted.false in
-    let roomy : frame_size ≤ length out = c.if-out-lt-FRAME.false in
-    ask-wait n wait out m f b isf isb held _ c.find-a.ensures done roomy (rw (le-leb 1 wait c.if-wait-lt1.false, lt-leb wait longest_wait c.if-wait.true) refl)
+    ask-wait n wait out m f b isf isb held done roomy (sym c.is_wait.ensures ∙ c.if-not-is_wait.true)
 
 pub overflow_sub-i : goal.overflow_sub-i
 overflow_sub-i c =
+    let front = found-front new_layer c.args.table.now (sym c.front_size.ensures.0 ∙ c.in_ok-f.was) in
     let a = c.args in
     let m = a.table.now in
-    let f = c.front_size-f.result in
-    let isf = c.front_size-f.ensures.0 in
-    let size = c.front_size-f.ensures.1 in
-    let most : f ≤ length m = omega (arith, size) in
+    let f = c.in_ok-f.f in
+    let isf = front.is in
     let b = c.place_of-b.result in
     let isb = c.place_of-b.ensures in
     let n = a.n in
-    let wait = a.wait in
-    let out = a.out.now in
-    let held = sym c.has_asks.ensures ∙ c.if-not-has_asks.false in
-    let done = sym c.is_accepted.ensures ∙ c.if-not-is_accepted.false in
-    let there = port-there n m f b isf isb (sym (ap accepted c.find-a.ensures) ∙ done) in
+    let done = sym c.find.ensures ∙ c.in_ok-find.was in
+    let there = port-there n m f b isf isb (ap accepted done) in
     let some = there.some in
-    let few = there.most in
-    let count = base-count m f b isf isb in
     some
+
+pub slice_bounds-phase-end : goal.slice_bounds-phase-end
+slice_bounds-phase-end c =
+    let front = found-front new_layer c.args.table.now (sym c.front_size.ensures.0 ∙ c.in_ok-f.was) in
+    let size = front.size in
+    let is = front.is in
+    let isb = c.place_of-b.ensures in
+    omega (arith, size, is, isb)
+
+pub slice_bounds-write_marker-end : goal.slice_bounds-write_marker-end
+slice_bounds-write_marker-end c =
+    let front = found-front new_layer c.args.table.now (sym c.front_size.ensures.0 ∙ c.in_ok-f.was) in
+    let size = front.size in
+    let is = front.is in
+    let isb = c.place_of-b.ensures in
+    omega (arith, size, is, isb)
 
 pub slice_bounds-phase-end-2 : goal.slice_bounds-phase-end-2
 slice_bounds-phase-end-2 c =
+    let front = found-front new_layer c.args.table.now (sym c.front_size.ensures.0 ∙ c.in_ok-f.was) in
     let m = c.args.table.now in
-    let size = c.front_size-f.ensures.1 in
-    let isf = c.front_size-f.ensures.0 in
+    let size = front.size in
+    let isf = front.is in
     let isb = c.place_of-b.ensures in
     sym (length-take-le c.place_of-b.result m (omega (arith, size, isf, isb)))
 
-pub phase-phase-requires : goal.phase-phase-requires
-phase-phase-requires c =
+pub phase-requires : goal.phase-requires
+phase-requires c =
+    let front = found-front new_layer c.args.table.now (sym c.front_size.ensures.0 ∙ c.in_ok-f.was) in
     let a = c.args in
     let m = a.table.now in
-    let f = c.front_size-f.result in
-    let isf = c.front_size-f.ensures.0 in
-    let size = c.front_size-f.ensures.1 in
-    let most : f ≤ length m = omega (arith, size) in
+    let f = c.in_ok-f.f in
+    let isf = front.is in
     let b = c.place_of-b.result in
     let isb = c.place_of-b.ensures in
     let n = a.n in
-    let wait = a.wait in
-    let out = a.out.now in
-    let held = sym c.has_asks.ensures ∙ c.if-not-has_asks.false in
-    let done = sym c.is_accepted.ensures ∙ c.if-not-is_accepted.false in
-    let there = port-there n m f b isf isb (sym (ap accepted c.find-a.ensures) ∙ done) in
+    let done = sym c.find.ensures ∙ c.in_ok-find.was in
+    let there = port-there n m f b isf isb (ap accepted done) in
     let some = there.some in
     let few = there.most in
     let count = base-count m f b isf isb in
@@ -159,89 +150,80 @@ phase-phase-requires c =
 
 pub returns-then-not-distributes : goal.returns-then-not-distributes
 returns-then-not-distributes c =
+    let front = found-front new_layer c.args.table.now (sym c.front_size.ensures.0 ∙ c.in_ok-f.was) in
     let a = c.args in
     let m = a.table.now in
-    let f = c.front_size-f.result in
-    let isf = c.front_size-f.ensures.0 in
-    let size = c.front_size-f.ensures.1 in
-    let most : f ≤ length m = omega (arith, size) in
+    let f = c.in_ok-f.f in
+    let isf = front.is in
     let b = c.place_of-b.result in
     let isb = c.place_of-b.ensures in
     let n = a.n in
     let wait = a.wait in
     let out = a.out.now in
-    let held = sym c.has_asks.ensures ∙ c.if-not-has_asks.false in
-    let done = sym c.is_accepted.ensures ∙ c.if-not-is_accepted.false in
+    let held = front.has in
+    let done = sym c.find.ensures ∙ c.in_ok-find.was in
     let roomy : frame_size ≤ length out = c.if-out-lt-FRAME.false in
-    let fit : within 1 wait longest_wait ≡ true = rw (le-leb 1 wait c.if-wait-lt1.false, le-leb wait longest_wait c.if-wait.false) refl in
-    ask-not n wait out m f b isf isb held _ c.find-a.ensures done roomy fit (ap (λ (x : Phase). distributes x.mux) (sym c.phase-phase.ensures) ∙ sym c.distributes.ensures ∙ c.if-not-distributes.true)
+    let fit : within 1 wait longest_wait ≡ true = sym c.is_wait.ensures ∙ c.if-not-is_wait.false in
+    ask-not n wait out m f b isf isb held done roomy fit (ap (λ (x : Phase). distributes x.mux) (sym c.phase.ensures) ∙ sym c.distributes.ensures ∙ c.if-not-distributes.true)
 
 pub at-q-requires : goal.at-q-requires
 at-q-requires c =
+    let front = found-front new_layer c.args.table.now (sym c.front_size.ensures.0 ∙ c.in_ok-f.was) in
     let a = c.args in
     let m = a.table.now in
-    let f = c.front_size-f.result in
-    let isf = c.front_size-f.ensures.0 in
-    let size = c.front_size-f.ensures.1 in
-    let most : f ≤ length m = omega (arith, size) in
+    let f = c.in_ok-f.f in
+    let isf = front.is in
+    let size = front.size in
     let b = c.place_of-b.result in
     let isb = c.place_of-b.ensures in
     let n = a.n in
-    let wait = a.wait in
-    let out = a.out.now in
-    let held = sym c.has_asks.ensures ∙ c.if-not-has_asks.false in
-    let done = sym c.is_accepted.ensures ∙ c.if-not-is_accepted.false in
-    let there = port-there n m f b isf isb (sym (ap accepted c.find-a.ensures) ∙ done) in
+    let done = sym c.find.ensures ∙ c.in_ok-find.was in
+    let there = port-there n m f b isf isb (ap accepted done) in
     let some = there.some in
     let few = there.most in
-    let count = base-count m f b isf isb in
     rw (tail_is f m) (let d = length-drop f m in omega (arith, d, size, some, few))
 
 pub returns-then-is_awaiting : goal.returns-then-is_awaiting
 returns-then-is_awaiting c =
+    let front = found-front new_layer c.args.table.now (sym c.front_size.ensures.0 ∙ c.in_ok-f.was) in
     let a = c.args in
     let m = a.table.now in
-    let f = c.front_size-f.result in
-    let isf = c.front_size-f.ensures.0 in
-    let size = c.front_size-f.ensures.1 in
-    let most : f ≤ length m = omega (arith, size) in
+    let f = c.in_ok-f.f in
+    let isf = front.is in
     let b = c.place_of-b.result in
     let isb = c.place_of-b.ensures in
     let n = a.n in
     let wait = a.wait in
     let out = a.out.now in
-    let held = sym c.has_asks.ensures ∙ c.if-not-has_asks.false in
-    let done = sym c.is_accepted.ensures ∙ c.if-not-is_accepted.false in
+    let held = front.has in
+    let done = sym c.find.ensures ∙ c.in_ok-find.was in
     let roomy : frame_size ≤ length out = c.if-out-lt-FRAME.false in
-    let fit : within 1 wait longest_wait ≡ true = rw (le-leb 1 wait c.if-wait-lt1.false, le-leb wait longest_wait c.if-wait.false) refl in
-    let carries : distributes (port_at (take b m) (n - 1)).phase.mux ≡ true = ap (λ (x : Phase). distributes x.mux) (sym c.phase-phase.ensures) ∙ sym c.distributes.ensures ∙ c.if-not-distributes.false in
+    let fit : within 1 wait longest_wait ≡ true = sym c.is_wait.ensures ∙ c.if-not-is_wait.false in
+    let carries : distributes (port_at (take b m) (n - 1)).phase.mux ≡ true = ap (λ (x : Phase). distributes x.mux) (sym c.phase.ensures) ∙ sym c.distributes.ensures ∙ c.if-not-distributes.false in
     let q-is : c.at-q.result ≡ ask_at (drop f m) (n - 1) = c.at-q.ensures ∙ ap (λ (l : List ℕ). ask_at l (n - 1)) (tail_is f m) in
-    ask-awaits n wait out m f b isf isb held _ c.find-a.ensures done roomy fit carries (ap (λ (x : Ask). is_awaiting x.outcome) (sym q-is) ∙ sym c.is_awaiting.ensures ∙ c.if-is_awaiting.true)
+    ask-awaits n wait out m f b isf isb held done roomy fit carries (ap (λ (x : Ask). is_awaiting x.outcome) (sym q-is) ∙ sym c.is_awaiting.ensures ∙ c.if-is_awaiting.true)
 
 pub slice_bounds-write_marker-end-2 : goal.slice_bounds-write_marker-end-2
 slice_bounds-write_marker-end-2 c =
+    let front = found-front new_layer c.args.table.now (sym c.front_size.ensures.0 ∙ c.in_ok-f.was) in
     let m = c.args.table.now in
-    let size = c.front_size-f.ensures.1 in
-    let isf = c.front_size-f.ensures.0 in
+    let size = front.size in
+    let isf = front.is in
     let isb = c.place_of-b.ensures in
     sym (length-take-le c.place_of-b.result m (omega (arith, size, isf, isb)))
 
 pub write_marker-requires : goal.write_marker-requires
 write_marker-requires c =
+    let front = found-front new_layer c.args.table.now (sym c.front_size.ensures.0 ∙ c.in_ok-f.was) in
     let a = c.args in
     let m = a.table.now in
-    let f = c.front_size-f.result in
-    let isf = c.front_size-f.ensures.0 in
-    let size = c.front_size-f.ensures.1 in
-    let most : f ≤ length m = omega (arith, size) in
+    let f = c.in_ok-f.f in
+    let isf = front.is in
     let b = c.place_of-b.result in
     let isb = c.place_of-b.ensures in
     let n = a.n in
-    let wait = a.wait in
-    let out = a.out.now in
-    let held = sym c.has_asks.ensures ∙ c.if-not-has_asks.false in
-    let done = sym c.is_accepted.ensures ∙ c.if-not-is_accepted.false in
-    let there = port-there n m f b isf isb (sym (ap accepted c.find-a.ensures) ∙ done) in
+    let done = sym c.find.ensures ∙ c.in_ok-find.was in
+    let there = port-there n m f b isf isb (ap accepted done) in
     let some = there.some in
     let few = there.most in
     let count = base-count m f b isf isb in
@@ -250,66 +232,57 @@ write_marker-requires c =
 
 pub overflow_cast-i-3 : goal.overflow_cast-i-3
 overflow_cast-i-3 c =
+    let front = found-front new_layer c.args.table.now (sym c.front_size.ensures.0 ∙ c.in_ok-f.was) in
     let a = c.args in
     let m = a.table.now in
-    let f = c.front_size-f.result in
-    let isf = c.front_size-f.ensures.0 in
-    let size = c.front_size-f.ensures.1 in
-    let most : f ≤ length m = omega (arith, size) in
+    let f = c.in_ok-f.f in
+    let isf = front.is in
     let b = c.place_of-b.result in
     let isb = c.place_of-b.ensures in
     let n = a.n in
-    let wait = a.wait in
-    let out = a.out.now in
-    let held = sym c.has_asks.ensures ∙ c.if-not-has_asks.false in
-    let done = sym c.is_accepted.ensures ∙ c.if-not-is_accepted.false in
-    let there = port-there n m f b isf isb (sym (ap accepted c.find-a.ensures) ∙ done) in
-    let some = there.some in
+    let done = sym c.find.ensures ∙ c.in_ok-find.was in
+    let there = port-there n m f b isf isb (ap accepted done) in
     let few = there.most in
     let count = base-count m f b isf isb in
     let ports = (in_range (take b m) there.ranged).most in omega (arith, few, count, ports)
 
 pub store-requires : goal.store-requires
 store-requires c =
+    let front = found-front new_layer c.args.table.now (sym c.front_size.ensures.0 ∙ c.in_ok-f.was) in
     let a = c.args in
     let m = a.table.now in
-    let f = c.front_size-f.result in
-    let isf = c.front_size-f.ensures.0 in
-    let size = c.front_size-f.ensures.1 in
-    let most : f ≤ length m = omega (arith, size) in
+    let f = c.in_ok-f.f in
+    let isf = front.is in
+    let size = front.size in
     let b = c.place_of-b.result in
     let isb = c.place_of-b.ensures in
     let n = a.n in
-    let wait = a.wait in
-    let out = a.out.now in
-    let held = sym c.has_asks.ensures ∙ c.if-not-has_asks.false in
-    let done = sym c.is_accepted.ensures ∙ c.if-not-is_accepted.false in
-    let there = port-there n m f b isf isb (sym (ap accepted c.find-a.ensures) ∙ done) in
+    let done = sym c.find.ensures ∙ c.in_ok-find.was in
+    let there = port-there n m f b isf isb (ap accepted done) in
     let some = there.some in
     let few = there.most in
-    let count = base-count m f b isf isb in
     rw (tail_is f m) (let d = length-drop f m in omega (arith, d, size, some, few))
 
 pub returns : goal.returns
 returns c =
+    let front = found-front new_layer c.args.table.now (sym c.front_size.ensures.0 ∙ c.in_ok-f.was) in
     let a = c.args in
     let m = a.table.now in
-    let f = c.front_size-f.result in
-    let isf = c.front_size-f.ensures.0 in
-    let size = c.front_size-f.ensures.1 in
-    let most : f ≤ length m = omega (arith, size) in
+    let f = c.in_ok-f.f in
+    let isf = front.is in
+    let most = front.most in
     let b = c.place_of-b.result in
     let isb = c.place_of-b.ensures in
     let n = a.n in
     let wait = a.wait in
     let out = a.out.now in
-    let held = sym c.has_asks.ensures ∙ c.if-not-has_asks.false in
-    let done = sym c.is_accepted.ensures ∙ c.if-not-is_accepted.false in
+    let held = front.has in
+    let done = sym c.find.ensures ∙ c.in_ok-find.was in
     let roomy : frame_size ≤ length out = c.if-out-lt-FRAME.false in
-    let fit : within 1 wait longest_wait ≡ true = rw (le-leb 1 wait c.if-wait-lt1.false, le-leb wait longest_wait c.if-wait.false) refl in
-    let carries : distributes (port_at (take b m) (n - 1)).phase.mux ≡ true = ap (λ (x : Phase). distributes x.mux) (sym c.phase-phase.ensures) ∙ sym c.distributes.ensures ∙ c.if-not-distributes.false in
+    let fit : within 1 wait longest_wait ≡ true = sym c.is_wait.ensures ∙ c.if-not-is_wait.false in
+    let carries : distributes (port_at (take b m) (n - 1)).phase.mux ≡ true = ap (λ (x : Phase). distributes x.mux) (sym c.phase.ensures) ∙ sym c.distributes.ensures ∙ c.if-not-distributes.false in
     let q-is : c.at-q.result ≡ ask_at (drop f m) (n - 1) = c.at-q.ensures ∙ ap (λ (l : List ℕ). ask_at l (n - 1)) (tail_is f m) in
     let keep : length c.store.new.groups ≡ length m - f = search rules in
-    ask-done n wait out m f b isf isb held _ c.find-a.ensures done roomy fit carries (ap (λ (x : Ask). is_awaiting x.outcome) (sym q-is) ∙ sym c.is_awaiting.ensures ∙ c.if-is_awaiting.false) _ _
+    ask-done n wait out m f b isf isb held done roomy fit carries (ap (λ (x : Ask). is_awaiting x.outcome) (sym q-is) ∙ sym c.is_awaiting.ensures ∙ c.if-is_awaiting.false) _ _
     (tail_put f m _ most keep ∙ ap (λ (l : List ℕ). take f m ++ l) (c.store.ensures ∙ rw (c.ask.ensures, q-is) (ap (λ (l : List ℕ). with_ask (n - 1) (asked wait (ask_at (drop f m) (n - 1))) l) (tail_is f m))))
     (c.write_marker.ensures ∙ rw q-is)

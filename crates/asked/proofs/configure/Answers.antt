@@ -5,24 +5,21 @@ use native.Mathlib.Omega.{arith}
 use lib.ListN.{length}
 use lib.Seq.{length-take-le}
 use Rattle.control.specs.Call as call
-use Rattle.asked.proofs.AskedLaws.{roomless, finished}
+use Rattle.asked.proofs.AskedLaws.{unfound, found-front, finished}
+use Rattle.asked.specs.Layer.{new_layer}
 use Rattle.asked.proofs.configure.Goals as goal
 
-pub returns-then-not-has_asks : goal.returns-then-not-has_asks
-returns-then-not-has_asks c =
-    let a = c.args in
-    roomless (call.configure a.n a.settings) a.table.now (sym c.has_asks.ensures ∙ c.if-not-has_asks.true)
-
-pub front_size-f-requires : goal.front_size-f-requires
-front_size-f-requires c = sym c.has_asks.ensures ∙ c.if-not-has_asks.false
+pub returns-in_err-f : goal.returns-in_err-f
+returns-in_err-f c = unfound (call.configure c.args.n c.args.settings) c.args.table.now c.from_residual.result refl (sym c.front_size.ensures.0 ∙ c.in_err-f.was) c.from_residual.ensures.1
 
 pub slice_bounds-configure-end-2 : goal.slice_bounds-configure-end-2
 slice_bounds-configure-end-2 c =
+    let front = found-front new_layer c.args.table.now (sym c.front_size.ensures.0 ∙ c.in_ok-f.was) in
     let m = c.args.table.now in
-    let size = c.front_size-f.ensures.1 in let most : c.front_size-f.result ≤ length m = omega (arith, size) in
-    sym (length-take-le c.front_size-f.result m most)
+    sym (length-take-le c.in_ok-f.f m front.most)
 
 pub returns : goal.returns
 returns c =
+    let front = found-front new_layer c.args.table.now (sym c.front_size.ensures.0 ∙ c.in_ok-f.was) in
     let a = c.args in
-    finished (call.configure a.n a.settings) a.table.now c.front_size-f.result c.front_size-f.ensures.0 (sym c.has_asks.ensures ∙ c.if-not-has_asks.false) _ _ _ _ refl c.configure.ensures.0 c.configure.ensures.1 refl refl
+    finished (call.configure a.n a.settings) a.table.now c.in_ok-f.f front.is front.has _ _ _ _ refl c.configure.ensures.0 c.configure.ensures.1 refl refl

@@ -1,23 +1,21 @@
 -- `falls` meets its contract: for a port that there is, the line in its record against the new one. Assumes nothing.
 use Prim.Native.Nat.{◌-◌, ◌<◌}
+use mathlib.Core.Bool.{Bool, true, false, beq}
+use mathlib.Core.Path.{◌≡◌, refl, ◌∙◌}
 use native.Mathlib.Omega.{arith}
 use Rattle.octets.proofs.RangeLaws.{within-true}
+use Rattle.machine.specs.Bits.{alike}
+use Rattle.machine.specs.States.{same_line}
 use Rattle.table.specs.Record.{decoded}
 use Rattle.table.specs.Table.{count_in, decoded_at}
 use Rattle.table.proofs.StoreLaws.{port-decoded}
 use Rattle.asked.proofs.falls.Goals as goal
 
-pub returns-then-n-lt1 : goal.returns-then-n-lt1
-returns-then-n-lt1 c e =
-    let h = within-true 1 c.args.n (count_in c.args.base.now) e in
-    let some = h.0 in
-    absurd (omega (arith, c.if-n-lt1.true, some))
-
-pub returns-then-count-n : goal.returns-then-count-n
-returns-then-count-n c e =
-    let h = within-true 1 c.args.n (count_in c.args.base.now) e in
-    let most = h.1 in
-    absurd (omega (arith, c.if-count-n.true, most))
+beq-alike : (a b : Bool) → beq a b ≡ alike a b
+beq-alike true true = refl
+beq-alike true false = refl
+beq-alike false true = refl
+beq-alike false false = refl
 
 pub returns : goal.returns
 unfolding decoded_at decoded
@@ -25,4 +23,6 @@ returns c e =
     let a = c.args in
     let t = a.base.now in
     let here : a.n - 1 < count_in t = let h = within-true 1 a.n (count_in t) e in let some = h.0 in let most = h.1 in omega (arith, some, most) in
-    rw (port-decoded t (a.n - 1) here, c.same.ensures, c.line_in-before.ensures, c.record_at.ensures.0)
+    let line = c.line_in-before.result in
+    let same : c.eq-same.result ≡ same_line a.line line = c.eq-same.ensures ∙ rw (beq-alike a.line.up line.up, beq-alike a.line.full line.full) in
+    rw (port-decoded t (a.n - 1) here, same, c.line_in-before.ensures, c.record_at.ensures.0)

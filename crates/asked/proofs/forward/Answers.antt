@@ -11,24 +11,27 @@ use Rattle.table.specs.Table.{count_in, table_in_range}
 use Rattle.asks.specs.Group.{group_size}
 use Rattle.asked.specs.Asked.{asked_size, front_of}
 use Rattle.asked.specs.Layer.{old_layer, new_layer}
-use Rattle.asked.proofs.AskedLaws.{asked-size, tail_is, same_size}
+use Rattle.asked.proofs.AskedLaws.{found-front, found-none, asked-size, tail_is, same_size}
 use Rattle.asked.proofs.MoveLaws.{forward-refused, forward-done, forward-not, and-false}
 use borrow.Author.Rules.{rules}
+use Rattle.std.specs.Prelude.{Err}
+use Rattle.control.proofs.CallLaws.{passed-up}
 use Rattle.asked.proofs.forward.Goals as goal
 
-pub returns-then-not-has_old_asks : goal.returns-then-not-has_old_asks
-returns-then-not-has_old_asks c = forward-refused c.args.old.now c.args.new.now (rw (sym c.has_old_asks.ensures ∙ c.if-not-has_old_asks.true))
+pub returns-in_err-b : goal.returns-in_err-b
+returns-in_err-b c =
+    let none = found-none old_layer c.args.old.now (sym c.front_size.ensures.0 ∙ c.in_err-b.was) in
+    let no = forward-refused c.args.old.now c.args.new.now (rw none.0) in
+    (passed-up _ c.from_residual.ensures.1 ∙ ap Err none.1 ∙ no.0, no.1)
 
 pub bounds-old-0 : goal.bounds-old-0
 bounds-old-0 c =
+    let front = found-front old_layer c.args.old.now (sym c.front_size.ensures.0 ∙ c.in_ok-b.was) in
     let a = c.args in
     let m = a.old.now in
-    let held = sym c.has_old_asks.ensures ∙ c.if-not-has_old_asks.false in
+    let held = front.has in
     let long = asked-size old_layer m held in
     omega (arith, long)
-
-pub place_of-b-requires : goal.place_of-b-requires
-place_of-b-requires c = omega (arith, c.type_inv.old 0)
 
 pub whole_size-f-requires : goal.whole_size-f-requires
 whole_size-f-requires c = omega (arith, c.type_inv.old 0)
@@ -38,27 +41,24 @@ overflow_add-f c = let is = c.whole_size-f.ensures in omega (arith, is, c.type_i
 
 pub returns-then-new-f : goal.returns-then-new-f
 returns-then-new-f c =
+    let front = found-front old_layer c.args.old.now (sym c.front_size.ensures.0 ∙ c.in_ok-b.was) in
     let a = c.args in
     let m = a.old.now in
-    let held = sym c.has_old_asks.ensures ∙ c.if-not-has_old_asks.false in
-    let long = asked-size old_layer m held in
+    let held = front.has in
     let u = a.new.now in
-    let b = c.place_of-b.result in
-    let f = c.whole_size-f.result in
-    let isb = c.place_of-b.ensures in
+    let isb = front.is in
     let isf = c.whole_size-f.ensures in
     forward-refused m u (rw (held, ne_eqb (length u) (asked_size new_layer (count_in m)) (λ e. let k = c.if-new-f.true in omega (arith, k, e, isb, isf))) (and-false (table_in_range (front_of old_layer m))))
 
 pub slice_bounds-forward-end : goal.slice_bounds-forward-end
 slice_bounds-forward-end c =
+    let front = found-front old_layer c.args.old.now (sym c.front_size.ensures.0 ∙ c.in_ok-b.was) in
     let a = c.args in
     let m = a.old.now in
-    let held = sym c.has_old_asks.ensures ∙ c.if-not-has_old_asks.false in
+    let held = front.has in
     let long = asked-size old_layer m held in
-    let u = a.new.now in
-    let b = c.place_of-b.result in
-    let f = c.whole_size-f.result in
-    let isb = c.place_of-b.ensures in
+    let b = c.in_ok-b.b in
+    let isb = front.is in
     let isf = c.whole_size-f.ensures in
     sym (length-take-le b m (omega (arith, long, isb, isf)))
 
@@ -66,52 +66,44 @@ pub slice_bounds-forward-end-3 : goal.slice_bounds-forward-end-3
 slice_bounds-forward-end-3 c =
     let a = c.args in
     let m = a.old.now in
-    let held = sym c.has_old_asks.ensures ∙ c.if-not-has_old_asks.false in
-    let long = asked-size old_layer m held in
     let u = a.new.now in
-    let b = c.place_of-b.result in
     let f = c.whole_size-f.result in
-    let isb = c.place_of-b.ensures in
-    let isf = c.whole_size-f.ensures in
     let size : length u ≡ f + group_size * count_in m = let k = c.if-new-f.false in omega (arith, k) in
     sym (length-take-le f u (omega (arith, size)))
 
 pub slice_bounds-put-count : goal.slice_bounds-put-count
 slice_bounds-put-count c =
+    let front = found-front old_layer c.args.old.now (sym c.front_size.ensures.0 ∙ c.in_ok-b.was) in
     let a = c.args in
     let m = a.old.now in
-    let held = sym c.has_old_asks.ensures ∙ c.if-not-has_old_asks.false in
+    let held = front.has in
     let long = asked-size old_layer m held in
-    let u = a.new.now in
-    let b = c.place_of-b.result in
-    let f = c.whole_size-f.result in
-    let isb = c.place_of-b.ensures in
+    let isb = front.is in
     let isf = c.whole_size-f.ensures in
     omega (arith, long, isb, isf)
 
 pub slice_bounds-put-start : goal.slice_bounds-put-start
 slice_bounds-put-start c =
+    let front = found-front old_layer c.args.old.now (sym c.front_size.ensures.0 ∙ c.in_ok-b.was) in
     let a = c.args in
     let m = a.old.now in
-    let held = sym c.has_old_asks.ensures ∙ c.if-not-has_old_asks.false in
+    let held = front.has in
     let long = asked-size old_layer m held in
-    let u = a.new.now in
-    let b = c.place_of-b.result in
-    let f = c.whole_size-f.result in
-    let isb = c.place_of-b.ensures in
+    let isb = front.is in
     let isf = c.whole_size-f.ensures in
     omega (arith, long, isb, isf)
 
 pub put-requires : goal.put-requires
 put-requires c =
+    let front = found-front old_layer c.args.old.now (sym c.front_size.ensures.0 ∙ c.in_ok-b.was) in
     let a = c.args in
     let m = a.old.now in
-    let held = sym c.has_old_asks.ensures ∙ c.if-not-has_old_asks.false in
+    let held = front.has in
     let long = asked-size old_layer m held in
     let u = a.new.now in
-    let b = c.place_of-b.result in
+    let b = c.in_ok-b.b in
     let f = c.whole_size-f.result in
-    let isb = c.place_of-b.ensures in
+    let isb = front.is in
     let isf = c.whole_size-f.ensures in
     let size : length u ≡ f + group_size * count_in m = let k = c.if-new-f.false in omega (arith, k) in
     let v = c.forward-a.new.new in
@@ -119,35 +111,34 @@ put-requires c =
     let k = same_size f u v (omega (arith, size)) same in
     rw (tail_is b m) (let d = length-drop b m in omega (arith, d, k, size, long, isb, isf))
 
-pub returns-then-is_accepted : goal.returns-then-is_accepted
-returns-then-is_accepted c =
+pub returns-then-is_ok : goal.returns-then-is_ok
+returns-then-is_ok c =
+    let front = found-front old_layer c.args.old.now (sym c.front_size.ensures.0 ∙ c.in_ok-b.was) in
     let a = c.args in
     let m = a.old.now in
-    let held = sym c.has_old_asks.ensures ∙ c.if-not-has_old_asks.false in
-    let long = asked-size old_layer m held in
+    let held = front.has in
     let u = a.new.now in
-    let b = c.place_of-b.result in
+    let b = c.in_ok-b.b in
     let f = c.whole_size-f.result in
-    let isb = c.place_of-b.ensures in
+    let isb = front.is in
     let isf = c.whole_size-f.ensures in
     let size : length u ≡ f + group_size * count_in m = let k = c.if-new-f.false in omega (arith, k) in
     let v = c.forward-a.new.new in
     let same : length v ≡ length (take f u) = search rules in
-    forward-done m u b f isb isf held size _ v c.forward-a.ensures.0 c.forward-a.ensures.1 (sym c.is_accepted.ensures ∙ c.if-is_accepted.true) same _
+    forward-done m u b f isb isf held size _ v c.forward-a.ensures.0 c.forward-a.ensures.1 (sym c.is_ok.ensures.value ∙ c.if-is_ok.true) same _
     (c.put.ensures ∙ ap (λ (l : List ℕ). put_at f l (v ++ drop f u)) (tail_is b m))
 
-pub returns-else-is_accepted : goal.returns-else-is_accepted
-returns-else-is_accepted c =
+pub returns-else-is_ok : goal.returns-else-is_ok
+returns-else-is_ok c =
+    let front = found-front old_layer c.args.old.now (sym c.front_size.ensures.0 ∙ c.in_ok-b.was) in
     let a = c.args in
     let m = a.old.now in
-    let held = sym c.has_old_asks.ensures ∙ c.if-not-has_old_asks.false in
-    let long = asked-size old_layer m held in
+    let held = front.has in
     let u = a.new.now in
-    let b = c.place_of-b.result in
+    let b = c.in_ok-b.b in
     let f = c.whole_size-f.result in
-    let isb = c.place_of-b.ensures in
+    let isb = front.is in
     let isf = c.whole_size-f.ensures in
     let size : length u ≡ f + group_size * count_in m = let k = c.if-new-f.false in omega (arith, k) in
     let v = c.forward-a.new.new in
-    let same : length v ≡ length (take f u) = search rules in
-    forward-not m u b f isb isf held size _ v c.forward-a.ensures.0 c.forward-a.ensures.1 (sym c.is_accepted.ensures ∙ c.if-is_accepted.false)
+    forward-not m u b f isb isf held size _ v c.forward-a.ensures.0 c.forward-a.ensures.1 (sym c.is_ok.ensures.value ∙ c.if-is_ok.false)

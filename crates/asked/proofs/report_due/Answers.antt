@@ -1,25 +1,30 @@
 -- `report_due` meets its contract: the report of the front. Assumes nothing.
 use Prim.Native.Nat.{◌≤◌}
-use mathlib.Core.Path.{sym, ◌∙◌}
+use mathlib.Core.Path.{sym, ap, ◌∙◌}
 use native.Mathlib.Omega.{arith}
 use lib.ListN.{length}
 use lib.Seq.{length-take-le}
 use Rattle.asked.specs.Report.{asked_due}
+use Rattle.std.specs.Prelude.{Err}
+use Rattle.control.proofs.CallLaws.{passed-up}
+use Rattle.asked.specs.Layer.{new_layer}
+use Rattle.asked.proofs.AskedLaws.{found-front, found-none}
 use Rattle.asked.proofs.report_due.Goals as goal
 
-pub returns-then-not-has_asks : goal.returns-then-not-has_asks
+pub returns-in_err-f : goal.returns-in_err-f
 unfolding asked_due
-returns-then-not-has_asks c = rw (sym c.has_asks.ensures ∙ c.if-not-has_asks.true)
-
-pub front_size-f-requires : goal.front_size-f-requires
-front_size-f-requires c = sym c.has_asks.ensures ∙ c.if-not-has_asks.false
+returns-in_err-f c =
+    let none = found-none new_layer c.args.table.now (sym c.front_size.ensures.0 ∙ c.in_err-f.was) in
+    rw (none.0, passed-up _ c.from_residual.ensures.1) (ap Err none.1)
 
 pub slice_bounds-report_due-end : goal.slice_bounds-report_due-end
 slice_bounds-report_due-end c =
+    let front = found-front new_layer c.args.table.now (sym c.front_size.ensures.0 ∙ c.in_ok-f.was) in
     let m = c.args.table.now in
-    let size = c.front_size-f.ensures.1 in let most : c.front_size-f.result ≤ length m = omega (arith, size) in
-    sym (length-take-le c.front_size-f.result m most)
+    sym (length-take-le c.in_ok-f.f m front.most)
 
 pub returns : goal.returns
 unfolding asked_due
-returns c = c.report_due.ensures ∙ rw (sym c.has_asks.ensures ∙ c.if-not-has_asks.false, c.front_size-f.ensures.0)
+returns c =
+    let front = found-front new_layer c.args.table.now (sym c.front_size.ensures.0 ∙ c.in_ok-f.was) in
+    c.report_due.ensures ∙ rw (front.has, front.is)

@@ -12,37 +12,37 @@ use Rattle.table.specs.Layout.{place}
 use Rattle.asks.specs.Group.{group_size}
 use Rattle.control.specs.Accepted.{accepted}
 use Rattle.whole.proofs.CallLaws.{given_back, taken_back}
-use Rattle.asked.proofs.AskedLaws.{tail_is}
+use Rattle.asked.proofs.AskedLaws.{found-front, found-none, tail_is}
 use Rattle.asked.proofs.AskLaws.{port-there}
 use Rattle.asked.proofs.ReportLaws.{report-roomless, reported-short, reported}
 use borrow.Author.Rules.{rules}
+use Rattle.std.specs.Prelude.{Err}
+use Rattle.asked.specs.Layer.{new_layer}
 use Rattle.asked.proofs.report_port.Goals as goal
 
-pub returns-then-not-has_asks : goal.returns-then-not-has_asks
-returns-then-not-has_asks c =
+pub returns-in-Err : goal.returns-in-Err
+returns-in-Err c =
     let a = c.args in
-    report-roomless a.n a.table.now a.«record».now _ (sym c.has_asks.ensures ∙ c.if-not-has_asks.true) c.put_fitting.ensures
-
-pub front_size-f-requires : goal.front_size-f-requires
-front_size-f-requires c = sym c.has_asks.ensures ∙ c.if-not-has_asks.false
+    let none = found-none new_layer a.table.now (sym c.front_size.ensures.0 ∙ c.in-Err.is) in
+    let left = report-roomless a.n a.table.now a.«record».now _ none.0 c.put_fitting.ensures in
+    (ap Err none.1 ∙ left.0, left.1)
 
 pub slice_bounds-report_port-end : goal.slice_bounds-report_port-end
 slice_bounds-report_port-end c =
+    let front = found-front new_layer c.args.table.now (sym c.front_size.ensures.0 ∙ c.in-Ok.is) in
     let m = c.args.table.now in
-    let size = c.front_size-f.ensures.1 in let most : c.front_size-f.result ≤ length m = omega (arith, size) in
-    sym (length-take-le c.front_size-f.result m most)
+    sym (length-take-le c.in-Ok.f m front.most)
 
 pub returns-then-record-lt-WHOLE_RECORD : goal.returns-then-record-lt-WHOLE_RECORD
 returns-then-record-lt-WHOLE_RECORD c =
+    let front = found-front new_layer c.args.table.now (sym c.front_size.ensures.0 ∙ c.in-Ok.is) in
     let a = c.args in
     let m = a.table.now in
-    let f = c.front_size-f.result in
-    let isf = c.front_size-f.ensures.0 in
-    let size = c.front_size-f.ensures.1 in
-    let most : f ≤ length m = omega (arith, size) in
+    let f = c.in-Ok.f in
+    let isf = front.is in
     let n = a.n in
     let l = a.«record».now in
-    let held = sym c.has_asks.ensures ∙ c.if-not-has_asks.false in
+    let held = front.has in
     let told = c.report_port-a.ensures.0 in
     let first = c.report_port-a.ensures.1 in
     let r = c.report_port-a.new.«record» in
@@ -51,68 +51,64 @@ returns-then-record-lt-WHOLE_RECORD c =
 
 pub overflow_sub-i : goal.overflow_sub-i
 overflow_sub-i c =
+    let front = found-front new_layer c.args.table.now (sym c.front_size.ensures.0 ∙ c.in-Ok.is) in
     let a = c.args in
     let m = a.table.now in
-    let f = c.front_size-f.result in
-    let isf = c.front_size-f.ensures.0 in
-    let size = c.front_size-f.ensures.1 in
-    let most : f ≤ length m = omega (arith, size) in
+    let f = c.in-Ok.f in
+    let isf = front.is in
     let n = a.n in
-    let done = sym c.is_accepted.ensures ∙ c.if-is_accepted.true in
+    let done = sym c.is_ok.ensures.value ∙ c.if-is_ok.true in
     let there = port-there n m f (place (count_in m)) isf refl (sym (ap accepted c.report_port-a.ensures.0) ∙ done) in
     let some = there.some in
-    let few = there.most in
     some
 
 pub group_at-requires : goal.group_at-requires
 group_at-requires c =
+    let front = found-front new_layer c.args.table.now (sym c.front_size.ensures.0 ∙ c.in-Ok.is) in
     let a = c.args in
     let m = a.table.now in
-    let f = c.front_size-f.result in
-    let isf = c.front_size-f.ensures.0 in
-    let size = c.front_size-f.ensures.1 in
-    let most : f ≤ length m = omega (arith, size) in
+    let f = c.in-Ok.f in
+    let isf = front.is in
+    let size = front.size in
     let n = a.n in
-    let done = sym c.is_accepted.ensures ∙ c.if-is_accepted.true in
+    let done = sym c.is_ok.ensures.value ∙ c.if-is_ok.true in
     let there = port-there n m f (place (count_in m)) isf refl (sym (ap accepted c.report_port-a.ensures.0) ∙ done) in
     let some = there.some in
     let few = there.most in
     rw (tail_is f m) (let d = length-drop f m in omega (arith, d, size, some, few))
 
-pub returns-then-is_accepted : goal.returns-then-is_accepted
-returns-then-is_accepted c =
+pub returns-then-is_ok : goal.returns-then-is_ok
+returns-then-is_ok c =
+    let front = found-front new_layer c.args.table.now (sym c.front_size.ensures.0 ∙ c.in-Ok.is) in
     let a = c.args in
     let m = a.table.now in
-    let f = c.front_size-f.result in
-    let isf = c.front_size-f.ensures.0 in
-    let size = c.front_size-f.ensures.1 in
-    let most : f ≤ length m = omega (arith, size) in
+    let f = c.in-Ok.f in
+    let isf = front.is in
     let n = a.n in
     let l = a.«record».now in
-    let held = sym c.has_asks.ensures ∙ c.if-not-has_asks.false in
+    let held = front.has in
     let told = c.report_port-a.ensures.0 in
     let first = c.report_port-a.ensures.1 in
     let r = c.report_port-a.new.«record» in
     let kept : length r ≡ length l = search rules in
-    let done = sym c.is_accepted.ensures ∙ c.if-is_accepted.true in
-    reported n m l held f isf _ _ told first _ _ (let h = c.if-record-lt-WHOLE_RECORD.false in omega (arith, h, kept)) (ap (λ (x : List ℕ). put_mid 71 (length r - 71) r x) c.put_fitting-then-is_accepted.ensures)
+    let done = sym c.is_ok.ensures.value ∙ c.if-is_ok.true in
+    reported n m l held f isf _ _ told first _ _ (let h = c.if-record-lt-WHOLE_RECORD.false in omega (arith, h, kept)) (ap (λ (x : List ℕ). put_mid 71 (length r - 71) r x) c.put_fitting-then-is_ok.ensures)
     (c.group_at.ensures.0 ∙ ap (λ (x : List ℕ). row_at group_size x (n - 1)) (tail_is f m) ∙ sym (given_back _ _ c.report_port-a.result done))
 
 pub returns : goal.returns
 returns c =
+    let front = found-front new_layer c.args.table.now (sym c.front_size.ensures.0 ∙ c.in-Ok.is) in
     let a = c.args in
     let m = a.table.now in
-    let f = c.front_size-f.result in
-    let isf = c.front_size-f.ensures.0 in
-    let size = c.front_size-f.ensures.1 in
-    let most : f ≤ length m = omega (arith, size) in
+    let f = c.in-Ok.f in
+    let isf = front.is in
     let n = a.n in
     let l = a.«record».now in
-    let held = sym c.has_asks.ensures ∙ c.if-not-has_asks.false in
+    let held = front.has in
     let told = c.report_port-a.ensures.0 in
     let first = c.report_port-a.ensures.1 in
     let r = c.report_port-a.new.«record» in
     let kept : length r ≡ length l = search rules in
-    let not_done = sym c.is_accepted.ensures ∙ c.if-is_accepted.false in
+    let not_done = sym c.is_ok.ensures.value ∙ c.if-is_ok.false in
     reported n m l held f isf _ _ told first _ _ (let h = c.if-record-lt-WHOLE_RECORD.false in omega (arith, h, kept)) (ap (λ (x : List ℕ). put_mid 71 (length r - 71) r x) c.put_fitting-2.ensures)
     (sym (taken_back _ _ c.report_port-a.result not_done))

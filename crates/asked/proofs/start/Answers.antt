@@ -24,7 +24,6 @@ whole_size-f-requires c =
     let a = c.args in
     let m = a.table.now in
     let room = sym c.is_room.ensures ∙ c.if-not-is_room.false in
-    let size = room-size new_layer m a.count room in
     let few = room-few new_layer m a.count room in omega (arith, few)
 
 pub slice_bounds-start-end : goal.slice_bounds-start-end
@@ -74,4 +73,4 @@ returns c =
     let u = c.start-a.new.table in
     let same : length u ≡ length (take f m) = search rules in
     finished (call.start a.count a.system a.delay a.settings) m f isf room _ u _ _ refl c.start-a.ensures.0 c.start-a.ensures.1 (λ i. cond (accepted (c.start-a.ensures.0 i)) (all_begun a.count) (drop f m))
-    (c.begin_if.ensures ∙ (λ i. new-front f m u most same i ++ cond (c.is_accepted.ensures i) (all_begun a.count) (old_tail f m u most same i)))
+    (c.begin_if.ensures ∙ (λ i. new-front f m u most same i ++ cond (c.is_ok.ensures.value i) (all_begun a.count) (old_tail f m u most same i)))
