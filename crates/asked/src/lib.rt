@@ -31,6 +31,7 @@ use frame::block::{Address, SystemId};
 use frame::class::FRAME;
 use frame::wire::{MarkerType, TensOfMicroseconds};
 use machine::states::Line;
+use octets::InOctets;
 use report::Sets;
 use settings::Settings;
 use table::layout::place_of;
@@ -128,13 +129,12 @@ pub fn tick(table: &mut [u8]) -> Answer
 }
 
 // Requester port, requester system and transaction of a Marker, as octets.
-fn write_request(out: &mut [u8], n: u16, system: Address, number: u32)
-    requires { length out.old ≡ 12 }
+fn write_request(out: &mut [u8; 12], n: u16, system: Address, number: u32)
     ensures { out.new ≡ request_of n system number }
 {
     octets::put_number(out, 0, n);
     system.write(out, 2);
-    octets::longs::put_long(out, 8, number);
+    octets::put_number(out, 8, number);
 }
 
 // Whether a Response on port n brings back what the port awaits. Header and records are the first `b` octets, and the groups lie behind `f`.
@@ -193,13 +193,14 @@ fn falls(base: &[u8], n: u32, line: Line) -> bool
     requires { length base.now ≡ place (count_in base.now) }
     ensures { is_number base.now n ≡ true → result ≡ falls_from (port_at base.now (n - 1)).line line }
 {
-    if !(1..=u32::from(base[0])).contains(&n) {
-        return false;
+    match whole::record_of(base, n) {
+        Some(record) => {
+            let before = table::record::line_in(record);
+            let same = line == before;
+            before.up & !same
+        }
+        None => false,
     }
-    let i = n - 1;
-    let before = table::record::line_in(table::record_at(base, i as usize));
-    let same = line == before;
-    before.up & !same
 }
 
 // The link of port n is up or down now, and its duplex full or half.

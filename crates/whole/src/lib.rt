@@ -2,10 +2,11 @@
 // the churn detection machines then run.
 #![tactic(auto)]
 
-ghost use Rattle.std.specs.Prelude.{◌≡◌, ◌-◌, ◌≤◌, true, length, IfOk};
+ghost use Rattle.std.specs.Prelude.{◌≡◌, ◌-◌, ◌≤◌, true, length, is_some, IfOk, IfSome};
 ghost use Rattle.machine.specs.States.{same_line};
 ghost use Rattle.settings.specs.Settings.{same_settings};
 ghost use Rattle.table.specs.Layout.{place};
+ghost use Rattle.table.specs.Record.{decoded};
 ghost use Rattle.table.specs.Table.{count_in, port_at};
 ghost use Rattle.churn.specs.Whole.{whole_size};
 ghost use Rattle.control.specs.Call.{start as call_start, receive as call_receive, tick as call_tick, line as call_line, configure as call_configure, fetch as call_fetch};
@@ -76,16 +77,27 @@ pub fn fetch(table: &mut [u8], n: u32, out: &mut [u8]) -> Answer
     control::fetch(&mut table[..b], n, out)
 }
 
+// The record of port n of a table without monitors, if there is one.
+pub fn record_of(base: &[u8], n: u32) -> Option<&[u8; RECORD]>
+    requires { length base.now ≡ place (count_in base.now) }
+    ensures { (is_some result ≡ is_number base.now n) × IfSome result (λ r. decoded r.now ≡ port_at base.now (n - 1)) }
+{
+    if !(1..=u32::from(base[0])).contains(&n) {
+        return None;
+    }
+    let i = n - 1;
+    Some(table::record_at(base, i as usize))
+}
+
 // Whether port n, if there is one, has this line.
 fn has_line(table: &[u8], n: u32, line: Line) -> bool
     requires { length table.now ≡ place (count_in table.now) }
     ensures { is_number table.now n ≡ true → result ≡ same_line line (port_at table.now (n - 1)).line }
 {
-    if !(1..=u32::from(table[0])).contains(&n) {
-        return false;
+    match record_of(table, n) {
+        Some(record) => line == table::record::line_in(record),
+        None => false,
     }
-    let i = n - 1;
-    line == table::record::line_in(table::record_at(table, i as usize))
 }
 
 // Whether port n, if there is one, has these settings.
@@ -93,11 +105,10 @@ fn has_settings(table: &[u8], n: u32, settings: Settings) -> bool
     requires { length table.now ≡ place (count_in table.now) }
     ensures { is_number table.now n ≡ true → result ≡ same_settings settings (port_at table.now (n - 1)) }
 {
-    if !(1..=u32::from(table[0])).contains(&n) {
-        return false;
+    match record_of(table, n) {
+        Some(record) => settings.is_held(table::record::read_record(record)),
+        None => false,
     }
-    let i = n - 1;
-    settings.is_held(table::record::read_record(table::record_at(table, i as usize)))
 }
 
 // The link of port n is up or down now, and its duplex full or half.

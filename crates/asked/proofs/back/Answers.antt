@@ -28,10 +28,7 @@ returns-in_err-f c =
 pub bounds-new-0 : goal.bounds-new-0
 bounds-new-0 c =
     let front = found-front new_layer c.args.new.now (sym c.front_size.ensures.0 ∙ c.in_ok-f.was) in
-    let a = c.args in
-    let m = a.new.now in
-    let held = front.has in
-    let long = asked-size new_layer m held in
+    let long = asked-size new_layer c.args.new.now front.has in
     omega (arith, long)
 
 pub place_of-b-requires : goal.place_of-b-requires
@@ -42,88 +39,63 @@ returns-then-old-b c =
     let front = found-front new_layer c.args.new.now (sym c.front_size.ensures.0 ∙ c.in_ok-f.was) in
     let a = c.args in
     let m = a.new.now in
-    let held = front.has in
     let u = a.old.now in
-    let isb = c.place_of-b.ensures in
-    let isf = front.is in
-    back-refused m u (rw (held, ne_eqb (length u) (asked_size old_layer (count_in m)) (λ e. let k = c.if-old-b.true in omega (arith, k, e, isb, isf))) (and-false (is_new (front_of new_layer m))))
+    back-refused m u (rw (front.has, ne_eqb (length u) (asked_size old_layer (count_in m)) (λ e. let k = c.if-old-b.true in omega (arith, k, e, c.place_of-b.ensures, front.is))) (and-false (is_new (front_of new_layer m))))
 
 pub slice_bounds-back-end : goal.slice_bounds-back-end
 slice_bounds-back-end c =
     let front = found-front new_layer c.args.new.now (sym c.front_size.ensures.0 ∙ c.in_ok-f.was) in
-    let a = c.args in
-    let m = a.new.now in
-    let held = front.has in
-    let long = asked-size new_layer m held in
-    let f = c.in_ok-f.f in
-    let isb = c.place_of-b.ensures in
-    let isf = front.is in
-    sym (length-take-le f m (omega (arith, long, isb, isf)))
+    let m = c.args.new.now in
+    let long = asked-size new_layer m front.has in
+    sym (length-take-le c.in_ok-f.f m (omega (arith, long, c.place_of-b.ensures, front.is)))
 
 pub slice_bounds-back-end-3 : goal.slice_bounds-back-end-3
 slice_bounds-back-end-3 c =
     let a = c.args in
-    let m = a.new.now in
     let u = a.old.now in
     let b = c.place_of-b.result in
-    let size : length u ≡ b + group_size * count_in m = let k = c.if-old-b.false in omega (arith, k) in
+    let size : length u ≡ b + group_size * count_in a.new.now = let k = c.if-old-b.false in omega (arith, k) in
     sym (length-take-le b u (omega (arith, size)))
 
 pub slice_bounds-put-count : goal.slice_bounds-put-count
 slice_bounds-put-count c =
     let front = found-front new_layer c.args.new.now (sym c.front_size.ensures.0 ∙ c.in_ok-f.was) in
-    let a = c.args in
-    let m = a.new.now in
-    let held = front.has in
-    let long = asked-size new_layer m held in
-    let isb = c.place_of-b.ensures in
-    let isf = front.is in
-    omega (arith, long, isb, isf)
+    let long = asked-size new_layer c.args.new.now front.has in
+    omega (arith, long, c.place_of-b.ensures, front.is)
 
 pub slice_bounds-put-start : goal.slice_bounds-put-start
 slice_bounds-put-start c =
     let front = found-front new_layer c.args.new.now (sym c.front_size.ensures.0 ∙ c.in_ok-f.was) in
-    let a = c.args in
-    let m = a.new.now in
-    let held = front.has in
-    let long = asked-size new_layer m held in
-    let isb = c.place_of-b.ensures in
-    let isf = front.is in
-    omega (arith, long, isb, isf)
+    let long = asked-size new_layer c.args.new.now front.has in
+    omega (arith, long, c.place_of-b.ensures, front.is)
 
 pub put-requires : goal.put-requires
 put-requires c =
     let front = found-front new_layer c.args.new.now (sym c.front_size.ensures.0 ∙ c.in_ok-f.was) in
     let a = c.args in
     let m = a.new.now in
-    let held = front.has in
-    let long = asked-size new_layer m held in
+    let long = asked-size new_layer m front.has in
     let u = a.old.now in
     let b = c.place_of-b.result in
     let f = c.in_ok-f.f in
-    let isb = c.place_of-b.ensures in
-    let isf = front.is in
     let size : length u ≡ b + group_size * count_in m = let k = c.if-old-b.false in omega (arith, k) in
     let v = c.back-a.new.old in
     let same : length v ≡ length (take b u) = search rules in
     let k = same_size b u v (omega (arith, size)) same in
-    rw (tail_is f m) (let d = length-drop f m in omega (arith, d, k, size, long, isb, isf))
+    rw (tail_is f m) (let d = length-drop f m in omega (arith, d, k, size, long, c.place_of-b.ensures, front.is))
 
 pub returns-then-is_ok : goal.returns-then-is_ok
 returns-then-is_ok c =
     let front = found-front new_layer c.args.new.now (sym c.front_size.ensures.0 ∙ c.in_ok-f.was) in
     let a = c.args in
     let m = a.new.now in
-    let held = front.has in
     let u = a.old.now in
     let b = c.place_of-b.result in
     let f = c.in_ok-f.f in
-    let isb = c.place_of-b.ensures in
-    let isf = front.is in
     let size : length u ≡ b + group_size * count_in m = let k = c.if-old-b.false in omega (arith, k) in
     let v = c.back-a.new.old in
     let same : length v ≡ length (take b u) = search rules in
-    back_done m u b f isb isf held size _ v c.back-a.ensures.0 c.back-a.ensures.1 (sym c.is_ok.ensures.value ∙ c.if-is_ok.true) same _
+    back_done m u b f c.place_of-b.ensures front.is front.has size _ v c.back-a.ensures.0 c.back-a.ensures.1 (sym c.is_ok.ensures.value ∙ c.if-is_ok.true) same _
     (c.put.ensures ∙ ap (λ (l : List ℕ). put_at b l (v ++ drop b u)) (tail_is f m))
 
 pub returns-else-is_ok : goal.returns-else-is_ok
@@ -131,12 +103,7 @@ returns-else-is_ok c =
     let front = found-front new_layer c.args.new.now (sym c.front_size.ensures.0 ∙ c.in_ok-f.was) in
     let a = c.args in
     let m = a.new.now in
-    let held = front.has in
     let u = a.old.now in
     let b = c.place_of-b.result in
-    let f = c.in_ok-f.f in
-    let isb = c.place_of-b.ensures in
-    let isf = front.is in
     let size : length u ≡ b + group_size * count_in m = let k = c.if-old-b.false in omega (arith, k) in
-    let v = c.back-a.new.old in
-    back-not m u b f isb isf held size _ v c.back-a.ensures.0 c.back-a.ensures.1 (sym c.is_ok.ensures.value ∙ c.if-is_ok.false)
+    back-not m u b c.in_ok-f.f c.place_of-b.ensures front.is front.has size _ c.back-a.new.old c.back-a.ensures.0 c.back-a.ensures.1 (sym c.is_ok.ensures.value ∙ c.if-is_ok.false)

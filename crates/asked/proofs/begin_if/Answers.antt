@@ -12,10 +12,9 @@ pub returns-then-begins : goal.returns-then-begins
 returns-then-begins c =
     let a = c.args in
     let m = a.table.now in
-    let pre = c.requires in
     let size : length c.begin_all.new.groups ≡ length m - a.f = search rules in
     rw c.if-begins.true
-    (tail_put a.f m _ (omega (arith, pre)) size ∙ ap (λ (l : List ℕ). take a.f m ++ l) c.begin_all.ensures)
+    (tail_put a.f m _ (omega (arith, c.requires)) size ∙ ap (λ (l : List ℕ). take a.f m ++ l) c.begin_all.ensures)
 
 pub returns-else-begins : goal.returns-else-begins
 returns-else-begins c =

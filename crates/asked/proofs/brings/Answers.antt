@@ -29,5 +29,5 @@ returns c =
     let m = a.table.now in
     let q-is : c.at-a.result ≡ ask_at (drop a.f m) (a.n - 1) = c.at-a.ensures ∙ ap (λ (l : List ℕ). ask_at l (a.n - 1)) (tail_is a.f m) in
     let waits : is_awaiting (ask_at (drop a.f m) (a.n - 1)).outcome ≡ true = ap (λ (x : Ask). is_awaiting x.outcome) (sym q-is) ∙ sym c.is_awaiting.ensures ∙ c.if-not-is_awaiting.false in
-    rw waits (c.same.ensures ∙ (λ i. same_octets (c.request.ensures.0 i) (c.write_request.ensures i)) ∙ (λ i. same_octets (request_part a.frame.now) (request_of a.n (c.read_header-header.ensures i).system.address (c.awaited.ensures i)))
+    rw waits (c.same.ensures ∙ (λ i. same_octets (c.request.ensures i) (c.write_request.ensures i)) ∙ (λ i. same_octets (request_part a.frame.now) (request_of a.n (c.read_header-header.ensures i).system.address (c.awaited.ensures i)))
     ∙ ap (λ (x : Ask). same_octets (request_part a.frame.now) (request_of a.n (ours (take a.b m)).system.address (awaited x))) q-is)

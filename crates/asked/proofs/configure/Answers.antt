@@ -1,8 +1,5 @@
 -- `configure` meets its contract: the call on the front. Assumes nothing.
-use Prim.Native.Nat.{◌≤◌}
 use mathlib.Core.Path.{refl, sym, ◌∙◌}
-use native.Mathlib.Omega.{arith}
-use lib.ListN.{length}
 use lib.Seq.{length-take-le}
 use Rattle.control.specs.Call as call
 use Rattle.asked.proofs.AskedLaws.{unfound, found-front, finished}
@@ -15,8 +12,7 @@ returns-in_err-f c = unfound (call.configure c.args.n c.args.settings) c.args.ta
 pub slice_bounds-configure-end-2 : goal.slice_bounds-configure-end-2
 slice_bounds-configure-end-2 c =
     let front = found-front new_layer c.args.table.now (sym c.front_size.ensures.0 ∙ c.in_ok-f.was) in
-    let m = c.args.table.now in
-    sym (length-take-le c.in_ok-f.f m front.most)
+    sym (length-take-le c.in_ok-f.f c.args.table.now front.most)
 
 pub returns : goal.returns
 returns c =

@@ -13,8 +13,7 @@ pub returns : goal.returns
 returns c =
     let a = c.args in
     let m = a.table.now in
-    let pre = c.requires in
     let size : length c.store.new.groups ≡ length m - a.f = search rules in
-    tail_put a.f m _ (omega (arith, pre)) size
+    tail_put a.f m _ (omega (arith, c.requires)) size
     ∙ ap (λ (l : List ℕ). take a.f m ++ l)
     (c.store.ensures ∙ rw (c.end.ensures, c.at-a.ensures) (ap (λ (l : List ℕ). ended_at a.outcome a.i l) (tail_is a.f m)))

@@ -13,10 +13,9 @@ pub returns-then-falls : goal.returns-then-falls
 returns-then-falls c =
     let a = c.args in
     let m = a.table.now in
-    let pre = c.requires in
     let size : length c.fall_all.new.groups ≡ length m - a.f = search rules in
     rw c.if-falls.true
-    (tail_put a.f m _ (omega (arith, pre)) size ∙ ap (λ (l : List ℕ). take a.f m ++ l) (c.fall_all.ensures ∙ ap (λ (l : List ℕ). all_fallen a.n l) (tail_is a.f m)))
+    (tail_put a.f m _ (omega (arith, c.requires)) size ∙ ap (λ (l : List ℕ). take a.f m ++ l) (c.fall_all.ensures ∙ ap (λ (l : List ℕ). all_fallen a.n l) (tail_is a.f m)))
 
 pub returns-else-falls : goal.returns-else-falls
 returns-else-falls c =

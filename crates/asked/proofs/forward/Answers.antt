@@ -27,10 +27,7 @@ returns-in_err-b c =
 pub bounds-old-0 : goal.bounds-old-0
 bounds-old-0 c =
     let front = found-front old_layer c.args.old.now (sym c.front_size.ensures.0 ∙ c.in_ok-b.was) in
-    let a = c.args in
-    let m = a.old.now in
-    let held = front.has in
-    let long = asked-size old_layer m held in
+    let long = asked-size old_layer c.args.old.now front.has in
     omega (arith, long)
 
 pub whole_size-f-requires : goal.whole_size-f-requires
@@ -44,88 +41,63 @@ returns-then-new-f c =
     let front = found-front old_layer c.args.old.now (sym c.front_size.ensures.0 ∙ c.in_ok-b.was) in
     let a = c.args in
     let m = a.old.now in
-    let held = front.has in
     let u = a.new.now in
-    let isb = front.is in
-    let isf = c.whole_size-f.ensures in
-    forward-refused m u (rw (held, ne_eqb (length u) (asked_size new_layer (count_in m)) (λ e. let k = c.if-new-f.true in omega (arith, k, e, isb, isf))) (and-false (table_in_range (front_of old_layer m))))
+    forward-refused m u (rw (front.has, ne_eqb (length u) (asked_size new_layer (count_in m)) (λ e. let k = c.if-new-f.true in omega (arith, k, e, front.is, c.whole_size-f.ensures))) (and-false (table_in_range (front_of old_layer m))))
 
 pub slice_bounds-forward-end : goal.slice_bounds-forward-end
 slice_bounds-forward-end c =
     let front = found-front old_layer c.args.old.now (sym c.front_size.ensures.0 ∙ c.in_ok-b.was) in
-    let a = c.args in
-    let m = a.old.now in
-    let held = front.has in
-    let long = asked-size old_layer m held in
-    let b = c.in_ok-b.b in
-    let isb = front.is in
-    let isf = c.whole_size-f.ensures in
-    sym (length-take-le b m (omega (arith, long, isb, isf)))
+    let m = c.args.old.now in
+    let long = asked-size old_layer m front.has in
+    sym (length-take-le c.in_ok-b.b m (omega (arith, long, front.is, c.whole_size-f.ensures)))
 
 pub slice_bounds-forward-end-3 : goal.slice_bounds-forward-end-3
 slice_bounds-forward-end-3 c =
     let a = c.args in
-    let m = a.old.now in
     let u = a.new.now in
     let f = c.whole_size-f.result in
-    let size : length u ≡ f + group_size * count_in m = let k = c.if-new-f.false in omega (arith, k) in
+    let size : length u ≡ f + group_size * count_in a.old.now = let k = c.if-new-f.false in omega (arith, k) in
     sym (length-take-le f u (omega (arith, size)))
 
 pub slice_bounds-put-count : goal.slice_bounds-put-count
 slice_bounds-put-count c =
     let front = found-front old_layer c.args.old.now (sym c.front_size.ensures.0 ∙ c.in_ok-b.was) in
-    let a = c.args in
-    let m = a.old.now in
-    let held = front.has in
-    let long = asked-size old_layer m held in
-    let isb = front.is in
-    let isf = c.whole_size-f.ensures in
-    omega (arith, long, isb, isf)
+    let long = asked-size old_layer c.args.old.now front.has in
+    omega (arith, long, front.is, c.whole_size-f.ensures)
 
 pub slice_bounds-put-start : goal.slice_bounds-put-start
 slice_bounds-put-start c =
     let front = found-front old_layer c.args.old.now (sym c.front_size.ensures.0 ∙ c.in_ok-b.was) in
-    let a = c.args in
-    let m = a.old.now in
-    let held = front.has in
-    let long = asked-size old_layer m held in
-    let isb = front.is in
-    let isf = c.whole_size-f.ensures in
-    omega (arith, long, isb, isf)
+    let long = asked-size old_layer c.args.old.now front.has in
+    omega (arith, long, front.is, c.whole_size-f.ensures)
 
 pub put-requires : goal.put-requires
 put-requires c =
     let front = found-front old_layer c.args.old.now (sym c.front_size.ensures.0 ∙ c.in_ok-b.was) in
     let a = c.args in
     let m = a.old.now in
-    let held = front.has in
-    let long = asked-size old_layer m held in
+    let long = asked-size old_layer m front.has in
     let u = a.new.now in
     let b = c.in_ok-b.b in
     let f = c.whole_size-f.result in
-    let isb = front.is in
-    let isf = c.whole_size-f.ensures in
     let size : length u ≡ f + group_size * count_in m = let k = c.if-new-f.false in omega (arith, k) in
     let v = c.forward-a.new.new in
     let same : length v ≡ length (take f u) = search rules in
     let k = same_size f u v (omega (arith, size)) same in
-    rw (tail_is b m) (let d = length-drop b m in omega (arith, d, k, size, long, isb, isf))
+    rw (tail_is b m) (let d = length-drop b m in omega (arith, d, k, size, long, front.is, c.whole_size-f.ensures))
 
 pub returns-then-is_ok : goal.returns-then-is_ok
 returns-then-is_ok c =
     let front = found-front old_layer c.args.old.now (sym c.front_size.ensures.0 ∙ c.in_ok-b.was) in
     let a = c.args in
     let m = a.old.now in
-    let held = front.has in
     let u = a.new.now in
     let b = c.in_ok-b.b in
     let f = c.whole_size-f.result in
-    let isb = front.is in
-    let isf = c.whole_size-f.ensures in
     let size : length u ≡ f + group_size * count_in m = let k = c.if-new-f.false in omega (arith, k) in
     let v = c.forward-a.new.new in
     let same : length v ≡ length (take f u) = search rules in
-    forward-done m u b f isb isf held size _ v c.forward-a.ensures.0 c.forward-a.ensures.1 (sym c.is_ok.ensures.value ∙ c.if-is_ok.true) same _
+    forward-done m u b f front.is c.whole_size-f.ensures front.has size _ v c.forward-a.ensures.0 c.forward-a.ensures.1 (sym c.is_ok.ensures.value ∙ c.if-is_ok.true) same _
     (c.put.ensures ∙ ap (λ (l : List ℕ). put_at f l (v ++ drop f u)) (tail_is b m))
 
 pub returns-else-is_ok : goal.returns-else-is_ok
@@ -133,12 +105,7 @@ returns-else-is_ok c =
     let front = found-front old_layer c.args.old.now (sym c.front_size.ensures.0 ∙ c.in_ok-b.was) in
     let a = c.args in
     let m = a.old.now in
-    let held = front.has in
     let u = a.new.now in
-    let b = c.in_ok-b.b in
     let f = c.whole_size-f.result in
-    let isb = front.is in
-    let isf = c.whole_size-f.ensures in
     let size : length u ≡ f + group_size * count_in m = let k = c.if-new-f.false in omega (arith, k) in
-    let v = c.forward-a.new.new in
-    forward-not m u b f isb isf held size _ v c.forward-a.ensures.0 c.forward-a.ensures.1 (sym c.is_ok.ensures.value ∙ c.if-is_ok.false)
+    forward-not m u c.in_ok-b.b f front.is c.whole_size-f.ensures front.has size _ c.forward-a.new.new c.forward-a.ensures.0 c.forward-a.ensures.1 (sym c.is_ok.ensures.value ∙ c.if-is_ok.false)

@@ -1,8 +1,5 @@
 -- `report_due` meets its contract: the report of the front. Assumes nothing.
-use Prim.Native.Nat.{◌≤◌}
 use mathlib.Core.Path.{sym, ap, ◌∙◌}
-use native.Mathlib.Omega.{arith}
-use lib.ListN.{length}
 use lib.Seq.{length-take-le}
 use Rattle.asked.specs.Report.{asked_due}
 use Rattle.std.specs.Prelude.{Err}
@@ -20,8 +17,7 @@ returns-in_err-f c =
 pub slice_bounds-report_due-end : goal.slice_bounds-report_due-end
 slice_bounds-report_due-end c =
     let front = found-front new_layer c.args.table.now (sym c.front_size.ensures.0 ∙ c.in_ok-f.was) in
-    let m = c.args.table.now in
-    sym (length-take-le c.in_ok-f.f m front.most)
+    sym (length-take-le c.in_ok-f.f c.args.table.now front.most)
 
 pub returns : goal.returns
 unfolding asked_due

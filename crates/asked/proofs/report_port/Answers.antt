@@ -1,5 +1,5 @@
 -- `report_port` meets its contract: the record of the front, and behind it the group or zeros. Assumes nothing.
-use Prim.Native.Nat.{ℕ, ◌-◌, ◌≤◌}
+use Prim.Native.Nat.{ℕ, ◌-◌}
 use mathlib.Core.Path.{◌≡◌, refl, sym, ap, ◌∙◌}
 use mathlib.Core.List.{List}
 use native.Mathlib.Omega.{arith}
@@ -30,37 +30,24 @@ returns-in-Err c =
 pub slice_bounds-report_port-end : goal.slice_bounds-report_port-end
 slice_bounds-report_port-end c =
     let front = found-front new_layer c.args.table.now (sym c.front_size.ensures.0 ∙ c.in-Ok.is) in
-    let m = c.args.table.now in
-    sym (length-take-le c.in-Ok.f m front.most)
+    sym (length-take-le c.in-Ok.f c.args.table.now front.most)
 
 pub returns-then-record-lt-WHOLE_RECORD : goal.returns-then-record-lt-WHOLE_RECORD
 returns-then-record-lt-WHOLE_RECORD c =
     let front = found-front new_layer c.args.table.now (sym c.front_size.ensures.0 ∙ c.in-Ok.is) in
     let a = c.args in
-    let m = a.table.now in
-    let f = c.in-Ok.f in
-    let isf = front.is in
-    let n = a.n in
     let l = a.«record».now in
-    let held = front.has in
-    let told = c.report_port-a.ensures.0 in
-    let first = c.report_port-a.ensures.1 in
-    let r = c.report_port-a.new.«record» in
-    let kept : length r ≡ length l = search rules in
-    reported-short n m l held f isf _ _ told first (let h = c.if-record-lt-WHOLE_RECORD.true in omega (arith, h, kept))
+    let kept : length c.report_port-a.new.«record» ≡ length l = search rules in
+    reported-short a.n a.table.now l front.has c.in-Ok.f front.is _ _ c.report_port-a.ensures.0 c.report_port-a.ensures.1 (let h = c.if-record-lt-WHOLE_RECORD.true in omega (arith, h, kept))
 
 pub overflow_sub-i : goal.overflow_sub-i
 overflow_sub-i c =
     let front = found-front new_layer c.args.table.now (sym c.front_size.ensures.0 ∙ c.in-Ok.is) in
     let a = c.args in
     let m = a.table.now in
-    let f = c.in-Ok.f in
-    let isf = front.is in
-    let n = a.n in
     let done = sym c.is_ok.ensures.value ∙ c.if-is_ok.true in
-    let there = port-there n m f (place (count_in m)) isf refl (sym (ap accepted c.report_port-a.ensures.0) ∙ done) in
-    let some = there.some in
-    some
+    let there = port-there a.n m c.in-Ok.f (place (count_in m)) front.is refl (sym (ap accepted c.report_port-a.ensures.0) ∙ done) in
+    there.some
 
 pub group_at-requires : goal.group_at-requires
 group_at-requires c =
@@ -68,14 +55,9 @@ group_at-requires c =
     let a = c.args in
     let m = a.table.now in
     let f = c.in-Ok.f in
-    let isf = front.is in
-    let size = front.size in
-    let n = a.n in
     let done = sym c.is_ok.ensures.value ∙ c.if-is_ok.true in
-    let there = port-there n m f (place (count_in m)) isf refl (sym (ap accepted c.report_port-a.ensures.0) ∙ done) in
-    let some = there.some in
-    let few = there.most in
-    rw (tail_is f m) (let d = length-drop f m in omega (arith, d, size, some, few))
+    let there = port-there a.n m f (place (count_in m)) front.is refl (sym (ap accepted c.report_port-a.ensures.0) ∙ done) in
+    rw (tail_is f m) (let d = length-drop f m in omega (arith, d, front.size, there.some, there.most))
 
 pub returns-then-is_ok : goal.returns-then-is_ok
 returns-then-is_ok c =
@@ -83,32 +65,21 @@ returns-then-is_ok c =
     let a = c.args in
     let m = a.table.now in
     let f = c.in-Ok.f in
-    let isf = front.is in
     let n = a.n in
     let l = a.«record».now in
-    let held = front.has in
-    let told = c.report_port-a.ensures.0 in
-    let first = c.report_port-a.ensures.1 in
     let r = c.report_port-a.new.«record» in
     let kept : length r ≡ length l = search rules in
     let done = sym c.is_ok.ensures.value ∙ c.if-is_ok.true in
-    reported n m l held f isf _ _ told first _ _ (let h = c.if-record-lt-WHOLE_RECORD.false in omega (arith, h, kept)) (ap (λ (x : List ℕ). put_mid 71 (length r - 71) r x) c.put_fitting-then-is_ok.ensures)
-    (c.group_at.ensures.0 ∙ ap (λ (x : List ℕ). row_at group_size x (n - 1)) (tail_is f m) ∙ sym (given_back _ _ c.report_port-a.result done))
+    reported n m l front.has f front.is _ _ c.report_port-a.ensures.0 c.report_port-a.ensures.1 _ _ (let h = c.if-record-lt-WHOLE_RECORD.false in omega (arith, h, kept)) (ap (λ (x : List ℕ). put_mid 71 (length r - 71) r x) c.put_fitting-then-is_ok.ensures)
+    (c.group_at.ensures ∙ ap (λ (x : List ℕ). row_at group_size x (n - 1)) (tail_is f m) ∙ sym (given_back _ _ c.report_port-a.result done))
 
 pub returns : goal.returns
 returns c =
     let front = found-front new_layer c.args.table.now (sym c.front_size.ensures.0 ∙ c.in-Ok.is) in
     let a = c.args in
-    let m = a.table.now in
-    let f = c.in-Ok.f in
-    let isf = front.is in
-    let n = a.n in
     let l = a.«record».now in
-    let held = front.has in
-    let told = c.report_port-a.ensures.0 in
-    let first = c.report_port-a.ensures.1 in
     let r = c.report_port-a.new.«record» in
     let kept : length r ≡ length l = search rules in
     let not_done = sym c.is_ok.ensures.value ∙ c.if-is_ok.false in
-    reported n m l held f isf _ _ told first _ _ (let h = c.if-record-lt-WHOLE_RECORD.false in omega (arith, h, kept)) (ap (λ (x : List ℕ). put_mid 71 (length r - 71) r x) c.put_fitting-2.ensures)
+    reported a.n a.table.now l front.has c.in-Ok.f front.is _ _ c.report_port-a.ensures.0 c.report_port-a.ensures.1 _ _ (let h = c.if-record-lt-WHOLE_RECORD.false in omega (arith, h, kept)) (ap (λ (x : List ℕ). put_mid 71 (length r - 71) r x) c.put_fitting-2.ensures)
     (sym (taken_back _ _ c.report_port-a.result not_done))

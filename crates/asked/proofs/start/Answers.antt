@@ -22,9 +22,8 @@ returns-then-not-is_room c =
 pub whole_size-f-requires : goal.whole_size-f-requires
 whole_size-f-requires c =
     let a = c.args in
-    let m = a.table.now in
     let room = sym c.is_room.ensures ∙ c.if-not-is_room.false in
-    let few = room-few new_layer m a.count room in omega (arith, few)
+    let few = room-few new_layer a.table.now a.count room in omega (arith, few)
 
 pub slice_bounds-start-end : goal.slice_bounds-start-end
 slice_bounds-start-end c =
@@ -32,9 +31,7 @@ slice_bounds-start-end c =
     let m = a.table.now in
     let room = sym c.is_room.ensures ∙ c.if-not-is_room.false in
     let size = room-size new_layer m a.count room in
-    let f = c.whole_size-f.result in
-    let isf = c.whole_size-f.ensures in
-    let most : f ≤ length m = omega (arith, size, isf) in
+    let most : c.whole_size-f.result ≤ length m = omega (arith, size, c.whole_size-f.ensures) in
     most
 
 pub slice_bounds-start-end-2 : goal.slice_bounds-start-end-2
@@ -44,8 +41,7 @@ slice_bounds-start-end-2 c =
     let room = sym c.is_room.ensures ∙ c.if-not-is_room.false in
     let size = room-size new_layer m a.count room in
     let f = c.whole_size-f.result in
-    let isf = c.whole_size-f.ensures in
-    let most : f ≤ length m = omega (arith, size, isf) in
+    let most : f ≤ length m = omega (arith, size, c.whole_size-f.ensures) in
     sym (length-take-le f m most)
 
 pub begin_if-requires : goal.begin_if-requires

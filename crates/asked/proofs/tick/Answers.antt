@@ -1,5 +1,4 @@
 -- `tick` meets its contract: the call on the front, and the timers fall. Assumes nothing.
-use Prim.Native.Nat.{◌≤◌}
 use mathlib.Core.Path.{◌≡◌, refl, sym, ◌∙◌}
 use mathlib.Core.List.{◌++◌}
 use native.Mathlib.Omega.{arith}
@@ -26,17 +25,14 @@ bounds-table-0 c =
 pub slice_bounds-tick-end-2 : goal.slice_bounds-tick-end-2
 slice_bounds-tick-end-2 c =
     let front = found-front new_layer c.args.table.now (sym c.front_size.ensures.0 ∙ c.in_ok-f.was) in
-    let m = c.args.table.now in
-    sym (length-take-le c.in_ok-f.f m front.most)
+    sym (length-take-le c.in_ok-f.f c.args.table.now front.most)
 
 pub fall_if-requires : goal.fall_if-requires
 fall_if-requires c =
     let front = found-front new_layer c.args.table.now (sym c.front_size.ensures.0 ∙ c.in_ok-f.was) in
     let m = c.args.table.now in
-    let size = front.size in
-    let most = front.most in
     let same : length c.tick-a.new.table ≡ length (take c.in_ok-f.f m) = search rules in
-    same_size c.in_ok-f.f m c.tick-a.new.table most same ∙ size
+    same_size c.in_ok-f.f m c.tick-a.new.table front.most same ∙ front.size
 
 pub returns : goal.returns
 returns c =

@@ -11,6 +11,6 @@ use Rattle.asked.proofs.write_request.Goals as goal
 pub returns : goal.returns
 returns c =
     let a = c.args in
-    rw (c.put_long.ensures, c.write.ensures, c.put_number.ensures)
+    rw (c.put_number-2.ensures, c.write.ensures, c.put_number.ensures)
     (written (number_octets a.n ∷ address_octets a.system ∷ long_octets a.number ∷ []) a.out.now
     ∙ over-all (request_of a.n a.system a.number) a.out.now (omega arith))

@@ -26,4 +26,4 @@ unfolding port_report answer
 returns-in-Ok c =
     let a = c.args in
     let here = sym c.find.ensures ∙ c.in-Ok.is in
-    rw (found-answers a.table.now a.n here (Ok Done), ← found-index a.table.now a.n here, ← c.look.ensures.2) (refl, c.put_fitting-in-Ok.ensures)
+    rw (found-answers a.table.now a.n here (Ok Done), ← found-index a.table.now a.n here, ← c.look.ensures.1) (refl, c.put_fitting-in-Ok.ensures)

@@ -29,9 +29,8 @@ put-requires c =
     let a = c.args in
     let goes = sym c.goes_back.ensures ∙ c.if-not-goes_back.false in
     let s = back-size a.new.now a.old.now goes in
-    let is = base.is in
     let l = length-take-le c.in_ok-b.b a.new.now base.most in
-    omega (arith, s, is, l)
+    omega (arith, s, base.is, l)
 
 pub returns : goal.returns
 returns c =

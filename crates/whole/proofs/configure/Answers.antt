@@ -27,8 +27,7 @@ slice_bounds-has_settings-end-2 c =
 pub has_settings-same-requires : goal.has_settings-same-requires
 has_settings-same-requires c =
     let base = found-base c.args.table.now (sym c.base_size.ensures.0 ∙ c.in_ok-b.was) in
-    let t = c.args.table.now in
-    base-whole t c.in_ok-b.b base.is base.most
+    base-whole c.args.table.now c.in_ok-b.b base.is base.most
 
 pub slice_bounds-configure-end-2 : goal.slice_bounds-configure-end-2
 slice_bounds-configure-end-2 c =
@@ -51,6 +50,5 @@ returns c =
     let told = c.configure-a.ensures in
     let n = c.in_ok-b.b in
     let is = base.is in
-    let same = c.has_settings-same.ensures in
-    let ran = ap (λ (x : Bool). x && not c.has_settings-same.result) c.is_ok.ensures.value ∙ same-settles c.configure-a.result _ _ (λ e. same (accepted-number (take n w) a.n (with_default a.settings (Ok Done)) (ap accepted (sym told.0) ∙ e)) ∙ ap (λ (k : ℕ). same_settings a.settings (port_at (take k w) (a.n - 1))) is) in
+    let ran = ap (λ (x : Bool). x && not c.has_settings-same.result) c.is_ok.ensures.value ∙ same-settles c.configure-a.result _ _ (λ e. c.has_settings-same.ensures (accepted-number (take n w) a.n (with_default a.settings (Ok Done)) (ap accepted (sym told.0) ∙ e)) ∙ ap (λ (k : ℕ). same_settings a.settings (port_at (take k w) (a.n - 1))) is) in
     finished (call.configure a.n a.settings) w n is _ _ _ _ base.has told.0 told.1 ran c.watch_if.ensures

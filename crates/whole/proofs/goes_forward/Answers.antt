@@ -9,8 +9,7 @@ returns-then-not-is_table c = rw (sym c.is_table.ensures ∙ c.if-not-is_table.t
 
 pub bounds-old-0 : goal.bounds-old-0
 bounds-old-0 c =
-    let t = c.args.old.now in
-    let h = (in_range t (sym c.is_table.ensures ∙ c.if-not-is_table.false)).header in
+    let h = (in_range c.args.old.now (sym c.is_table.ensures ∙ c.if-not-is_table.false)).header in
     omega (arith, h)
 
 pub whole_size-requires : goal.whole_size-requires

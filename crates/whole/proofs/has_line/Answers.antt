@@ -1,25 +1,23 @@
 -- `has_line` meets its contract: the line of the record, if there is one. Assumes nothing.
+use Prim.Native.Nat.{◌-◌}
+use mathlib.Core.Path.{◌≡◌, sym, ap, ◌∙◌}
+use mathlib.Core.Bool.{false≢true}
+use Rattle.std.specs.Prelude.{is_some}
+use Rattle.std.proofs.lemmas.Option.{MatchOption-at_some}
+use Rattle.machine.specs.States.{same_line}
+use Rattle.machine.proofs.CompareLaws.{beq-alike}
 use Rattle.table.specs.Record.{decoded}
-use Prim.Native.Nat.{◌-◌, ◌<◌}
-use native.Mathlib.Omega.{arith}
-use Rattle.octets.proofs.RangeLaws.{within-true}
-use Rattle.table.specs.Table.{count_in, decoded_at}
-use Rattle.table.proofs.StoreLaws.{port-decoded}
-use mathlib.Core.Bool.{Bool, true, false, beq}
-use mathlib.Core.Path.{◌≡◌, refl, ◌∙◌}
-use Rattle.machine.specs.Bits.{alike}
+use Rattle.table.specs.Table.{port_at}
 use Rattle.whole.proofs.has_line.Goals as goal
 
-beq-alike : (a b : Bool) → beq a b ≡ alike a b
-beq-alike true true = refl
-beq-alike true false = refl
-beq-alike false true = refl
-beq-alike false false = refl
+pub returns-in-None : goal.returns-in-None
+returns-in-None c e = absurd (false≢true (ap is_some (sym c.in-None.is) ∙ c.record_of.ensures.0 ∙ e))
 
-pub returns : goal.returns
-unfolding decoded_at decoded
-returns c e =
+pub returns-in-Some : goal.returns-in-Some
+unfolding decoded
+returns-in-Some c e =
     let a = c.args in
-    let t = a.table.now in
-    let here : a.n - 1 < count_in t = let h = within-true 1 a.n (count_in t) e in let some = h.0 in let most = h.1 in omega (arith, some, most) in
-    c.eq.ensures ∙ rw (port-decoded t (a.n - 1) here, beq-alike c.args.line.up c.line_in.result.up, beq-alike c.args.line.full c.line_in.result.full, c.line_in.ensures, c.record_at.ensures.0)
+    let line = c.line_in.result in
+    let same : c.eq.result ≡ same_line a.line line = c.eq.ensures ∙ rw (beq-alike a.line.up line.up, beq-alike a.line.full line.full) in
+    let is : decoded c.in-Some.record.now ≡ port_at a.table.now (a.n - 1) = MatchOption-at_some _ _ _ c.in-Some.is c.record_of.ensures.1 in
+    rw (same, c.line_in.ensures, ← is)

@@ -26,8 +26,7 @@ slice_bounds-has_line-end-2 c =
 pub has_line-same-requires : goal.has_line-same-requires
 has_line-same-requires c =
     let base = found-base c.args.table.now (sym c.base_size.ensures.0 ∙ c.in_ok-b.was) in
-    let t = c.args.table.now in
-    base-whole t c.in_ok-b.b base.is base.most
+    base-whole c.args.table.now c.in_ok-b.b base.is base.most
 
 pub slice_bounds-line-end-2 : goal.slice_bounds-line-end-2
 slice_bounds-line-end-2 c =
@@ -50,6 +49,5 @@ returns c =
     let told = c.line-a.ensures in
     let n = c.in_ok-b.b in
     let is = base.is in
-    let same = c.has_line-same.ensures in
-    let ran = ap (λ (x : Bool). x && not c.has_line-same.result) c.is_ok.ensures.value ∙ same-settles c.line-a.result _ _ (λ e. same (accepted-number (take n w) a.n (Ok Done) (ap accepted (sym told.0) ∙ e)) ∙ ap (λ (k : ℕ). same_line a.line (port_at (take k w) (a.n - 1)).line) is) in
+    let ran = ap (λ (x : Bool). x && not c.has_line-same.result) c.is_ok.ensures.value ∙ same-settles c.line-a.result _ _ (λ e. c.has_line-same.ensures (accepted-number (take n w) a.n (Ok Done) (ap accepted (sym told.0) ∙ e)) ∙ ap (λ (k : ℕ). same_line a.line (port_at (take k w) (a.n - 1)).line) is) in
     finished (call.line a.n a.line) w n is _ _ _ _ base.has told.0 told.1 ran c.watch_if.ensures

@@ -26,5 +26,4 @@ pub returns : goal.returns
 unfolding whole_due base_of
 returns c =
     let base = found-base c.args.table.now (sym c.base_size.ensures.0 ∙ c.in_ok-b.was) in
-    let a = c.args in
-    rw base.has (c.report_due.ensures ∙ ap (λ (k : ℕ). due_report (take k a.table.now)) base.is)
+    rw base.has (c.report_due.ensures ∙ ap (λ (k : ℕ). due_report (take k c.args.table.now)) base.is)

@@ -46,16 +46,14 @@ group_at-requires c =
     let t = c.args.table.now in
     let there = group-there c.args.n t base.has (ap (λ (k : ℕ). accepted (answer (report c.args.n) (take k t))) (sym base.is) ∙ ap accepted (sym c.report_port-a.ensures.0) ∙ sym c.is_ok.ensures.value ∙ c.if-is_ok.true) in
     let size = whole-size t base.has in
-    let some = there.0 in
-    let most = there.1 in
-    omega (arith, size, some, most)
+    omega (arith, size, there.0, there.1)
 
 pub returns-then-is_ok : goal.returns-then-is_ok
 returns-then-is_ok c =
     let base = found-base c.args.table.now (sym c.base_size.ensures.0 ∙ c.in-Ok.is) in
     let a = c.args in
     let kept : length c.report_port-a.new.«record» ≡ length a.«record».now = search rules in
-    reported a.n a.table.now a.«record».now base.has c.in-Ok.b base.is c.report_port-a.result c.report_port-a.new.«record» c.report_port-a.ensures.0 c.report_port-a.ensures.1 _ _ (omega (arith, c.if-record-lt-RECORD.false, kept)) (ap (λ (l : List ℕ). put_mid 57 (length c.report_port-a.new.«record» - 57) c.report_port-a.new.«record» l) c.put_fitting-then-is_ok.ensures) (c.group_at.ensures.0 ∙ sym (given_back _ _ c.report_port-a.result (sym c.is_ok.ensures.value ∙ c.if-is_ok.true)))
+    reported a.n a.table.now a.«record».now base.has c.in-Ok.b base.is c.report_port-a.result c.report_port-a.new.«record» c.report_port-a.ensures.0 c.report_port-a.ensures.1 _ _ (omega (arith, c.if-record-lt-RECORD.false, kept)) (ap (λ (l : List ℕ). put_mid 57 (length c.report_port-a.new.«record» - 57) c.report_port-a.new.«record» l) c.put_fitting-then-is_ok.ensures) (c.group_at.ensures ∙ sym (given_back _ _ c.report_port-a.result (sym c.is_ok.ensures.value ∙ c.if-is_ok.true)))
 
 pub returns : goal.returns
 returns c =

@@ -18,15 +18,13 @@ pub slice_bounds-start-end : goal.slice_bounds-start-end
 slice_bounds-start-end c =
     let a = c.args in
     let size = room-size a.table.now a.count (sym c.is_room.ensures ∙ c.if-not-is_room.false) in
-    let is = c.place_of-b.ensures in
-    omega (arith, size, is)
+    omega (arith, size, c.place_of-b.ensures)
 
 pub slice_bounds-start-end-2 : goal.slice_bounds-start-end-2
 slice_bounds-start-end-2 c =
     let a = c.args in
     let size = room-size a.table.now a.count (sym c.is_room.ensures ∙ c.if-not-is_room.false) in
-    let is = c.place_of-b.ensures in
-    sym (length-take-le c.place_of-b.result a.table.now (omega (arith, size, is)))
+    sym (length-take-le c.place_of-b.result a.table.now (omega (arith, size, c.place_of-b.ensures)))
 
 pub watch_if-requires : goal.watch_if-requires
 watch_if-requires c e =
