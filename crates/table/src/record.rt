@@ -213,6 +213,7 @@ pub fn neighbour_in(s: &[u8; RECORD]) -> u16
 }
 
 // Writes a record into its octets.
+// Kept: a slice and no `&mut [u8; RECORD]`, since what is written through `first_chunk_mut().unwrap()` is lost to the proof (tried).
 pub(crate) fn write_record(p: Port, out: &mut [u8])
     requires { length out.old ≡ record_size }
     ensures { out.new ≡ encoded p }
