@@ -1,6 +1,7 @@
 -- `work::configure` meets its contract: equal settings change nothing, others go through `change`. Assumes nothing.
 use mathlib.Core.Path.{◌≡◌, sym, ap, ◌∙◌}
 use mathlib.Core.Bool.{true, false}
+use borrow.Author.Rules.{rules}
 use Rattle.port.specs.declared.record.Port.{Port}
 use Rattle.port.specs.Range.{own_fits}
 use Rattle.settings.specs.Settings.{same_settings, configured}
@@ -20,7 +21,7 @@ returns-then-is_held c =
     let a = c.args in
     let same : same_settings a.settings (port_at a.table.now a.i) ≡ true =
     ap (same_settings a.settings) (sym c.load-p.ensures) ∙ (sym c.is_held.ensures ∙ c.if-is_held.true) in
-    rw same (sym (octets-back a.table.now c.requires.0 (λ j. (c.slice_known-1.given j).fits)))
+    rw same (sym (octets-back a.table.now c.requires.0 (λ j. search rules)))
 
 pub change-requires : goal.change-requires
 change-requires c =
@@ -32,7 +33,7 @@ change-requires c =
       c.requires,
       rw is
           (configured_typed (count_in t) a.settings p (ap (λ (q : Port). own_fits q.own) (sym is) ∙ own)
-          (ranged-at t c.requires.0 (λ j. (c.slice_known-1.given j).fits) a.i c.requires.1)),
+          (ranged-at t c.requires.0 (λ j. search rules) a.i c.requires.1)),
     )
 
 pub returns : goal.returns

@@ -5,6 +5,7 @@ use Prim.Native.Nat.{◌+◌}
 use mathlib.Core.Path.{◌≡◌, sym, ap, ◌∙◌}
 use mathlib.Core.Bool.{true}
 use lib.ListN.{set}
+use borrow.Author.Rules.{rules}
 use Rattle.frame.specs.Block.{block_of}
 use Rattle.frame.specs.Wire.{actor_part, partner_part}
 use Rattle.machine.specs.declared.states.Ticks.{Ticks}
@@ -37,7 +38,7 @@ store-requires c =
     let t = a.table.now in
     let l = a.frame.now in
     may_store (received (header_of t).system (a.i + 1) (block_of (actor_part l)) (block_of (partner_part l))) t a.i e.0
-    (λ j. (c.slice_known-1.given j).fits)
+    (λ j. search rules)
     (λ p. received-ranged (count_in t) (header_of t).system (a.i + 1) (block_of (actor_part l)) (block_of (partner_part l)) p
     (part-fits 18 33 l (λ j. (c.type_inv.frame j).fits)))
     e.1

@@ -1,5 +1,6 @@
 -- `work::send` meets its contract: the LACPDU is written from the header and from the record that is handed down, which is the port's, and
 -- then the send remembered in it. Assumes nothing.
+use borrow.Author.Rules.{rules}
 use Rattle.port.specs.Transmit.{sent}
 use Rattle.work.specs.Work.{after_send, lacpdu_of}
 use Rattle.port.proofs.RangeLaws.{sent-ranged}
@@ -18,7 +19,7 @@ pub store-requires : goal.store-requires
 store-requires c =
     let a = c.args in
     let e = c.requires in
-    may_store sent a.table.now a.i e.0 (λ j. (c.slice_known-1.given j).fits) (sent-ranged _) e.1 c.sent.ensures
+    may_store sent a.table.now a.i e.0 (λ j. search rules) (sent-ranged _) e.1 c.sent.ensures
 
 pub returns : goal.returns
 unfolding after_send lacpdu_of

@@ -1,6 +1,7 @@
 -- `work::set_line` meets its contract: values as they are change nothing, others go through `change`. Assumes nothing.
 use mathlib.Core.Path.{◌≡◌, sym, ap, ◌∙◌}
 use mathlib.Core.Bool.{true, false}
+use borrow.Author.Rules.{rules}
 use Rattle.machine.specs.States.{same_line}
 use Rattle.machine.proofs.CompareLaws.{beq-alike}
 use Rattle.port.specs.declared.record.Port.{Port}
@@ -18,7 +19,7 @@ returns-then-eq c =
     let told : c.eq.result ≡ same_line a.line p = rw (c.eq.ensures, beq-alike a.line.up p.up, beq-alike a.line.full p.full) in
     let same : same_line a.line (port_at a.table.now a.i).line ≡ true =
     ap (λ (p : Port). same_line a.line p.line) (sym c.load-p.ensures) ∙ (sym told ∙ c.if-eq.true) in
-    rw same (sym (octets-back a.table.now c.requires.0 (λ j. (c.slice_known-1.given j).fits)))
+    rw same (sym (octets-back a.table.now c.requires.0 (λ j. search rules)))
 
 pub change-requires : goal.change-requires
 change-requires c =
@@ -26,7 +27,7 @@ change-requires c =
     let t = a.table.now in (
       c.requires,
       rw (c.set_line.ensures, c.load-p.ensures)
-          (lined-ranged (count_in t) a.line (port_at t a.i) (ranged-at t c.requires.0 (λ j. (c.slice_known-1.given j).fits) a.i c.requires.1)),
+          (lined-ranged (count_in t) a.line (port_at t a.i) (ranged-at t c.requires.0 (λ j. search rules) a.i c.requires.1)),
     )
 
 pub returns : goal.returns
