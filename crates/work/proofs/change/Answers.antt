@@ -3,12 +3,6 @@ use Rattle.table.proofs.LeavesLaws.{then, said, made_of}
 use Rattle.work.specs.Work.{worked, after_one}
 use Rattle.work.proofs.change.Goals as goal
 
-pub store-requires : goal.store-requires
-store-requires c = c.requires
-
-pub finish-requires : goal.finish-requires
-finish-requires c = c.store.ensures.ranged
-
 pub returns : goal.returns
 unfolding after_one
 returns c =

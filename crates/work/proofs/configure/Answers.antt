@@ -12,9 +12,6 @@ use Rattle.work.specs.Work.{after_settings}
 use Rattle.work.proofs.WorkLaws.{own_typed}
 use Rattle.work.proofs.configure.Goals as goal
 
-pub load-p-requires : goal.load-p-requires
-load-p-requires c = c.requires
-
 pub returns-then-is_held : goal.returns-then-is_held
 unfolding after_settings
 returns-then-is_held c =

@@ -9,9 +9,6 @@ use Rattle.trunk.proofs.TableWork.{may_store, changed-at}
 use Rattle.work.proofs.WorkLaws.{below-most}
 use Rattle.work.proofs.send.Goals as goal
 
-pub read_header-ours-requires : goal.read_header-ours-requires
-read_header-ours-requires c = c.requires.0.0
-
 pub number_of-requires : goal.number_of-requires
 number_of-requires c = below-most _ c.requires.0.0 c.args.i c.requires.0.1
 
