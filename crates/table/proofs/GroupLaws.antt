@@ -36,7 +36,7 @@ put-front n s l rest h =
     rw (take-append-le n l rest front, drop-append-le (n + length s) l rest h, append_assoc, append_assoc)
 
 -- octets written within record i are written within the octets of the record
-pub put-within : (t : List ℕ) (i n : ℕ) (s : List ℕ) → place i + record_size ≤ length t → n + length s ≤ record_size
+put-within : (t : List ℕ) (i n : ℕ) (s : List ℕ) → place i + record_size ≤ length t → n + length s ≤ record_size
     → put_at (place i + n) s t ≡ put_at (place i) (put_at n s (record_at t i)) t
 unfolding record_at put_at
 put-within t i n s room fits =
@@ -65,9 +65,14 @@ record_is t i at o =
     sym (ap encoded (port-decoded t i at.1) ∙ record_octets-back (count_in t) l size (take-octets record_size (drop (place i) t) (drop-octets (place i) t o)) (r.records i at.1))
 
 -- a group of octets s, from octet n on, makes of record i what it makes of the octets of its port
-pub group-stored : (t : List ℕ) (i n : ℕ) (s : List ℕ) (q : Port) → InTable t i → Octets t → n + length s ≤ record_size → port_in_range (count_in t) q ≡ true
+pub group-stored : (t : List ℕ) (i n : ℕ) (s : List ℕ) (q : Port) → InTable t i → Octets t → port_in_range (count_in t) q ≡ true
+    → put_at n s (encoded (port_at t i)) ≡ encoded q → Became t (put_at (place i) (put_at n s (record_at t i)) t) i q
+group-stored t i n s q at o r e = rw (record_is t i at o, e) (stored t i q at r)
+
+-- and so it does where it is written straight into the table
+group-put : (t : List ℕ) (i n : ℕ) (s : List ℕ) (q : Port) → InTable t i → Octets t → n + length s ≤ record_size → port_in_range (count_in t) q ≡ true
     → put_at n s (encoded (port_at t i)) ≡ encoded q → Became t (put_at (place i + n) s t) i q
-group-stored t i n s q at o fits r e = rw (put-within t i n s (lies t i at) fits, record_is t i at o, e) (stored t i q at r)
+group-put t i n s q at o fits r e = rw (put-within t i n s (lies t i at) fits) (group-stored t i n s q at o r e)
 
 -- ---- the groups
 
@@ -87,14 +92,14 @@ module _ (t : List ℕ) (i : ℕ) (at : InTable t i) (o : Octets t) where
   pub timers-stored : (x : Timers) → timers_in_range x ≡ true → Became t (put_at (place i + 9) (timers_octets x) t) i (with_timers (port_at t i) x)
   timers-stored x h =
       let r = ranged (count_in t) (port_at t i) (ranged-at t at.0 o i at.1) in
-      group-stored t i 9 (timers_octets x) (with_timers (port_at t i) x) at o (omega arith)
+      group-put t i 9 (timers_octets x) (with_timers (port_at t i) x) at o (omega arith)
       (ranged-is (count_in t) (with_timers (port_at t i) x) (record { aggregator = r.aggregator; timers = h; ages = r.ages; own = r.own; partner = r.partner }))
       (timers-put (port_at t i) x)
 
   pub current-stored : (x : Ticks) → leb x.0 long_timeout_time ≡ true → Became t (put_at (place i + 9) (number_octets x.0) t) i (with_current (port_at t i) x)
   current-stored x h =
       let r = ranged (count_in t) (port_at t i) (ranged-at t at.0 o i at.1) in
-      group-stored t i 9 (number_octets x.0) (with_current (port_at t i) x) at o (omega arith)
+      group-put t i 9 (number_octets x.0) (with_current (port_at t i) x) at o (omega arith)
       (ranged-is (count_in t) (with_current (port_at t i) x) (record {
         aggregator = r.aggregator;
         timers = currently_ranged x (port_at t i).timers h r.timers;
@@ -107,6 +112,6 @@ module _ (t : List ℕ) (i : ℕ) (at : InTable t i) (o : Octets t) where
   pub ages-stored : (x : Ages) → ages_in_range x ≡ true → Became t (put_at (place i + 14) (ages_octets x) t) i (with_ages (port_at t i) x)
   ages-stored x h =
       let r = ranged (count_in t) (port_at t i) (ranged-at t at.0 o i at.1) in
-      group-stored t i 14 (ages_octets x) (with_ages (port_at t i) x) at o (omega arith)
+      group-put t i 14 (ages_octets x) (with_ages (port_at t i) x) at o (omega arith)
       (ranged-is (count_in t) (with_ages (port_at t i) x) (record { aggregator = r.aggregator; timers = r.timers; ages = h; own = r.own; partner = r.partner }))
       (ages-put (port_at t i) x)
