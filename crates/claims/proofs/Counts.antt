@@ -2,7 +2,7 @@
 -- Assumes nothing.
 use Prim.Native.Nat.{ℕ}
 use mathlib.Core.Path.{◌≡◌, refl, sym, ap, ◌∙◌}
-use mathlib.Core.Bool.{Bool, true, false, cond, false≢true}
+use mathlib.Core.Bool.{Bool, true, false, false≢true}
 use mathlib.Core.List.{List, [], ◌∷◌}
 use native.Mathlib.Omega.{arith}
 use lib.ListN.{length}
@@ -23,7 +23,7 @@ use Rattle.control.specs.declared.answer.Reason.TheVariants as reason
 use Rattle.control.specs.Call.{Call, start, receive, tick, line, configure, fetch, report, aggregator, due, is_start}
 use Rattle.control.specs.After.{answer, after}
 use Rattle.control.specs.Accepted.{accepted}
-use Rattle.control.proofs.CallLaws.{after-accepted, refused-table}
+use Rattle.control.proofs.CallLaws.{if-accepted, after-accepted, refused-table}
 use Rattle.control.proofs.CountLaws.{started-count, after-count}
 use Rattle.claims.specs.Run.{run, AllTake}
 use Rattle.claims.specs.AtRest.{Sound}
@@ -36,12 +36,8 @@ pub start-room : (t : List ℕ) (count : ℕ) (system : SystemId) (delay : TensO
     → accepted (answer (start count system delay x) t) ≡ true → (within 1 count most_ports ≡ true) × (length t ≡ table_size count)
 unfolding answer
 start-room t count system delay x e =
-    let r = both (within 1 count most_ports) (eqb (length t) (table_size count)) (if-room (is_room t count) (with_default x (Ok Done)) e) in
+    let r = both (within 1 count most_ports) (eqb (length t) (table_size count)) (if-accepted (is_room t count) (with_default x (Ok Done)) reason.Table e).0 in
     (r.0, eqb-true (length t) (table_size count) r.1)
-  where
-    if-room : (b : Bool) (a : Answer) → accepted (cond b a (Err reason.Table)) ≡ true → b ≡ true
-    if-room true a f = refl
-    if-room false a f = absurd (false≢true f)
 
 same_count : (a b : ℕ) → table_size a ≡ table_size b → a ≡ b
 same_count a b e = omega arith

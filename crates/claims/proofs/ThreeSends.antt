@@ -45,13 +45,13 @@ use Rattle.control.specs.Answer.{Answer, answer_number, is_number, with_room, wi
 use Rattle.control.specs.declared.answer.Accepted.TheVariants.{Done}
 use Rattle.control.specs.declared.answer.Reason.TheVariants as reason
 use Rattle.control.specs.Call.{Call, start, receive, tick, line, configure, fetch, report, aggregator, due as dueCall}
-use Rattle.control.specs.After.{answer, after_frame, changed_by, unless, after, effect}
+use Rattle.control.specs.After.{answer, after_frame, changed_by, after, effect}
 use Rattle.control.specs.Accepted.{accepted}
 use Rattle.claims.specs.Run.{Takes, AllTake, run, Made}
 use Rattle.control.proofs.CallLaws.{OnPort, on-port, named, received-on, after-accepted}
 use Rattle.claims.specs.AtRest.{Sound}
 use Rattle.claims.specs.ThreeSends.{sends_by, sends, sends_of, recent, ThreeSends, ticks_in, NoneStarts, FourSendsApart}
-use Rattle.claims.proofs.Sound.{frame-left, Before, in_ports, tick-before, line_before, settings-before, received-before, send_ports, start-ports, sound_back}
+use Rattle.claims.proofs.Sound.{call-left, frame-left, Before, in_ports, tick-before, line_before, settings-before, received-before, send_ports, start-ports, sound_back}
 use Rattle.claims.proofs.Calls.{started-sound, call-sound, never_stuck}
 use Rattle.control.proofs.CountLaws.{started-count, kept_if}
 use Rattle.claims.proofs.Counts.{start-room, call-count, run-count}
@@ -178,13 +178,9 @@ fetch_free t n out e =
 
 -- ---- each call
 
-refused-is : (a : Answer) (t u : List ℕ) → accepted a ≡ false → unless a t u ≡ t
-refused-is (Ok x) t u e = absurd (true≢false e)
-refused-is (Err r) t u e = refl
-
 after-refused : (t : List ℕ) (c : Call) → accepted (answer c t) ≡ false → after c t ≡ t
 unfolding after
-after-refused t c e = refused-is (answer c t) t (changed_by c t) e
+after-refused t c e = call-left (λ u. u ≡ t) (answer c t) t (changed_by c t) refl (λ a. absurd (true≢false (sym a ∙ e)))
 
 -- port numbers from 1, counted from 0
 same_number : (n m : ℕ) → 1 ≤ n → 1 ≤ m → eqb n m ≡ false → eqb (n - 1) (m - 1) ≡ true → ⊥
