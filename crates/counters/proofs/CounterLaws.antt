@@ -1,4 +1,5 @@
 -- Of the five counters of received frames a receive moves one, by one, or none where its answer counts nowhere. Assumes nothing.
+use Rattle.std.specs.Prelude.{Ok, Err}
 use Prim.Native.Nat.{ℕ, ◌+◌, ◌-◌, ◌*◌, ◌/◌}
 use mathlib.Core.Path.{◌≡◌, refl}
 use mathlib.Core.Bool.{Bool, true, false, cond, ◌&&◌, ◌||◌, false≢true}
@@ -6,21 +7,19 @@ use mathlib.Core.List.{List}
 use native.Mathlib.Omega.{arith}
 use lib.ListN.{length}
 use lib.Dec.{ltb}
-use Rattle.frame.specs.declared.class.Class.{Class}
-use Rattle.frame.specs.declared.class.Class.TheVariants as class
+use Rattle.frame.specs.declared.class.Kind.TheVariants as kind
 use Rattle.frame.specs.declared.class.Refusal.TheVariants.{Foreign, Unknown, Illegal}
-use Rattle.frame.specs.Class.{class_of, frame_size}
+use Rattle.frame.specs.Class.{Class, class_of, frame_size}
 use Rattle.machine.specs.declared.states.Line.{Line}
 use Rattle.machine.specs.declared.states.Mux.{Mux}
 use Rattle.machine.specs.Count.{counted}
 use Rattle.machine.specs.Mux.{collects, distributes}
 use Rattle.table.specs.Table.{table_in_range, port_at}
-use Rattle.control.specs.declared.answer.Answer.{Answer}
-use Rattle.control.specs.declared.answer.Answer.TheVariants.{Done, Lacpdu, Marker, Refused}
+use Rattle.control.specs.declared.answer.Accepted.TheVariants.{Done, Lacpdu, Marker}
 use Rattle.control.specs.declared.answer.Reason.{Reason}
 use Rattle.control.specs.declared.answer.Reason.TheVariants as reason
 use Rattle.control.specs.Accepted.{accepted}
-use Rattle.control.specs.Answer.{is_number, frame_answer}
+use Rattle.control.specs.Answer.{Answer, is_number, frame_answer}
 use Rattle.control.specs.Call.{receive}
 use Rattle.control.specs.After.{answer}
 use Rattle.counters.specs.declared.Counters.{Counters}
@@ -45,15 +44,15 @@ pub record Rose (a : Answer) (c : Counters) : Type 0 where
   pub is : all_received (received a c) + 4294967296 * carry ≡ all_received c + heard a
 
 module _ (c : Counters) where
-  as_lacpdu_lem : Rose Lacpdu c
+  as_lacpdu_lem : Rose (Ok Lacpdu) c
   unfolding received
   as_lacpdu_lem = record { carry = (c.lacpdus + 1) / 4294967296; is = omega arith }
 
-  as_marker_lem : Rose Marker c
+  as_marker_lem : Rose (Ok Marker) c
   unfolding received
   as_marker_lem = record { carry = (c.markers + 1) / 4294967296; is = omega arith }
 
-  as_refused : (r : Reason) → receives r ≡ true → Rose (Refused r) c
+  as_refused : (r : Reason) → receives r ≡ true → Rose (Err r) c
   unfolding received
   as_refused reason.Table e = record { carry = 0; is = omega arith }
   as_refused reason.Number e = record { carry = 0; is = omega arith }
@@ -69,25 +68,25 @@ module _ (c : Counters) where
   as_refused reason.Response e = record { carry = (c.responses + 1) / 4294967296; is = omega arith }
 
   as_framed : (x : Class) (l : Line) (m : Mux) → Rose (frame_answer x l m) c
-  as_framed class.Lacpdu l m = by (l.up && l.full)
+  as_framed (Ok kind.Lacpdu) l m = by (l.up && l.full)
     where
-      by : (b : Bool) → Rose (cond b Lacpdu (Refused reason.Disabled)) c
+      by : (b : Bool) → Rose (cond b (Ok Lacpdu) (Err reason.Disabled)) c
       by true = as_lacpdu_lem
       by false = as_refused reason.Disabled refl
-  as_framed class.Marker l m = by (collects m || distributes m)
+  as_framed (Ok kind.Marker) l m = by (collects m || distributes m)
     where
-      by : (b : Bool) → Rose (cond b Marker (Refused reason.NotCollecting)) c
+      by : (b : Bool) → Rose (cond b (Ok Marker) (Err reason.NotCollecting)) c
       by true = as_marker_lem
       by false = as_refused reason.NotCollecting refl
-  as_framed class.Response l m = as_refused reason.Response refl
-  as_framed (class.Refused r) l m = as_refused (reason.Frame r) refl
+  as_framed (Ok kind.Response) l m = as_refused reason.Response refl
+  as_framed (Err r) l m = as_refused (reason.Frame r) refl
 
   -- where there is no table
-  pub rose_nowhere : Rose (Refused reason.Table) c
+  pub rose_nowhere : Rose (Err reason.Table) c
   rose_nowhere = as_refused reason.Table refl
 
   -- where a Response is accepted
-  pub rose-done : Rose Done c
+  pub rose-done : Rose (Ok Done) c
   unfolding received
   rose-done = record { carry = (c.responses + 1) / 4294967296; is = omega arith }
 
@@ -97,7 +96,7 @@ module _ (c : Counters) where
   rose n frame out t =
       by (table_in_range t) (is_number t n) (ltb (length out) frame_size) _ (as_framed (class_of frame) (port_at t (n - 1)).line (port_at t (n - 1)).phase.mux)
     where
-      by : (ranged there short : Bool) (a : Answer) → Rose a c → Rose (cond ranged (cond there (cond short (Refused reason.Buffer) a) (Refused reason.Number)) (Refused reason.Table)) c
+      by : (ranged there short : Bool) (a : Answer) → Rose a c → Rose (cond ranged (cond there (cond short (Err reason.Buffer) a) (Err reason.Number)) (Err reason.Table)) c
       by true true true a r = as_refused reason.Buffer refl
       by true true false a r = r
       by true false short a r = as_refused reason.Number refl

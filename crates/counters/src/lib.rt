@@ -2,10 +2,10 @@
 #![tactic(auto)]
 
 ghost use Rattle.std.specs.Prelude.{◌≡◌};
-ghost use Rattle.counters.specs.Counters.{is_marker, is_done, as_lacpdu, as_marker, as_response, counted_if, received, fetched};
+ghost use Rattle.counters.specs.Counters.{is_marker, as_lacpdu, as_marker, as_response, as_unknown, as_illegal, counted_if, received, fetched};
 
-use control::answer::Answer;
-use machine::count::one_more;
+use control::answer::{Accepted, Answer, Reason};
+use frame::class::Refusal;
 
 // Each in 32 bits. Received: LACPDUs, Markers, Marker Responses, unknown and illegal frames. Sent: LACPDUs, and Marker Responses, which answer a Marker.
 #[repr(C)]
@@ -24,7 +24,7 @@ fn counted_if(counts: bool, n: u32) -> u32
     ensures { result ≡ counted_if counts n }
 {
     if counts {
-        return one_more(n);
+        return n.wrapping_add(1);
     }
     n
 }
@@ -32,50 +32,37 @@ fn counted_if(counts: bool, n: u32) -> u32
 fn is_marker(a: Answer) -> bool
     ensures { result ≡ is_marker a }
 {
-    match a {
-        Answer::Done => false,
-        Answer::Lacpdu => false,
-        Answer::Marker => true,
-        Answer::Refused(_) => false,
-    }
+    matches!(a, Ok(Accepted::Marker))
 }
 
 fn as_lacpdu(a: Answer) -> bool
     ensures { result ≡ as_lacpdu a }
 {
-    if a.is_lacpdu() {
-        return true;
-    }
-    a.number() == 5
+    matches!(a, Ok(Accepted::Lacpdu) | Err(Reason::Disabled))
 }
 
 fn as_marker(a: Answer) -> bool
     ensures { result ≡ as_marker a }
 {
-    if is_marker(a) {
-        return true;
-    }
-    a.number() == 9
-}
-
-fn is_done(a: Answer) -> bool
-    ensures { result ≡ is_done a }
-{
-    match a {
-        Answer::Done => true,
-        Answer::Lacpdu => false,
-        Answer::Marker => false,
-        Answer::Refused(_) => false,
-    }
+    matches!(a, Ok(Accepted::Marker) | Err(Reason::NotCollecting))
 }
 
 fn as_response(a: Answer) -> bool
     ensures { result ≡ as_response a }
 {
-    if is_done(a) {
-        return true;
-    }
-    a.number() == 12
+    matches!(a, Ok(Accepted::Done) | Err(Reason::Response))
+}
+
+fn as_unknown(a: Answer) -> bool
+    ensures { result ≡ as_unknown a }
+{
+    matches!(a, Err(Reason::Frame(Refusal::Unknown)))
+}
+
+fn as_illegal(a: Answer) -> bool
+    ensures { result ≡ as_illegal a }
+{
+    matches!(a, Err(Reason::Frame(Refusal::Illegal)))
 }
 
 impl Counters {
@@ -83,15 +70,14 @@ impl Counters {
     pub fn received(self, a: Answer) -> Counters
         ensures { result ≡ received a self }
     {
-        let n = a.number();
         Counters {
             lacpdus: counted_if(as_lacpdu(a), self.lacpdus),
             markers: counted_if(as_marker(a), self.markers),
             responses: counted_if(as_response(a), self.responses),
-            unknown: counted_if(n == 7, self.unknown),
-            illegal: counted_if(n == 8, self.illegal),
-            sent: self.sent,
+            unknown: counted_if(as_unknown(a), self.unknown),
+            illegal: counted_if(as_illegal(a), self.illegal),
             answered: counted_if(is_marker(a), self.answered),
+            ..self
         }
     }
 
@@ -99,8 +85,9 @@ impl Counters {
     pub fn fetched(self, a: Answer) -> Counters
         ensures { result ≡ fetched a self }
     {
-        let mut c = self;
-        c.sent = counted_if(a.is_accepted(), c.sent);
-        c
+        Counters {
+            sent: counted_if(a.is_ok(), self.sent),
+            ..self
+        }
     }
 }

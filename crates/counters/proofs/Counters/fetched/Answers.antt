@@ -4,4 +4,4 @@ use Rattle.counters.proofs.Counters.fetched.Goals as goal
 
 pub returns : goal.returns
 unfolding fetched
-returns c = simp (c.counted_if.ensures, c.is_accepted.ensures)
+returns c = simp (c.counted_if.ensures, c.is_ok.ensures.value)

@@ -11,11 +11,12 @@ returns c =
       c.is_marker.ensures,
       c.counted_if-5.ensures,
       c.counted_if-4.ensures,
+      c.as_illegal.ensures,
+      c.as_unknown.ensures,
       c.counted_if-3.ensures,
       c.as_response.ensures,
       c.counted_if-2.ensures,
       c.as_marker.ensures,
       first.counted_if.ensures,
       first.as_lacpdu.ensures,
-      first.number-n.ensures,
     )
