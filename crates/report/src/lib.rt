@@ -53,6 +53,7 @@ fn holds(table: &[u8], i: usize, k: u8) -> bool
 }
 
 // The lowest port of a set, from 1; 0 for an empty set.
+// Kept: C's report (R15.4) and `sets_of` say 0 for none, and an Option would only be taken apart again in `Sets`.
 fn lowest_of(set: u32) -> u32
     ensures { result ≡ lowest_of set }
 {

@@ -36,6 +36,7 @@ pub struct Hold {
     pub ticks: u32,
 }
 
+// Kept: a cause holds no port and no ticks itself, since `order` lists causes and `CausesTrue` speaks of each.
 #[derive(Clone, Copy, PartialEq, Eq, Default)]
 pub struct Why {
     pub cause: Option<Cause>,
