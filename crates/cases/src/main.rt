@@ -2,121 +2,65 @@
 // frame tests say of each: of an LACPDU also its two blocks and the LACPDU that is written from them, of a Marker the Response.
 #![tactic(auto)]
 
+mod shown;
 mod six;
 mod story;
 
 ghost use Rattle.std.specs.Prelude.{◌≤◌, length};
 
+use crate::shown::Shown;
 use anyhow::Context;
 use frame::block::{Address, Block};
-use frame::class::{Class, Refusal};
-use frame::state::PortState;
+use frame::class::{Kind, classify};
 use frame::wire::TensOfMicroseconds;
 use std::fs;
 use std::io::{self, ErrorKind, Read, Write};
 
 // The sender of everything that is written here.
-fn own_address() -> Address {
-    Address {
-        high: 0x0200,
-        middle: 0x5e10,
-        low: 0x2030,
-    }
-}
-
-pub(crate) fn print(w: &mut impl Write, text: &[u8]) -> io::Result<()> {
-    w.write_all(text)
-}
-
-fn print_octets(w: &mut impl Write, s: &[u8]) -> io::Result<()> {
-    for o in s {
-        write!(w, "{o:02x}")?;
-    }
-    Ok(())
-}
-
-fn print_number(w: &mut impl Write, n: u16) -> io::Result<()> {
-    write!(w, "{n:04x} ")
-}
-
-// A letter where the bit is set, a dash where it is clear.
-fn print_bit(w: &mut impl Write, bit: bool, letter: u8) -> io::Result<()> {
-    if bit {
-        print(w, &[letter])
-    } else {
-        print(w, b"-")
-    }
-}
-
-pub(crate) fn print_state(w: &mut impl Write, s: PortState) -> io::Result<()> {
-    print_bit(w, s.activity, b'A')?;
-    print_bit(w, s.timeout, b'T')?;
-    print_bit(w, s.aggregation, b'G')?;
-    print_bit(w, s.synchronization, b'S')?;
-    print_bit(w, s.collecting, b'C')?;
-    print_bit(w, s.distributing, b'D')?;
-    print_bit(w, s.defaulted, b'F')?;
-    print_bit(w, s.expired, b'E')
-}
-
-fn print_block(w: &mut impl Write, b: Block) -> io::Result<()> {
-    print_number(w, b.system.priority)?;
-    let Address { high, middle, low } = b.system.address;
-    write!(w, "{high:04x}{middle:04x}{low:04x} ")?;
-    print_number(w, b.key)?;
-    print_number(w, b.port.priority)?;
-    print_number(w, b.port.number)?;
-    print_state(w, b.state)
-}
-
-fn print_sent(w: &mut impl Write, out: &[u8]) -> io::Result<()> {
-    print(w, b"  sends ")?;
-    print_octets(w, out)?;
-    print(w, b"\n")
-}
+const OWN_ADDRESS: Address = Address {
+    high: 0x0200,
+    middle: 0x5e10,
+    low: 0x2030,
+};
 
 fn print_lacpdu(w: &mut impl Write, frame: &[u8]) -> io::Result<()>
     requires { 124 ≤ length frame.now }
 {
     let actor = Block::read(frame::wire::actor(frame));
     let partner = Block::read(frame::wire::partner(frame));
-    print(w, b" lacpdu actor ")?;
-    print_block(w, actor)?;
-    print(w, b" partner ")?;
-    print_block(w, partner)?;
-    print(w, b"\n")?;
+    writeln!(
+        w,
+        " lacpdu actor {} partner {}",
+        Shown(actor),
+        Shown(partner)
+    )?;
     let mut out = [0xffu8; 124];
     frame::wire::write_lacpdu(
         &mut out,
-        own_address(),
+        OWN_ADDRESS,
         actor,
         partner,
         TensOfMicroseconds(0x1234),
     );
-    print_sent(w, &out)
+    writeln!(w, "  sends {}", Shown(out.as_slice()))
 }
 
 fn print_marker(w: &mut impl Write, frame: &[u8]) -> io::Result<()>
     requires { 124 ≤ length frame.now }
 {
-    print(w, b" marker\n")?;
     let mut out = [0xffu8; 124];
-    frame::wire::write_response(&mut out, own_address(), frame);
-    print_sent(w, &out)
-}
-
-fn print_refusal(w: &mut impl Write, why: Refusal) -> io::Result<()> {
-    let number = why.number();
-    writeln!(w, " refused {number}")
+    frame::wire::write_response(&mut out, OWN_ADDRESS, frame);
+    writeln!(w, " marker")?;
+    writeln!(w, "  sends {}", Shown(out.as_slice()))
 }
 
 fn print_frame(w: &mut impl Write, count: u64, frame: &[u8]) -> io::Result<()> {
     write!(w, "{count}")?;
-    match frame::class::classify(frame) {
-        Class::Lacpdu => print_lacpdu(w, frame),
-        Class::Marker => print_marker(w, frame),
-        Class::Response => print(w, b" response\n"),
-        Class::Refused(why) => print_refusal(w, why),
+    match classify(frame) {
+        Ok(Kind::Lacpdu) => print_lacpdu(w, frame),
+        Ok(Kind::Marker) => print_marker(w, frame),
+        Ok(Kind::Response) => writeln!(w, " response"),
+        Err(why) => writeln!(w, " refused {}", u8::from(why)),
     }
 }
 
@@ -135,10 +79,10 @@ fn print_next(w: &mut impl Write, file: &mut impl Read, count: u64) -> io::Resul
     if !read_full(file, &mut head)? {
         return Ok(false);
     }
-    let size = octets::number(&head, 0) as usize;
+    let size = u16::from_be_bytes(head) as usize;
     let mut buf = [0u8; 65536];
     if !read_full(file, &mut buf[..size])? {
-        print(w, b"the file ends within a frame\n")?;
+        writeln!(w, "the file ends within a frame")?;
         return Ok(false);
     }
     print_frame(w, count, &buf[..size])?;

@@ -2,150 +2,128 @@
 // tools/story-of-six.py works out the same lines from the documents.
 ghost use Rattle.std.specs.Prelude.{◌≤◌, length};
 
-use crate::print;
-use crate::story::{nobody, print_machines, state, system};
-use control::answer::Answer;
+use crate::OWN_ADDRESS;
+use crate::shown::Shown;
+use crate::story::{nobody, system};
+use control::answer::{Answer, Numbered, length_sent};
 use frame::block::{Address, Block, PortId};
+use frame::state::PortState;
 use frame::wire::{MarkerType, TensOfMicroseconds};
-use machine::states::{Mux, Receive};
+use machine::states::{Line, Mux, Receive};
 use port::record::Port;
 use settings::Settings;
+use std::fmt;
 use std::io::{self, Write};
 use table::layout::RECORD;
 use table::record::read_record;
 
+// A link that is down, and one that is up at half and at full duplex.
+const DOWN: Line = Line {
+    up: false,
+    full: true,
+};
+
+const HALF: Line = Line {
+    up: true,
+    full: false,
+};
+
+const FULL: Line = Line {
+    up: true,
+    full: true,
+};
+
 // ---- lines
 
-fn print_number(w: &mut impl Write, n: u32) -> io::Result<()> {
-    write!(w, "{n}")
-}
-
-fn print_receive_letter(w: &mut impl Write, s: Receive) -> io::Result<()> {
+fn receive_letter(s: Receive) -> char {
     match s {
-        Receive::Initialize => print(w, b"I"),
-        Receive::PortDisabled => print(w, b"P"),
-        Receive::Expired => print(w, b"E"),
-        Receive::LacpDisabled => print(w, b"L"),
-        Receive::Defaulted => print(w, b"F"),
-        Receive::Current => print(w, b"C"),
+        Receive::Initialize => 'I',
+        Receive::PortDisabled => 'P',
+        Receive::Expired => 'E',
+        Receive::LacpDisabled => 'L',
+        Receive::Defaulted => 'F',
+        Receive::Current => 'C',
     }
 }
 
-fn print_mux_letter(w: &mut impl Write, s: Mux) -> io::Result<()> {
+fn mux_letter(s: Mux) -> char {
     match s {
-        Mux::Detached => print(w, b"d"),
-        Mux::Waiting => print(w, b"w"),
-        Mux::Attached => print(w, b"a"),
-        Mux::Collecting => print(w, b"c"),
-        Mux::Distributing => print(w, b"D"),
+        Mux::Detached => 'd',
+        Mux::Waiting => 'w',
+        Mux::Attached => 'a',
+        Mux::Collecting => 'c',
+        Mux::Distributing => 'D',
     }
 }
 
-// A wait timer in two places, or dashes where the port does not wait.
-fn print_wait(w: &mut impl Write, waits: bool, n: u16) -> io::Result<()> {
-    if waits {
-        write!(w, "{n:02}")
-    } else {
-        print(w, b"--")
+// A port in short: aggregator held, receive state, mux state, and its wait timer, or dashes where it does not wait.
+#[derive(Drop)]
+struct Cell(Port);
+
+impl fmt::Display for Cell {
+    fn fmt<W: fmt::Write>(&self, f: &mut fmt::Formatter<W>) -> fmt::Result {
+        let p = self.0;
+        write!(f, "{}{}", p.aggregator, receive_letter(p.phase.receive))?;
+        write!(f, "{}", mux_letter(p.phase.mux))?;
+        if p.phase.mux.waits() {
+            write!(f, "{:02}", p.timers.wait.0)
+        } else {
+            write!(f, "--")
+        }
+    }
+}
+
+// The first six ports: a hash for one that is in the set, and a dash for one that is not.
+#[derive(Drop)]
+struct Members(u32);
+
+impl fmt::Display for Members {
+    fn fmt<W: fmt::Write>(&self, f: &mut fmt::Formatter<W>) -> fmt::Result {
+        for i in 0u32..6 {
+            write!(f, "{}", if self.0 >> i & 1 == 1 { '#' } else { '-' })?;
+        }
+        Ok(())
     }
 }
 
 // What the report of port n tells.
 fn reported(table: &[u8], n: u32) -> Port {
     let mut s = [0u8; RECORD];
-    control::report_port(table, n, &mut s);
+    let _ = control::report_port(table, n, &mut s);
     read_record(&s)
 }
 
-// Aggregator held, receive state, mux state, wait timer.
-fn print_cell(w: &mut impl Write, table: &[u8], n: u32) -> io::Result<()> {
-    let p = reported(table, n);
-    let h = p.phase;
-    print_number(w, p.aggregator as u32)?;
-    print_receive_letter(w, h.receive)?;
-    print_mux_letter(w, h.mux)?;
-    print_wait(w, h.mux.waits(), p.timers.wait.0)
-}
-
-fn print_next_cell(w: &mut impl Write, table: &[u8], n: u32) -> io::Result<()> {
-    print(w, b"  ")?;
-    print_cell(w, table, n)
-}
-
 // What happened, and the six ports after it.
-fn tell(w: &mut impl Write, event: &[u8], table: &[u8]) -> io::Result<()> {
-    print(w, event)?;
-    print_cell(w, table, 1)?;
-    print_next_cell(w, table, 2)?;
-    print_next_cell(w, table, 3)?;
-    print_next_cell(w, table, 4)?;
-    print_next_cell(w, table, 5)?;
-    print_next_cell(w, table, 6)?;
-    print(w, b"\n")
-}
-
-fn print_member(w: &mut impl Write, is_in: bool) -> io::Result<()> {
-    if is_in {
-        print(w, b"#")
-    } else {
-        print(w, b"-")
+fn tell(w: &mut impl Write, event: &str, table: &[u8]) -> io::Result<()> {
+    write!(w, "{event:<34}{}", Cell(reported(table, 1)))?;
+    for n in 2..7 {
+        write!(w, "  {}", Cell(reported(table, n)))?;
     }
-}
-
-fn print_set(w: &mut impl Write, set: u32) -> io::Result<()> {
-    print_member(w, set % 2 == 1)?;
-    print_member(w, set / 2 % 2 == 1)?;
-    print_member(w, set / 4 % 2 == 1)?;
-    print_member(w, set / 8 % 2 == 1)?;
-    print_member(w, set / 16 % 2 == 1)?;
-    print_member(w, set / 32 % 2 == 1)
+    writeln!(w)
 }
 
 fn tell_aggregator(w: &mut impl Write, table: &[u8], k: u32) -> io::Result<()> {
-    let r = control::report_aggregator(table, k);
-    print(w, b"  aggregator ")?;
-    print_number(w, k)?;
-    print(w, b" holds ")?;
-    print_set(w, r.sets.holding)?;
-    print(w, b" attached ")?;
-    print_set(w, r.sets.attached)?;
-    print(w, b" distributing ")?;
-    print_set(w, r.sets.distributing)?;
-    print(w, b" count ")?;
-    print_number(w, r.sets.count)?;
-    print(w, b" lowest ")?;
-    print_number(w, r.sets.lowest)?;
-    print(w, b"\n")
+    let sets = control::report_aggregator(table, k).unwrap_or_default();
+    write!(w, "  aggregator {k} holds {}", Members(sets.holding))?;
+    write!(w, " attached {}", Members(sets.attached))?;
+    write!(w, " distributing {}", Members(sets.distributing))?;
+    writeln!(w, " count {} lowest {}", sets.count, sets.lowest)
 }
 
 fn tell_port(w: &mut impl Write, table: &[u8], n: u32) -> io::Result<()> {
-    let p = reported(table, n);
-    print(w, b"  port ")?;
-    print_number(w, n)?;
-    print(w, b" ")?;
-    print_machines(w, p)
+    writeln!(w, "  port {n} {}", Shown(reported(table, n)))
 }
 
-fn tell_answer(w: &mut impl Write, what: &[u8], answer: Answer) -> io::Result<()> {
-    print(w, b"  ")?;
-    print(w, what)?;
-    print(w, b": ")?;
-    print_number(w, answer.number() as u32)?;
-    print(w, b"\n")
+fn tell_answer(w: &mut impl Write, what: &str, answer: impl Numbered) -> io::Result<()> {
+    writeln!(w, "  {what}: {}", answer.number())
 }
 
 // The answer to a received frame has the length sent beside a 0.
-fn tell_heard(w: &mut impl Write, what: &[u8], answer: Answer) -> io::Result<()> {
-    let number = answer.number();
-    print(w, b"  ")?;
-    print(w, what)?;
-    print(w, b": ")?;
-    print_number(w, number as u32)?;
-    if number == 0 {
-        print(w, b" sent ")?;
-        print_number(w, answer.length_sent() as u32)?;
+fn tell_heard(w: &mut impl Write, what: &str, answer: Answer) -> io::Result<()> {
+    match answer {
+        Ok(_) => writeln!(w, "  {what}: 0 sent {}", length_sent(answer)),
+        Err(why) => tell_answer(w, what, why),
     }
-    print(w, b"\n")
 }
 
 // ---- calls
@@ -153,11 +131,7 @@ fn tell_heard(w: &mut impl Write, what: &[u8], answer: Answer) -> io::Result<()>
 // Key, active, short timeout, aggregatable, and the default partner block's state.
 fn settings(key: u16, default: u8) -> Settings {
     Settings {
-        address: Address {
-            high: 0x0200,
-            middle: 0x5e10,
-            low: 0x2030,
-        },
+        address: OWN_ADDRESS,
         key,
         priority: 1,
         activity: true,
@@ -175,12 +149,6 @@ fn start(table: &mut [u8], count: u32, default: u8) -> Answer {
         TensOfMicroseconds(0),
         settings(1, default),
     )
-}
-
-fn ticks(table: &mut [u8], n: u32) {
-    for _ in 0..n {
-        control::tick(table);
-    }
 }
 
 fn configure(table: &mut [u8], n: u32, key: u16, default: u8) -> Answer {
@@ -204,7 +172,7 @@ fn far_end(s: u16, q: u16) -> Block {
             priority: 1,
             number: q,
         },
-        state: state(0x3f),
+        state: PortState::from(0x3f),
     }
 }
 
@@ -238,250 +206,272 @@ fn speak(table: &mut [u8], s: u16, q: u16, n: u32) -> Answer {
 // A Marker of system 5, port 1, transaction 7, or a Response to it, is received with this buffer.
 fn mark(table: &mut [u8], n: u32, kind: MarkerType, out: &mut [u8]) -> Answer {
     let mut frame = [0u8; 124];
-    let request: [u8; 12] = [0, 1, 0, 0, 0, 0, 0, 5, 0, 0, 0, 7];
+    let request = [0, 1, 0, 0, 0, 0, 0, 5, 0, 0, 0, 7];
     frame::wire::write_marker(&mut frame, sender(5), kind, &request);
     control::receive(table, n, &frame, out)
 }
 
-fn fetch(table: &mut [u8], n: u32) -> Answer {
-    let mut out = [0xffu8; 124];
-    control::fetch(table, n, &mut out)
-}
-
 // ---- the story
 
-fn links_up(table: &mut [u8], a: u32, b: u32, c: u32) {
-    control::line(table, a, true, true);
-    control::line(table, b, true, true);
-    control::line(table, c, true, true);
+// A step of the story: something happens, or something is told.
+#[derive(Clone, Copy)]
+enum Step {
+    // The line of our port n becomes such.
+    Link(u32, Line),
+    // Far end s.q speaks on our port n: s, q, n.
+    Speak(u16, u16, u32),
+    Ticks(u32),
+    // The key of our port n becomes such.
+    Key(u32, u16),
+    // What happened, and the six ports after it.
+    Tell(&'static str),
+    // Who holds aggregator k, is attached to it and distributes.
+    Aggregator(u32),
+    // The machines of our port n.
+    Machines(u32),
 }
 
-fn partners_5_speak(table: &mut [u8]) {
-    speak(table, 5, 1, 1);
-    speak(table, 5, 2, 2);
-    speak(table, 5, 3, 3);
+use Step::{Aggregator, Key, Link, Machines, Speak, Tell, Ticks};
+
+fn ticks(table: &mut [u8], n: u32) {
+    for _ in 0..n {
+        let _ = control::tick(table);
+    }
 }
 
-fn partners_6_speak(table: &mut [u8]) {
-    speak(table, 6, 4, 4);
-    speak(table, 6, 5, 5);
-    speak(table, 6, 6, 6);
+fn play_one(w: &mut impl Write, table: &mut [u8], step: Step) -> io::Result<()> {
+    match step {
+        Link(n, line) => {
+            let _ = control::line(table, n, line);
+            Ok(())
+        }
+        Speak(s, q, n) => {
+            let _ = speak(table, s, q, n);
+            Ok(())
+        }
+        Ticks(n) => {
+            ticks(table, n);
+            Ok(())
+        }
+        Key(n, key) => {
+            let _ = configure(table, n, key, 0);
+            Ok(())
+        }
+        Tell(event) => tell(w, event, table),
+        Aggregator(k) => tell_aggregator(w, table, k),
+        Machines(n) => tell_port(w, table, n),
+    }
 }
 
-fn tell_start(w: &mut impl Write, table: &mut [u8]) -> io::Result<()> {
-    start(table, 6, 0);
-    tell(w, b"start                             ", table)?;
-    tell_aggregator(w, table, 1)?;
-    tell_port(w, table, 1)?;
-    links_up(table, 1, 2, 3);
-    links_up(table, 4, 5, 6);
-    tell(w, b"links 1 to 6 up                   ", table)?;
-    tell_port(w, table, 1)
+fn play(w: &mut impl Write, table: &mut [u8], steps: &[Step]) -> io::Result<()> {
+    for step in steps {
+        play_one(w, table, *step)?;
+    }
+    Ok(())
 }
+
+const START: [Step; 11] = [
+    Tell("start"),
+    Aggregator(1),
+    Machines(1),
+    Link(1, FULL),
+    Link(2, FULL),
+    Link(3, FULL),
+    Link(4, FULL),
+    Link(5, FULL),
+    Link(6, FULL),
+    Tell("links 1 to 6 up"),
+    Machines(1),
+];
 
 // Two trunks form.
-fn tell_forming(w: &mut impl Write, table: &mut [u8]) -> io::Result<()> {
-    partners_5_speak(table);
-    partners_6_speak(table);
-    tell(w, b"partners 5.1 5.2 5.3, 6.4 6.5 6.6 ", table)?;
-    tell_port(w, table, 1)?;
-    ticks(table, 19);
-    tell(w, b"19 ticks                          ", table)?;
-    ticks(table, 1);
-    tell(w, b"1 tick                            ", table)?;
-    tell_aggregator(w, table, 1)?;
-    tell_aggregator(w, table, 4)?;
-    tell_aggregator(w, table, 2)?;
-    tell_port(w, table, 4)
-}
+const FORMING: [Step; 16] = [
+    Speak(5, 1, 1),
+    Speak(5, 2, 2),
+    Speak(5, 3, 3),
+    Speak(6, 4, 4),
+    Speak(6, 5, 5),
+    Speak(6, 6, 6),
+    Tell("partners 5.1 5.2 5.3, 6.4 6.5 6.6"),
+    Machines(1),
+    Ticks(19),
+    Tell("19 ticks"),
+    Ticks(1),
+    Tell("1 tick"),
+    Aggregator(1),
+    Aggregator(4),
+    Aggregator(2),
+    Machines(4),
+];
+
+const LINK_DOWN: [Step; 4] = [
+    Link(1, DOWN),
+    Tell("link 1 down"),
+    Aggregator(1),
+    Machines(1),
+];
+
+// The cable of link 1 is moved to port 6.
+const MOVING: [Step; 14] = [
+    Speak(5, 2, 2),
+    Speak(5, 3, 3),
+    Speak(6, 4, 4),
+    Speak(6, 5, 5),
+    Speak(6, 6, 6),
+    Tell("all speak"),
+    Speak(5, 1, 6),
+    Tell("5.1 speaks on port 6"),
+    Aggregator(1),
+    Aggregator(2),
+    Aggregator(4),
+    Machines(1),
+    Ticks(10),
+    Tell("10 ticks"),
+];
+
+// All far ends but 6.4, which has fallen silent.
+const OTHERS_SPEAK: [Step; 5] = [
+    Speak(5, 2, 2),
+    Speak(5, 3, 3),
+    Speak(6, 5, 5),
+    Speak(5, 1, 6),
+    Tell("all speak but 6.4"),
+];
+
+const SILENCE: [Step; 4] = [Ticks(10), Tell("10 ticks"), Aggregator(2), Aggregator(4)];
+
+// Port 4 expires.
+const EXPIRY: [Step; 3] = [Ticks(10), Tell("10 ticks"), Machines(4)];
+
+const LONGER_SILENCE: [Step; 2] = [Ticks(20), Tell("20 ticks")];
+
+// Port 4 is defaulted, and port 5 moves.
+const DEFAULT: [Step; 5] = [
+    Ticks(10),
+    Tell("10 ticks"),
+    Machines(4),
+    Aggregator(4),
+    Aggregator(5),
+];
+
+// Port 3 has another key.
+const OTHER_KEY: [Step; 4] = [
+    Key(3, 2),
+    Tell("key of port 3 becomes 2"),
+    Aggregator(2),
+    Aggregator(3),
+];
+
+// Port 5 has half duplex.
+const HALF_DUPLEX: [Step; 8] = [
+    Link(5, HALF),
+    Tell("duplex of port 5 half"),
+    Machines(5),
+    Ticks(20),
+    Tell("20 ticks"),
+    Aggregator(2),
+    Aggregator(3),
+    Aggregator(5),
+];
+
+// Link 1 comes up at half duplex, and nothing is to be fetched.
+const UP_AT_HALF_DUPLEX: [Step; 3] = [Link(1, HALF), Tell("port 1 up at half duplex"), Machines(1)];
+
+const FIRST_BACK: [Step; 9] = [
+    Link(1, FULL),
+    Tell("duplex of port 1 full"),
+    Speak(6, 6, 1),
+    Tell("6.6 speaks on port 1"),
+    Ticks(5),
+    Tell("5 ticks"),
+    Speak(6, 4, 4),
+    Tell("6.4 speaks on port 4"),
+    Aggregator(1),
+];
+
+const OTHERS_BACK: [Step; 7] = [
+    Link(5, FULL),
+    Tell("duplex of port 5 full"),
+    Speak(6, 5, 5),
+    Tell("6.5 speaks on port 5"),
+    Aggregator(1),
+    Key(3, 1),
+    Tell("key of port 3 becomes 1"),
+];
+
+// Two trunks again, of other ports; those of the first wait for one another.
+const FORMING_AGAIN: [Step; 16] = [
+    Speak(6, 6, 1),
+    Speak(6, 4, 4),
+    Speak(5, 2, 2),
+    Speak(5, 3, 3),
+    Speak(6, 5, 5),
+    Speak(5, 1, 6),
+    Tell("all speak"),
+    Ticks(15),
+    Tell("15 ticks"),
+    Ticks(5),
+    Tell("5 ticks"),
+    Aggregator(1),
+    Aggregator(2),
+    Aggregator(3),
+    Machines(3),
+    Tell("fetch on every port"),
+];
 
 fn tell_markers(w: &mut impl Write, table: &mut [u8]) -> io::Result<()> {
     let mut out = [0xffu8; 124];
+    tell_heard(w, "LACPDU on port 1", speak(table, 5, 1, 1))?;
     tell_heard(
         w,
-        b"Marker on port 1",
+        "Marker on port 1",
         mark(table, 1, MarkerType::Marker, &mut out),
     )?;
     tell_heard(
         w,
-        b"Marker on port 2",
+        "Marker on port 2",
         mark(table, 2, MarkerType::Marker, &mut out),
     )?;
     tell_heard(
         w,
-        b"Response on port 2",
+        "Response on port 2",
         mark(table, 2, MarkerType::Response, &mut out),
     )
 }
 
-fn tell_link_down(w: &mut impl Write, table: &mut [u8]) -> io::Result<()> {
-    control::line(table, 1, false, true);
-    tell(w, b"link 1 down                       ", table)?;
-    tell_aggregator(w, table, 1)?;
-    tell_port(w, table, 1)?;
-    tell_heard(w, b"LACPDU on port 1", speak(table, 5, 1, 1))?;
-    tell_markers(w, table)
-}
-
-// The cable of link 1 is moved to port 6.
-fn tell_moving(w: &mut impl Write, table: &mut [u8]) -> io::Result<()> {
-    speak(table, 5, 2, 2);
-    speak(table, 5, 3, 3);
-    partners_6_speak(table);
-    tell(w, b"all speak                         ", table)?;
-    speak(table, 5, 1, 6);
-    tell(w, b"5.1 speaks on port 6              ", table)?;
-    tell_aggregator(w, table, 1)?;
-    tell_aggregator(w, table, 2)?;
-    tell_aggregator(w, table, 4)?;
-    tell_port(w, table, 1)
-}
-
-fn tell_10_ticks(w: &mut impl Write, table: &mut [u8]) -> io::Result<()> {
-    ticks(table, 10);
-    tell(w, b"10 ticks                          ", table)
-}
-
-// All far ends but 6.4, which has fallen silent.
-fn others_speak(w: &mut impl Write, table: &mut [u8]) -> io::Result<()> {
-    speak(table, 5, 2, 2);
-    speak(table, 5, 3, 3);
-    speak(table, 6, 5, 5);
-    speak(table, 5, 1, 6);
-    tell(w, b"all speak but 6.4                 ", table)
-}
-
-// Port 4 expires.
-fn tell_silence(w: &mut impl Write, table: &mut [u8]) -> io::Result<()> {
-    others_speak(w, table)?;
-    tell_10_ticks(w, table)?;
-    tell_aggregator(w, table, 2)?;
-    tell_aggregator(w, table, 4)?;
-    others_speak(w, table)?;
-    tell_10_ticks(w, table)?;
-    tell_port(w, table, 4)
-}
-
-// Port 4 is defaulted, and port 5 moves.
-fn tell_default(w: &mut impl Write, table: &mut [u8]) -> io::Result<()> {
-    others_speak(w, table)?;
-    ticks(table, 20);
-    tell(w, b"20 ticks                          ", table)?;
-    others_speak(w, table)?;
-    tell_10_ticks(w, table)?;
-    tell_port(w, table, 4)?;
-    tell_aggregator(w, table, 4)?;
-    tell_aggregator(w, table, 5)
-}
-
-// Port 3 has another key.
-fn tell_other_key(w: &mut impl Write, table: &mut [u8]) -> io::Result<()> {
-    configure(table, 3, 2, 0);
-    tell(w, b"key of port 3 becomes 2           ", table)?;
-    tell_aggregator(w, table, 2)?;
-    tell_aggregator(w, table, 3)?;
-    others_speak(w, table)
-}
-
-// Port 5 has half duplex.
-fn tell_half_duplex(w: &mut impl Write, table: &mut [u8]) -> io::Result<()> {
-    control::line(table, 5, true, false);
-    tell(w, b"duplex of port 5 half             ", table)?;
-    tell_port(w, table, 5)?;
-    ticks(table, 20);
-    tell(w, b"20 ticks                          ", table)?;
-    tell_aggregator(w, table, 2)?;
-    tell_aggregator(w, table, 3)?;
-    tell_aggregator(w, table, 5)
-}
-
-// Link 1 comes up at half duplex, and nothing is to be fetched.
-fn tell_up_at_half_duplex(w: &mut impl Write, table: &mut [u8]) -> io::Result<()> {
-    control::line(table, 1, true, false);
-    tell(w, b"port 1 up at half duplex          ", table)?;
-    tell_port(w, table, 1)?;
-    tell_answer(w, b"fetch on port 1", fetch(table, 1))
-}
-
-fn tell_first_back(w: &mut impl Write, table: &mut [u8]) -> io::Result<()> {
-    control::line(table, 1, true, true);
-    tell(w, b"duplex of port 1 full             ", table)?;
-    speak(table, 6, 6, 1);
-    tell(w, b"6.6 speaks on port 1              ", table)?;
-    ticks(table, 5);
-    tell(w, b"5 ticks                           ", table)?;
-    speak(table, 6, 4, 4);
-    tell(w, b"6.4 speaks on port 4              ", table)?;
-    tell_aggregator(w, table, 1)
-}
-
-fn tell_others_back(w: &mut impl Write, table: &mut [u8]) -> io::Result<()> {
-    control::line(table, 5, true, true);
-    tell(w, b"duplex of port 5 full             ", table)?;
-    speak(table, 6, 5, 5);
-    tell(w, b"6.5 speaks on port 5              ", table)?;
-    tell_aggregator(w, table, 1)?;
-    configure(table, 3, 1, 0);
-    tell(w, b"key of port 3 becomes 1           ", table)
-}
-
-// Two trunks again, of other ports; those of the first wait for one another.
-fn tell_forming_again(w: &mut impl Write, table: &mut [u8]) -> io::Result<()> {
-    speak(table, 6, 6, 1);
-    speak(table, 6, 4, 4);
-    others_speak_again(w, table)?;
-    ticks(table, 15);
-    tell(w, b"15 ticks                          ", table)?;
-    ticks(table, 5);
-    tell(w, b"5 ticks                           ", table)?;
-    tell_aggregator(w, table, 1)?;
-    tell_aggregator(w, table, 2)?;
-    tell_aggregator(w, table, 3)?;
-    tell_port(w, table, 3)
-}
-
-fn others_speak_again(w: &mut impl Write, table: &mut [u8]) -> io::Result<()> {
-    speak(table, 5, 2, 2);
-    speak(table, 5, 3, 3);
-    speak(table, 6, 5, 5);
-    speak(table, 5, 1, 6);
-    tell(w, b"all speak                         ", table)
+fn tell_fetch(w: &mut impl Write, table: &mut [u8], n: u32) -> io::Result<()> {
+    let mut out = [0xffu8; 124];
+    let answer = control::fetch(table, n, &mut out);
+    writeln!(w, "  fetch on port {n}: {}", answer.number())
 }
 
 fn tell_fetches(w: &mut impl Write, table: &mut [u8]) -> io::Result<()> {
-    tell(w, b"fetch on every port               ", table)?;
-    tell_answer(w, b"fetch on port 1", fetch(table, 1))?;
-    tell_answer(w, b"fetch on port 2", fetch(table, 2))?;
-    tell_answer(w, b"fetch on port 3", fetch(table, 3))
-}
-
-fn tell_more_fetches(w: &mut impl Write, table: &mut [u8]) -> io::Result<()> {
-    tell_answer(w, b"fetch on port 4", fetch(table, 4))?;
-    tell_answer(w, b"fetch on port 5", fetch(table, 5))?;
-    tell_answer(w, b"fetch on port 6", fetch(table, 6))?;
-    tell_answer(w, b"fetch on port 1", fetch(table, 1))
+    for n in [1, 2, 3, 4, 5, 6, 1] {
+        tell_fetch(w, table, n)?;
+    }
+    Ok(())
 }
 
 fn tell_no_change(w: &mut impl Write, table: &mut [u8]) -> io::Result<()> {
     let mut out = [0xffu8; 123];
     tell_answer(
         w,
-        b"settings as they are on port 1",
+        "settings as they are on port 1",
         configure(table, 1, 1, 0),
     )?;
     tell_answer(
         w,
-        b"port 1 up at full duplex again",
-        control::line(table, 1, true, true),
+        "port 1 up at full duplex again",
+        control::line(table, 1, FULL),
     )?;
     tell_answer(
         w,
-        b"fetch with a buffer of 123 octets",
+        "fetch with a buffer of 123 octets",
         control::fetch(table, 1, &mut out),
     )?;
     tell_answer(
         w,
-        b"settings with a wrong default",
+        "settings with a wrong default",
         configure(table, 1, 1, 0x10),
     )
 }
@@ -491,19 +481,21 @@ fn tell_short_table(w: &mut impl Write, table: &mut [u8]) -> io::Result<()>
 {
     tell_answer(
         w,
-        b"tick of a table one octet short",
+        "tick of a table one octet short",
         control::tick(&mut table[..352]),
     )
 }
 
-fn tell_port_answer(w: &mut impl Write, what: &[u8], table: &[u8], n: u32) -> io::Result<()> {
-    tell_answer(w, what, control::report_port(table, n, &mut []))
-}
-
-fn tell_aggregator_answer(w: &mut impl Write, what: &[u8], table: &[u8], k: u32) -> io::Result<()> {
-    let r = control::report_aggregator(table, k);
-    let a = r.answer;
-    tell_answer(w, what, a)
+fn tell_reports(w: &mut impl Write, table: &[u8]) -> io::Result<()> {
+    for n in [0, 7] {
+        let answer = control::report_port(table, n, &mut []);
+        writeln!(w, "  report of port {n}: {}", answer.number())?;
+    }
+    for k in [0, 7] {
+        let answer = control::report_aggregator(table, k);
+        writeln!(w, "  report of aggregator {k}: {}", answer.number())?;
+    }
+    Ok(())
 }
 
 fn tell_thirteen_octets(w: &mut impl Write, table: &mut [u8]) -> io::Result<()> {
@@ -511,7 +503,7 @@ fn tell_thirteen_octets(w: &mut impl Write, table: &mut [u8]) -> io::Result<()> 
     let mut out = [0xffu8; 124];
     tell_heard(
         w,
-        b"thirteen octets on port 1",
+        "thirteen octets on port 1",
         control::receive(table, 1, &frame, &mut out),
     )
 }
@@ -523,7 +515,7 @@ fn tell_odd_version(w: &mut impl Write, table: &mut [u8]) -> io::Result<()> {
     octets::put(&mut frame, 15, &[7, 9]);
     tell_heard(
         w,
-        b"version 7, type octet 9 on port 1",
+        "version 7, type octet 9 on port 1",
         control::receive(table, 1, &frame, &mut out),
     )
 }
@@ -532,77 +524,72 @@ fn tell_short_buffer(w: &mut impl Write, table: &mut [u8]) -> io::Result<()> {
     let mut out = [0xffu8; 123];
     tell_heard(
         w,
-        b"a Marker with a buffer of 123 octets",
+        "a Marker with a buffer of 123 octets",
         mark(table, 1, MarkerType::Marker, &mut out),
     )
 }
 
 fn tell_starts(w: &mut impl Write, table: &mut [u8]) -> io::Result<()> {
-    tell_answer(w, b"start with a wrong default", start(table, 6, 0x08))?;
-    tell_answer(
-        w,
-        b"start of seven ports on this memory",
-        start(table, 7, 0),
-    )?;
-    start(table, 6, 0);
-    tell(w, b"start again                       ", table)?;
-    tell_aggregator(w, table, 1)
-}
-
-fn tell_refusals(w: &mut impl Write, table: &mut [u8]) -> io::Result<()> {
-    tell_port_answer(w, b"report of port 0", table, 0)?;
-    tell_port_answer(w, b"report of port 7", table, 7)?;
-    tell_aggregator_answer(w, b"report of aggregator 0", table, 0)?;
-    tell_aggregator_answer(w, b"report of aggregator 7", table, 7)?;
-    tell_thirteen_octets(w, table)?;
-    tell_odd_version(w, table)?;
-    tell_short_buffer(w, table)?;
-    tell_starts(w, table)
+    tell_answer(w, "start with a wrong default", start(table, 6, 0x08))?;
+    tell_answer(w, "start of seven ports on this memory", start(table, 7, 0))?;
+    let _ = start(table, 6, 0);
+    play(w, table, &[Tell("start again"), Aggregator(1)])
 }
 
 fn tell_widest(w: &mut impl Write) -> io::Result<()> {
     let mut table = [0u8; 1835];
-    tell_answer(w, b"start of 32 ports", start(&mut table, 32, 0))?;
-    tell_port_answer(w, b"report of port 32 of 32", &table, 32)?;
-    tell_port_answer(w, b"report of port 33 of 32", &table, 33)
+    tell_answer(w, "start of 32 ports", start(&mut table, 32, 0))?;
+    for n in [32, 33] {
+        let answer = control::report_port(&table, n, &mut []);
+        writeln!(w, "  report of port {n} of 32: {}", answer.number())?;
+    }
+    Ok(())
 }
 
 fn tell_trunks(w: &mut impl Write, table: &mut [u8]) -> io::Result<()> {
-    tell_start(w, table)?;
-    tell_forming(w, table)?;
-    tell_link_down(w, table)?;
-    tell_moving(w, table)
+    let _ = start(table, 6, 0);
+    play(w, table, &START)?;
+    play(w, table, &FORMING)?;
+    play(w, table, &LINK_DOWN)?;
+    tell_markers(w, table)?;
+    play(w, table, &MOVING)
 }
 
 fn tell_losses(w: &mut impl Write, table: &mut [u8]) -> io::Result<()> {
-    tell_10_ticks(w, table)?;
-    tell_silence(w, table)?;
-    tell_default(w, table)?;
-    tell_other_key(w, table)?;
-    tell_half_duplex(w, table)
+    for then in [SILENCE.as_slice(), &EXPIRY, &LONGER_SILENCE, &DEFAULT] {
+        play(w, table, &OTHERS_SPEAK)?;
+        play(w, table, then)?;
+    }
+    play(w, table, &OTHER_KEY)?;
+    play(w, table, &OTHERS_SPEAK)?;
+    play(w, table, &HALF_DUPLEX)
 }
 
 fn tell_return(w: &mut impl Write, table: &mut [u8]) -> io::Result<()> {
-    tell_up_at_half_duplex(w, table)?;
-    tell_first_back(w, table)?;
-    tell_others_back(w, table)?;
-    tell_forming_again(w, table)
+    play(w, table, &UP_AT_HALF_DUPLEX)?;
+    tell_fetch(w, table, 1)?;
+    play(w, table, &FIRST_BACK)?;
+    play(w, table, &OTHERS_BACK)?;
+    play(w, table, &FORMING_AGAIN)
 }
 
 fn tell_answers(w: &mut impl Write, table: &mut [u8]) -> io::Result<()>
     requires { 352 ≤ length table.old }
 {
     tell_fetches(w, table)?;
-    tell_more_fetches(w, table)?;
     tell_no_change(w, table)?;
     tell_short_table(w, table)?;
-    tell_refusals(w, table)
+    tell_reports(w, table)?;
+    tell_thirteen_octets(w, table)?;
+    tell_odd_version(w, table)?;
+    tell_short_buffer(w, table)?;
+    tell_starts(w, table)
 }
 
 pub fn print_story(w: &mut impl Write) -> io::Result<()> {
-    print(
+    writeln!(
         w,
-        b"six ports, active, short timeout, aggregatable, default partner block all zeros\n",
+        "six ports, active, short timeout, aggregatable, default partner block all zeros"
     )?;
     let mut table = [0u8; 353];
     tell_trunks(w, &mut table)?;

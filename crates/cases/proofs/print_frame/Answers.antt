@@ -4,7 +4,7 @@ use Rattle.frame.proofs.ClassLaws.{passes, passed-whole}
 use Rattle.cases.proofs.print_frame.Goals as goal
 
 pub print_lacpdu-requires : goal.print_lacpdu-requires
-print_lacpdu-requires g c = passed-whole _ (ap passes (sym c.classify.ensures ∙ c.in-Lacpdu.is))
+print_lacpdu-requires g c = passed-whole _ (ap passes (sym c.classify.ensures ∙ c.in-Ok-Lacpdu.is))
 
 pub print_marker-requires : goal.print_marker-requires
-print_marker-requires g c = passed-whole _ (ap passes (sym c.classify.ensures ∙ c.in-Marker.is))
+print_marker-requires g c = passed-whole _ (ap passes (sym c.classify.ensures ∙ c.in-Ok-Marker.is))
