@@ -449,7 +449,7 @@ MUTANTS = [
         ("churn/specs/Churn.antt", "    monitors (watched p.line.up p.actor.synchronization m.actor) (watched p.line.up p.partner.state.synchronization m.partner)",
          "    let on = mathlib.Core.Bool.cond p.line.up p.line.full false in\n    monitors (watched on p.actor.synchronization m.actor) (watched on p.partner.state.synchronization m.partner)"),)),
     Mutant("case churn", "expiry before Synchronization", ("never-settles",), "", (
-        ("churn/specs/Churn.antt", "churn_next true Monitor true out = Enter NoChurn", "churn_next true Monitor true true = Enter Churn\nchurn_next true Monitor true false = Enter NoChurn"),)),
+        ("churn/specs/Churn.antt", "churn_next true Monitor true out = Some NoChurn", "churn_next true Monitor true true = Some Churn\nchurn_next true Monitor true false = Some NoChurn"),)),
     Mutant("case churn", "a link that falls forgets the count", ("never-settles",), "churn::watch::Watch::enter", (
         ("churn/specs/Churn.antt", "churn_entered Monitor w = watch Monitor (ticks churn_detection_time) w.count", "churn_entered Monitor w = watch Monitor (ticks churn_detection_time) 0"),
         ("churn/src/watch.rt", "Churn::Monitor => (CHURN_DETECTION_TIME, self.count)", "Churn::Monitor => (CHURN_DETECTION_TIME, 0)"))),
