@@ -1,5 +1,4 @@
 -- `apart` meets its contract: both ports are found, or the first that is not is refused as a report of it is. Assumes nothing.
-use Prim.Native.Nat.{ℕ}
 use mathlib.Core.Path.{sym, ap, ◌∙◌}
 use mathlib.Core.List.{map}
 use Rattle.std.specs.Prelude.{Ok}
@@ -20,7 +19,7 @@ pub returns-in_err-j : goal.returns-in_err-j
 returns-in_err-j c =
     let a = c.args in
     let here = found-ok a.n a.table.now (sym c.find.ensures ∙ c.in_ok-i.was) in
-    passed-up _ c.from_residual-2.ensures.1 ∙ apart-refused-then a.n a.table.now a.m here.0 (found-err a.m a.table.now (sym c.find-2.ensures ∙ c.in_err-j.was))
+    passed-up _ c.from_residual-in_err-j.ensures.1 ∙ apart-refused-then a.n a.table.now a.m here.0 (found-err a.m a.table.now (sym c.find-2.ensures ∙ c.in_err-j.was))
 
 pub records-requires : goal.records-requires
 records-requires c =

@@ -1,14 +1,10 @@
 -- `find` meets its contract: a report of the port has answers 1 and 2, and its number is one at least where it is accepted. Assumes nothing.
-use mathlib.Core.Path.{◌≡◌, sym, ap, ◌∙◌}
-use mathlib.Core.Bool.{true}
-use Rattle.std.specs.Prelude.{Result}
+use mathlib.Core.Path.{sym, ap, ◌∙◌}
+use Rattle.std.specs.Prelude.{◌-◌}
 use Rattle.control.specs.Accepted.{accepted}
 use Rattle.control.specs.Answer.{Answer}
-use Rattle.control.specs.Call.{report}
 use Rattle.control.specs.Report.{answered_with}
 use Rattle.control.proofs.CallLaws.{passed-up}
-use Rattle.asked.specs.Layer.{new_layer}
-use Rattle.asked.specs.Calls.{asked_answer}
 use Rattle.reasons.specs.Reasons.{port_found}
 use Rattle.reasons.proofs.FoundLaws.{found}
 use Rattle.reasons.proofs.find.Goals as goal
