@@ -262,8 +262,7 @@ pub fn start(
 fn find(front: &[u8], n: u32) -> Answer
     ensures { result ≡ whole_answer (call_report n) front.now }
 {
-    let mut none = [0u8; 1];
-    whole::report_port(front, n, &mut none)
+    whole::report_port(front, n, &mut [])
 }
 
 // Writes the Marker of port n, whose number is `number`, over the first 124 octets of out. `base` is the header and the records.
