@@ -7,15 +7,20 @@ ghost use Rattle.asked.specs.Layer.{old_layer, new_layer};
 ghost use Rattle.asked.specs.Meets.{MeetsNumber, MeetsAskNumber, MeetsRecord, MeetsAggregator, MeetsDue};
 ghost use Rattle.asked.specs.Moves.{MeetsForwardNumber, MeetsBackNumber};
 ghost use Rattle.asked.specs.Report.{asked_published};
+ghost use Rattle.why.specs.Cause.{cause_number};
 ghost use Rattle.reasons.specs.Reasons.{MeetsWhy, MeetsApart};
 ghost use Rattle.myrkosti.specs.Arguments.{settings_of, system_of, delay_of};
 ghost use Rattle.myrkosti.specs.Counted.{MeetsFetch, MeetsReceive};
 ghost use Rattle.myrkosti.specs.Version.{interface_version};
 
+use control::answer::{Numbered, length_sent};
 use counters::Counters;
 use frame::block::{Address, Block, SystemId};
 use frame::wire::TensOfMicroseconds;
+use machine::states::Line;
+use octets::InOctets;
 use settings::Settings;
+use why::cause::Cause;
 
 // The version of this interface (include/myrkosti.h).
 #[unsafe(no_mangle)]
@@ -47,25 +52,8 @@ pub extern "C" fn myrkosti_tick(table: &mut [u8]) -> u32
 pub extern "C" fn myrkosti_line(table: &mut [u8], port: u32, up: bool, full: bool) -> u32
     ensures { MeetsNumber (call_line port (record { up = up; full = full })) table.old result table.new }
 {
-    let a = asked::line(table, port, up, full);
+    let a = asked::line(table, port, Line { up, full });
     a.number() as u32
-}
-
-// What a call that counts answers, and the counters after it.
-#[derive(Clone, Copy)]
-pub struct Counted {
-    pub number: u32,
-    pub counters: Counters,
-}
-
-fn fetch_counted(table: &mut [u8], port: u32, out: &mut [u8], counters: Counters) -> Counted
-    ensures { MeetsFetch port out.old table.old counters result.number table.new out.new result.counters }
-{
-    let a = asked::fetch(table, port, out);
-    Counted {
-        number: a.number() as u32,
-        counters: counters.fetched(a),
-    }
 }
 
 // Writes what is due on a port into `out`. The port's counters are lent, and count it.
@@ -78,28 +66,9 @@ pub extern "C" fn myrkosti_fetch(
 ) -> u32
     ensures { MeetsFetch port out.old table.old counters.old result table.new out.new counters.new }
 {
-    let r = fetch_counted(table, port, out, *counters);
-    *counters = r.counters;
-    r.number
-}
-
-fn receive_counted(
-    table: &mut [u8],
-    port: u32,
-    frame: &[u8],
-    out: &mut [u8],
-    sent: &mut u32,
-    counters: Counters,
-) -> Counted
-    ensures { MeetsReceive port frame.now out.old table.old counters
-        result.number table.new out.new sent.new result.counters }
-{
-    let a = asked::receive(table, port, frame, out);
-    *sent = a.length_sent() as u32;
-    Counted {
-        number: a.number() as u32,
-        counters: counters.received(a),
-    }
+    let a = asked::fetch(table, port, out);
+    *counters = counters.fetched(a);
+    a.number() as u32
 }
 
 // A frame was received on a port. The Response to a Marker is written into `out`, and its length into `sent`. The port's counters are lent, and count it.
@@ -115,9 +84,10 @@ pub extern "C" fn myrkosti_receive(
     ensures { MeetsReceive port frame.now out.old table.old counters.old
         result table.new out.new sent.new counters.new }
 {
-    let r = receive_counted(table, port, frame, out, sent, *counters);
-    *counters = r.counters;
-    r.number
+    let a = asked::receive(table, port, frame, out);
+    *sent = length_sent(a) as u32;
+    *counters = counters.received(a);
+    a.number() as u32
 }
 
 // Asks for a Marker on a port, to be awaited for so many ticks, and writes it into `out`.
@@ -206,13 +176,13 @@ pub extern "C" fn myrkosti_aggregator(
     ensures { MeetsAggregator aggregator table.now result holding.new attached.new distributing.new count.new lowest.new }
 {
     let r = asked::report_aggregator(table, aggregator);
-    *holding = r.sets.holding;
-    *attached = r.sets.attached;
-    *distributing = r.sets.distributing;
-    *count = r.sets.count;
-    *lowest = r.sets.lowest;
-    let a = r.answer;
-    a.number() as u32
+    let sets = r.unwrap_or_default();
+    *holding = sets.holding;
+    *attached = sets.attached;
+    *distributing = sets.distributing;
+    *count = sets.count;
+    *lowest = sets.lowest;
+    r.number() as u32
 }
 
 // The ports that have something to send: those whose fetch would be answered 0; none beside a refusal.
@@ -221,9 +191,18 @@ pub extern "C" fn myrkosti_due(table: &[u8], ports: &mut u32) -> u32
     ensures { MeetsDue table.now result ports.new }
 {
     let r = asked::report_due(table);
-    *ports = r.ports;
-    let a = r.answer;
-    a.number() as u32
+    *ports = r.unwrap_or(0);
+    r.number() as u32
+}
+
+// A cause's number; 0 for none.
+fn number_of(cause: Option<Cause>) -> u32
+    ensures { result ≡ cause_number cause }
+{
+    match cause {
+        Some(cause) => u32::from(cause),
+        None => 0,
+    }
 }
 
 // Why a port does not carry, or that it does: a cause's number; the port that holds it back, and the ticks left; zeros beside a refusal.
@@ -238,13 +217,11 @@ pub extern "C" fn myrkosti_why(
     ensures { MeetsWhy port table.now result cause.new holder.new ticks.new }
 {
     let r = reasons::why(table, port);
-    let why = r.why;
-    let c = why.cause;
-    *cause = c.number();
-    *holder = why.hold.port;
-    *ticks = why.hold.ticks;
-    let a = r.answer;
-    a.number() as u32
+    let why = r.unwrap_or_default();
+    *cause = number_of(why.cause);
+    *holder = why.holder.unwrap_or(0);
+    *ticks = why.ticks;
+    r.number() as u32
 }
 
 // Why two ports are not in one group, a bit for each reason; none where they are, and beside a refusal.
@@ -253,10 +230,8 @@ pub extern "C" fn myrkosti_apart(table: &[u8], first: u32, second: u32, reasons:
     ensures { MeetsApart first second table.now result reasons.new }
 {
     let r = reasons::apart(table, first, second);
-    let s = r.apart;
-    *reasons = s.number();
-    let a = r.answer;
-    a.number() as u32
+    *reasons = r.unwrap_or_default().number();
+    r.number() as u32
 }
 
 // Starts a table of `ports` ports in memory of any content; every port begins with these settings.
