@@ -9,6 +9,7 @@ use lib.ListN.{length, take}
 use lib.Seq.{length-take-le}
 use lib.Dec.{eqb}
 use borrow.Author.Tests.{eqb-true, eqb-false, eq-eqb, ne_eqb, le-leb}
+use Rattle.std.specs.Prelude.{Ok, Err}
 use Rattle.octets.specs.Octets.{within}
 use Rattle.octets.proofs.OctetLists.{take-octets}
 use Rattle.octets.proofs.RangeLaws.{both_true, within-true}
@@ -20,11 +21,10 @@ use Rattle.churn.specs.Whole.{whole_size, base_of}
 use Rattle.churn.proofs.WholeLaws.{base-count}
 use Rattle.asks.specs.Groups.{ask_at, all_begun}
 use Rattle.asks.proofs.MadeLaws.{Groups, begun-groups}
-use Rattle.control.specs.declared.answer.Answer.{Answer}
-use Rattle.control.specs.declared.answer.Answer.TheVariants.{Done, Refused}
+use Rattle.control.specs.Answer.{Answer, answer_number, with_default}
+use Rattle.control.specs.declared.answer.Accepted.TheVariants.{Done}
 use Rattle.control.specs.declared.answer.Reason.TheVariants as reason
 use Rattle.control.specs.Accepted.{accepted}
-use Rattle.control.specs.Answer.{answer_number, with_default}
 use Rattle.control.specs.Call.{Call, start, receive, tick, line, configure, fetch, report, aggregator, due, is_start}
 use Rattle.control.specs.After.{answer, after}
 use Rattle.control.proofs.CallLaws.{after-accepted, refused-table}
@@ -67,7 +67,7 @@ front-some (old t) s = let z = (in_range t s.ranged).size in omega (arith, z)
 front-some (new w) s = let z = whole-size w s.ranged in omega (arith, z)
 
 -- calls that name a port and are accepted have it
-there : (f : Held) → HeldSound f → (n : ℕ) (rest : Answer) → accepted (cond (table_in_range (records_of f)) (cond (within 1 n (count_in (records_of f))) rest (Refused reason.Number)) (Refused reason.Table)) ≡ true → n - 1 < count_in (memory_of f)
+there : (f : Held) → HeldSound f → (n : ℕ) (rest : Answer) → accepted (cond (table_in_range (records_of f)) (cond (within 1 n (count_in (records_of f))) rest (Err reason.Number)) (Err reason.Table)) ≡ true → n - 1 < count_in (memory_of f)
 there f s n rest e =
     let h = within-true 1 n (count_in (records_of f)) (accepted-number (records_of f) n rest e) in
     let some = h.0 in
@@ -77,16 +77,16 @@ there f s n rest e =
 
 lined : (f : Held) → HeldSound f → (n : ℕ) (l : Line) → accepted (answer_in (line n l) f) ≡ true → n - 1 < count_in (memory_of f)
 unfolding answer
-lined f s n l e = there f s n Done (sym (ap accepted (sound-call f s (line n l) tt).answers) ∙ e)
+lined f s n l e = there f s n (Ok Done) (sym (ap accepted (sound-call f s (line n l) tt).answers) ∙ e)
 
 pub reported : (f : Held) → HeldSound f → (n : ℕ) → accepted (answer_in (report n) f) ≡ true → n - 1 < count_in (memory_of f)
 unfolding answer
-reported f s n e = there f s n Done (sym (ap accepted (sound-call f s (report n) tt).answers) ∙ e)
+reported f s n e = there f s n (Ok Done) (sym (ap accepted (sound-call f s (report n) tt).answers) ∙ e)
 
 pub named : (f : Held) → HeldSound f → (n : ℕ) → accepted (answer_in (report n) f) ≡ true → 1 ≤ n
 unfolding answer
 named f s n e =
-    (within-true 1 n (count_in (records_of f)) (accepted-number (records_of f) n Done (sym (ap accepted (sound-call f s (report n) tt).answers) ∙ e))).0
+    (within-true 1 n (count_in (records_of f)) (accepted-number (records_of f) n (Ok Done) (sym (ap accepted (sound-call f s (report n) tt).answers) ∙ e))).0
 
 heard : (f : Held) → HeldSound f → (n : ℕ) (frame out : List ℕ) → answer_number (answer_in (receive n frame out) f) ≡ 12 → n - 1 < count_in (memory_of f)
 heard f s n frame out e =
@@ -108,7 +108,7 @@ refuses_old t s count (start n system delay z) i is e = unfold answer in
     let other : eqb n (count_in t) ≡ false = ap (λ (k : ℕ). eqb k (count_in t)) is ∙ e in
     let none : is_room t n ≡ false =
     ap (λ (b : Bool). within 1 n most_ports && b) (ne_eqb (length t) (table_size n) (λ q. let u = eqb-false n (count_in t) other in u (omega (arith, q, size)))) ∙ and-false (within 1 n most_ports) in
-    refused-table (start n system delay z) t (ap (λ (b : Bool). cond b (with_default z Done) (Refused reason.Table)) none)
+    refused-table (start n system delay z) t (ap (λ (b : Bool). cond b (with_default z (Ok Done)) (Err reason.Table)) none)
 refuses_old t s count (receive n frame out) i is e = absurd (false≢true i)
 refuses_old t s count tick i is e = absurd (false≢true i)
 refuses_old t s count (line n l) i is e = absurd (false≢true i)
@@ -168,19 +168,19 @@ one-through : (f : Held) (s : Step) → through f (s ∷ []) ≡ stepped s f
 unfolding through
 one-through f s = refl
 
-stays-forward : (h : Held) (u : List ℕ) → forward_answer (memory_of h) u ≡ Refused reason.Table → done (plain (forward u)) h ≡ h
+stays-forward : (h : Held) (u : List ℕ) → forward_answer (memory_of h) u ≡ Err reason.Table → done (plain (forward u)) h ≡ h
 unfolding done
 stays-forward h u e = rw e
 
-stays-back : (h : Held) (u : List ℕ) → back_answer (memory_of h) u ≡ Refused reason.Table → done (plain (back u)) h ≡ h
+stays-back : (h : Held) (u : List ℕ) → back_answer (memory_of h) u ≡ Err reason.Table → done (plain (back u)) h ≡ h
 unfolding done
 stays-back h u e = rw e
 
-goes-forward : (m u : List ℕ) → forward_answer m u ≡ Done → done (plain (forward u)) (old m) ≡ new (moved_forward (front_of old_layer m) ++ groups_of old_layer m)
+goes-forward : (m u : List ℕ) → forward_answer m u ≡ Ok Done → done (plain (forward u)) (old m) ≡ new (moved_forward (front_of old_layer m) ++ groups_of old_layer m)
 unfolding done forward_to
 goes-forward m u e = rw e
 
-goes_back_lem : (m u : List ℕ) → back_answer m u ≡ Done → done (plain (back u)) (new m) ≡ old (base_of (front_of new_layer m) ++ groups_of new_layer m)
+goes_back_lem : (m u : List ℕ) → back_answer m u ≡ Ok Done → done (plain (back u)) (new m) ≡ old (base_of (front_of new_layer m) ++ groups_of new_layer m)
 unfolding done back_to
 goes_back_lem m u e = rw e
 
@@ -199,7 +199,7 @@ stands d f g gs is none same =
 
 module _ (u : List ℕ) where
   -- no table is of both forms
-  new_no_old : (w g : List ℕ) → WholeSound w → Groups (count_in w) g → forward_answer (w ++ g) u ≡ Refused reason.Table
+  new_no_old : (w g : List ℕ) → WholeSound w → Groups (count_in w) g → forward_answer (w ++ g) u ≡ Err reason.Table
   unfolding forward_answer has_asks
   new_no_old w g s gs =
       let size = joined-size new_layer w (front-some (new w) s) (front-size (new w) s) g gs in
@@ -208,7 +208,7 @@ module _ (u : List ℕ) where
       let c = base-count w in
       rw (ne_eqb (length (w ++ g)) (asked_size old_layer (count_in (w ++ g))) (λ e. omega (arith, e, size, count, least, c)))
 
-  old_no_new : (t g : List ℕ) → Sound t → Groups (count_in t) g → back_answer (t ++ g) u ≡ Refused reason.Table
+  old_no_new : (t g : List ℕ) → Sound t → Groups (count_in t) g → back_answer (t ++ g) u ≡ Err reason.Table
   unfolding back_answer has_asks
   old_no_new t g s gs =
       let size = joined-size old_layer t (front-some (old t) s) (front-size (old t) s) g gs in
@@ -236,10 +236,10 @@ module _ (u : List ℕ) where
 
       by : (b : Bool) → eqb (length u) (asked_size new_layer (count_in (t ++ g))) ≡ b → JointStep (plain (forward u)) (old t) g
       by false e =
-          let no_move : forward_answer (t ++ g) u ≡ Refused reason.Table = unfold forward_answer in rw (e, has, front, s.ranged) refl in
+          let no_move : forward_answer (t ++ g) u ≡ Err reason.Table = unfold forward_answer in rw (e, has, front, s.ranged) refl in
           stands (plain (forward u)) (old t) g gs (stays-forward (old (t ++ g)) u no_move) (rw no_move refl) (λ i. refl)
       by true e =
-          let moves : forward_answer (t ++ g) u ≡ Done = unfold forward_answer in rw (e, has, front, s.ranged) refl in
+          let moves : forward_answer (t ++ g) u ≡ (Ok Done) = unfold forward_answer in rw (e, has, front, s.ranged) refl in
           let long = eqb-true (length u) (asked_size new_layer (count_in (t ++ g))) e in
           let short = length-take-le (whole_size (count_in (t ++ g))) u (omega (arith, long)) in
           let goes : frontForward t (take (whole_size (count_in (t ++ g))) u) ≡ true = rw s.ranged (eq-eqb _ _ (short ∙ ap whole_size count)) in
@@ -275,10 +275,10 @@ module _ (u : List ℕ) where
 
       by : (b : Bool) → eqb (length u) (asked_size old_layer (count_in (w ++ g))) ≡ b → JointStep (plain (back u)) (new w) g
       by false e =
-          let no_move : back_answer (w ++ g) u ≡ Refused reason.Table = unfold back_answer in rw (e, has, front, s.ranged, s.base.ranged) refl in
+          let no_move : back_answer (w ++ g) u ≡ Err reason.Table = unfold back_answer in rw (e, has, front, s.ranged, s.base.ranged) refl in
           stands (plain (back u)) (new w) g gs (stays-back (new (w ++ g)) u no_move) (rw no_move refl) (λ i. refl)
       by true e =
-          let moves : back_answer (w ++ g) u ≡ Done = unfold back_answer in rw (e, has, front, s.ranged, s.base.ranged) refl in
+          let moves : back_answer (w ++ g) u ≡ (Ok Done) = unfold back_answer in rw (e, has, front, s.ranged, s.base.ranged) refl in
           let long = eqb-true (length u) (asked_size old_layer (count_in (w ++ g))) e in
           let short = length-take-le (place (count_in (w ++ g))) u (omega (arith, long)) in
           let goes : frontBack w (take (place (count_in (w ++ g))) u) ≡ true = rw (s.ranged, s.base.ranged) (eq-eqb _ _ (short ∙ ap place count)) in

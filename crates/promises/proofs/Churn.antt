@@ -4,7 +4,8 @@ use Prim.Native.Nat.{ℕ, ◌<◌}
 use mathlib.Core.Path.{◌≡◌, refl, sym, ap, ◌∙◌, subst}
 use mathlib.Core.Bool.{Bool, true, false, cond, ◌&&◌, false≢true}
 use mathlib.Core.List.{List, [], ◌∷◌}
-use mathlib.Core.Option.{Option, none, some, get_or}
+use Rattle.std.specs.Prelude.{Option, Some, None}
+use Rattle.std.specs.Option.{unwrap_or}
 use Rattle.octets.specs.Octets.{Octets}
 use Rattle.octets.proofs.RangeLaws.{both}
 use Rattle.frame.specs.declared.block.SystemId.{SystemId}
@@ -49,8 +50,8 @@ churn_after-twice e x m =
     λ i. monitors (watched-twice x.up x.actor (prepared e m).actor i) (watched-twice x.up x.partner (prepared e m).partner i)
 
 next-twice : (e : Stage) (x : Option Seen) (m : Option Monitors) → churn_after_step Other x (churn_after_step e x m) ≡ churn_after_step e x m
-next-twice e none m = refl
-next-twice e (some x) m = ap some (churn_after-twice e x (get_or m both_begun))
+next-twice e None m = refl
+next-twice e (Some x) m = ap Some (churn_after-twice e x (unwrap_or m both_begun))
 
 -- ---- what a call is to the machines
 
@@ -138,8 +139,8 @@ module _ (w : List ℕ) (s : WholeSound w) (c : Call) (k : Takes c) (i : ℕ) (h
 -- ---- one move
 
 -- a refused move finds the monitors at rest
-rest-churn : (w : List ℕ) → WholeSound w → (i : ℕ) → i < count_in w → some (monitors_at w i) ≡ churn_after_step Other (seen_in i (new w)) (some (monitors_at w i))
-rest-churn w s i h = ap some (sym (s.rest i h) ∙ watching-is Other (port_at (base_of w) i) (monitors_at w i))
+rest-churn : (w : List ℕ) → WholeSound w → (i : ℕ) → i < count_in w → Some (monitors_at w i) ≡ churn_after_step Other (seen_in i (new w)) (Some (monitors_at w i))
+rest-churn w s i h = ap Some (sym (s.rest i h) ∙ watching-is Other (port_at (base_of w) i) (monitors_at w i))
 
 -- and one forward begins them
 begun-churn : (t : List ℕ) → Sound t → (i : ℕ) → i < count_in t → monitors_at (moved_forward t) i ≡ churn_after Start (seen_at (moved_forward t) i) both_begun
@@ -160,11 +161,11 @@ module _ (i : ℕ) where
   step-churn : (s : Step) → StepTakes s → (h : Held) → HeldSound h → i < count_in (records_of h) → Follows h (event_in s h) (stepped s h)
   unfolding stepped Follows forward_answer
   step-churn (call c) k (old t) s h = refl
-  step-churn (call c) k (new w) s h = ap some (churn-step w s c k i (rw (base-count w) at h))
+  step-churn (call c) k (new w) s h = ap Some (churn-step w s c k i (rw (base-count w) at h))
   step-churn (forward u) k (old t) s h = by (goes_forward t u) refl
     where
       by : (b : Bool) → goes_forward t u ≡ b → Follows (old t) (event_in (forward u) (old t)) (stepped (forward u) (old t))
-      by true e = moved (old t) (new (moved_forward t)) (stepped (forward u) (old t)) Start (event_in (forward u) (old t)) (went-forward t u e) (rw e) (ap some (begun-churn t s i h))
+      by true e = moved (old t) (new (moved_forward t)) (stepped (forward u) (old t)) Start (event_in (forward u) (old t)) (went-forward t u e) (rw e) (ap Some (begun-churn t s i h))
       by false e = moved (old t) (old t) (stepped (forward u) (old t)) Other (event_in (forward u) (old t)) (stood_forward t u e) (rw e) refl
   step-churn (forward u) k (new w) s h =
       moved (new w) (new w) (stepped (forward u) (new w)) Other (event_in (forward u) (new w)) (new-forward w u s.ranged) (rw (not-old w s.ranged)) (rest-churn w s i (rw (base-count w) at h))
@@ -234,17 +235,17 @@ module _ (m : List ℕ) (o : Octets m) (count : ℕ) (system : SystemId) (delay 
 
 -- whatever the memory held, the fields after a start follow from none, and what it was, where there are any, is a start
 record Begins (h : Held) (c : Call) (i : ℕ) : Type 0 where
-  churn : churn_in i (stepped (call c) h) ≡ churn_after_step Start (seen_in i (stepped (call c) h)) none
-  event : churn_after_step Start (seen_in i (stepped (call c) h)) none ≡ churn_after_step (event_in (call c) h) (seen_in i (stepped (call c) h)) none
+  churn : churn_in i (stepped (call c) h) ≡ churn_after_step Start (seen_in i (stepped (call c) h)) None
+  event : churn_after_step Start (seen_in i (stepped (call c) h)) None ≡ churn_after_step (event_in (call c) h) (seen_in i (stepped (call c) h)) None
 
 begins : (h : Held) (c : Call) (ss : List Step) (i : ℕ) → FromStart h c ss → HasPort h c i → Begins h c i
 unfolding stepped
 begins (old m) c ss i f p = record { churn = refl; event = refl }
 begins (new m) (start count system delay x) ss i f p =
     let w = whole_after (start count system delay x) m in record {
-      churn = ap some (started-churn m f.octets count system delay x f.takes.0 f.accepted i p);
+      churn = ap Some (started-churn m f.octets count system delay x f.takes.0 f.accepted i p);
       event =
-          ap (λ (e : Stage). some (churn_after e (seen_at w i) both_begun)) (sym (started-event m f.octets count system delay x f.takes.0 f.accepted));
+          ap (λ (e : Stage). Some (churn_after e (seen_at w i) both_begun)) (sym (started-event m f.octets count system delay x f.takes.0 f.accepted));
     }
 begins (new m) (receive n frame out) ss i f p = absurd (false≢true f.is_start)
 begins (new m) tick ss i f p = absurd (false≢true f.is_start)
@@ -256,18 +257,18 @@ begins (new m) (aggregator k) ss i f p = absurd (false≢true f.is_start)
 begins (new m) due ss i f p = absurd (false≢true f.is_start)
 
 start-folds : (h : Held) (c : Call) (ss : List Step) (i : ℕ) → FromStart h c ss → HasPort h c i
-    → churns i h (call c ∷ ss) ≡ folds (history i h (call c ∷ ss)) none
+    → churns i h (call c ∷ ss) ≡ folds (history i h (call c ∷ ss)) None
 unfolding churns history folds
 start-folds h c ss i f p =
     let b = begins h c ss i f p in
     let k = stepped (call c) h in
     let e = b.churn ∙ b.event in
     (λ n. e n ∷ run-folds i k (start-sound h c ss f) p ss f.takes.1 n)
-    ∙ ap (λ (m : Option Monitors). churn_after_step (event_in (call c) h) (seen_in i k) none ∷ folds (history i k ss) m) e
+    ∙ ap (λ (m : Option Monitors). churn_after_step (event_in (call c) h) (seen_in i k) None ∷ folds (history i k ss) m) e
 
 pub two_runs : TwoRuns
 two_runs h k c d ss zs f g i j p q e =
-    start-folds h c ss i f p ∙ ap (λ (xs : List Happening). folds xs none) e ∙ sym (start-folds k d zs j g q)
+    start-folds h c ss i f p ∙ ap (λ (xs : List Happening). folds xs None) e ∙ sym (start-folds k d zs j g q)
 
 -- ---- steps left out
 
@@ -292,10 +293,10 @@ is-other Tick e = absurd (false≢true e)
 is-other Other e = refl
 
 same_sight_lem : (x y : Option Seen) → same_sight x y ≡ true → x ≡ y
-same_sight_lem none none e = refl
-same_sight_lem none (some y) e = absurd (false≢true e)
-same_sight_lem (some x) none e = absurd (false≢true e)
-same_sight_lem (some x) (some y) e = ap some (same_seen_lem x y e)
+same_sight_lem None None e = refl
+same_sight_lem None (Some y) e = absurd (false≢true e)
+same_sight_lem (Some x) None e = absurd (false≢true e)
+same_sight_lem (Some x) (Some y) e = ap Some (same_seen_lem x y e)
 
 short-ends : (x : Option Seen) (hs : List Happening) (m : Option Monitors) → churn_after_step Other x m ≡ m → ended (shortened x hs) m ≡ ended hs m
 unfolding shortened ended
@@ -315,14 +316,14 @@ short-ends x (h ∷ hs) m r =
 
 start-ends : (h : Held) (c : Call) (ss : List Step) (i : ℕ) → FromStart h c ss → HasPort h c i
     → churn_in i (through h (call c ∷ ss))
-    ≡ ended (shortened (seen_in i (stepped (call c) h)) (history i (stepped (call c) h) ss)) (churn_after_step Start (seen_in i (stepped (call c) h)) none)
+    ≡ ended (shortened (seen_in i (stepped (call c) h)) (history i (stepped (call c) h) ss)) (churn_after_step Start (seen_in i (stepped (call c) h)) None)
 unfolding through
 start-ends h c ss i f p =
     let k = stepped (call c) h in
     let x = seen_in i k in
     run_ends i k (start-sound h c ss f) p ss f.takes.1 ∙ ap (λ (y : Option Monitors). ended (history i k ss) y) (begins h c ss i f p).churn
-    ∙ sym (short-ends x (history i k ss) (churn_after_step Start x none) (next-twice Start x none))
+    ∙ sym (short-ends x (history i k ss) (churn_after_step Start x None) (next-twice Start x None))
 
 pub two_runs-shortened : TwoRunsShortened
 two_runs-shortened h k c d ss zs f g i j p q seen e =
-    start-ends h c ss i f p ∙ (λ n. ended (e n) (churn_after_step Start (seen n) none)) ∙ sym (start-ends k d zs j g q)
+    start-ends h c ss i f p ∙ (λ n. ended (e n) (churn_after_step Start (seen n) None)) ∙ sym (start-ends k d zs j g q)

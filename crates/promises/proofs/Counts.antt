@@ -6,9 +6,10 @@ use mathlib.Core.List.{List, [], ◌∷◌}
 use native.Mathlib.Omega.{arith}
 use lib.ListN.{take}
 use lib.Dec.{eqb}
+use Rattle.std.specs.Prelude.{Ok, Err}
 use Rattle.table.specs.Layout.{place}
-use Rattle.control.specs.declared.answer.Answer.{Answer}
-use Rattle.control.specs.declared.answer.Answer.TheVariants.{Done, Refused}
+use Rattle.control.specs.Answer.{Answer}
+use Rattle.control.specs.declared.answer.Accepted.TheVariants.{Done}
 use Rattle.control.specs.declared.answer.Reason.TheVariants as reason
 use Rattle.control.specs.Accepted.{accepted}
 use Rattle.control.specs.Call.{Call, start, receive, tick, line, configure, fetch, report, aggregator, due}
@@ -62,7 +63,7 @@ heard-below : (m : ℕ) (frame out : List ℕ) (w : List ℕ) (k : Counters) →
 unfolding whole_answer
 heard-below m frame out w k = by (has_room (receive m frame out) w)
   where
-    by : (b : Bool) → Rose (cond b (answer (receive m frame out) (take (place (count_for (receive m frame out) w)) w)) (Refused reason.Table)) k
+    by : (b : Bool) → Rose (cond b (answer (receive m frame out) (take (place (count_for (receive m frame out) w)) w)) (Err reason.Table)) k
     by true = rose k m frame out (take (place (count_for (receive m frame out) w)) w)
     by false = rose_nowhere k
 
@@ -71,13 +72,13 @@ heard_in : (m : ℕ) (frame out : List ℕ) (h : Held) (k : Counters) → Rose (
 unfolding asked_answer
 heard_in m frame out (old t) k = by (has_asks old_layer t) (is_ours old_layer (receive m frame out) (front_of old_layer t) (groups_of old_layer t))
   where
-    by : (x y : Bool) → Rose (cond x (cond y Done (answer (receive m frame out) (front_of old_layer t))) (Refused reason.Table)) k
+    by : (x y : Bool) → Rose (cond x (cond y (Ok Done) (answer (receive m frame out) (front_of old_layer t))) (Err reason.Table)) k
     by true true = rose-done k
     by true false = rose k m frame out (front_of old_layer t)
     by false y = rose_nowhere k
 heard_in m frame out (new w) k = by (has_asks new_layer w) (is_ours new_layer (receive m frame out) (front_of new_layer w) (groups_of new_layer w))
   where
-    by : (x y : Bool) → Rose (cond x (cond y Done (whole_answer (receive m frame out) (front_of new_layer w))) (Refused reason.Table)) k
+    by : (x y : Bool) → Rose (cond x (cond y (Ok Done) (whole_answer (receive m frame out) (front_of new_layer w))) (Err reason.Table)) k
     by true true = rose-done k
     by true false = heard-below m frame out (front_of new_layer w) k
     by false y = rose_nowhere k

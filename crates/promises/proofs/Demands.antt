@@ -9,6 +9,7 @@ use native.Mathlib.Omega.{arith}
 use lib.ListN.{length, take-append-drop}
 use lib.Dec.{eqb, ltb}
 use borrow.Author.Tests.{eqb-true}
+use Rattle.std.specs.Prelude.{Ok, Err}
 use Rattle.octets.specs.Octets.{Octets, within}
 use Rattle.frame.specs.declared.block.SystemId.{SystemId}
 use Rattle.frame.specs.declared.wire.TensOfMicroseconds.{TensOfMicroseconds}
@@ -24,23 +25,22 @@ use Rattle.asks.specs.declared.ask.Outcome.TheVariants.{Answered, Cancelled}
 use Rattle.asks.specs.Ask.{longest_wait, is_awaiting, asked, ended}
 use Rattle.asks.specs.Groups.{ask_at}
 use Rattle.asks.proofs.MadeLaws.{Groups}
-use Rattle.control.specs.declared.answer.Answer.{Answer}
-use Rattle.control.specs.declared.answer.Answer.TheVariants.{Done, Lacpdu, Marker, Refused}
+use Rattle.control.specs.Answer.{Answer}
+use Rattle.control.specs.declared.answer.Accepted.TheVariants.{Done}
 use Rattle.control.specs.declared.answer.Reason.{Reason}
 use Rattle.control.specs.declared.answer.Reason.TheVariants as reason
 use Rattle.control.specs.Accepted.{accepted}
 use Rattle.control.specs.Call.{Call, start, receive, tick, line, configure, fetch, report, aggregator, due, is_start}
-use Rattle.control.specs.After.{buffer_of, unless}
+use Rattle.control.specs.After.{buffer_of}
 use Rattle.control.proofs.CallLaws.{refused-table, refused-buffer}
 use Rattle.whole.proofs.FrontLaws.{whole-refused}
 use Rattle.whole.specs.Calls.{count_for}
 use Rattle.whole.specs.Moves.{moved_forward}
-use Rattle.asked.specs.declared.said.Said.{Said}
-use Rattle.asked.specs.declared.said.Said.TheVariants as said
+use Rattle.asked.specs.declared.said.AskRefusal.TheVariants as refusal
 use Rattle.asked.specs.Layer.{Layer, old_layer, new_layer}
 use Rattle.asked.specs.Asked.{front_of, groups_of, has_asks}
 use Rattle.asked.specs.Calls.{front_for, groups_for, room_for, is_ours, falls_from, groups_after, asked_answer, asked_after, asked_outgoing}
-use Rattle.asked.specs.Ask.{said_number, unless_said, ask_after, ask_outgoing}
+use Rattle.asked.specs.Ask.{Said, said_number, after_report, ask_after, ask_outgoing}
 use Rattle.asked.specs.Moves.{forward_answer, forward_to, back_answer, back_to}
 use Rattle.claims.specs.Run.{Takes}
 use Rattle.claims.specs.Locality.{touches}
@@ -50,17 +50,17 @@ use Rattle.promises.specs.Whole.{HeldSound}
 use Rattle.promises.specs.Asked.{layer_of, front_in, groups_in, table_in, ask_in, Deed, plain, ask, answer_to, sent_by, said_to, agrees, done, after-all, DeedTakes, AllTaken, AskedMade, OldAsked, NewAsked, front_step, fronts_of, ask_by_call, FrontRuns, FrontCalls}
 use Rattle.promises.specs.Fronts.{IsPort, record_of, monitors_of, Strangers as FrontStrangers}
 use Rattle.promises.specs.Demands.{Strangers, AsItWas, Demands}
-use Rattle.promises.proofs.Fronts.{fronts, untouched}
+use Rattle.promises.proofs.Fronts.{fronts, untouched, unmoved}
 use Rattle.promises.proofs.Run.{steps-go}
-use Rattle.promises.proofs.Joined.{joined-front, joined-groups, call-answer, call-sends, ask-answer}
+use Rattle.promises.proofs.Joined.{room_tests, kept, joined-front, joined-groups, call-answer, call-sends, ask-answer}
 use Rattle.promises.proofs.Asked.{front-size, front-some, join, deed_step, front-takes, Joint, joint-front, made-joint, front-made, through-join, takes-join}
 use Rattle.promises.proofs.Ends.{asks-follow, ask-passed, joint-step}
 
 -- ---- refusals, in any memory
 
-module _ (L : Layer) (refuses : (c : Call) (t : List ℕ) (r : Reason) → L.answers c t ≡ Refused r → (L.leaves c t ≡ t) × (L.sends c t ≡ buffer_of c)) where
+module _ (L : Layer) (refuses : (c : Call) (t : List ℕ) (r : Reason) → L.answers c t ≡ Err r → (L.leaves c t ≡ t) × (L.sends c t ≡ buffer_of c)) where
   -- a refused call touches no group
-  groups-kept : (c : Call) (f g : List ℕ) (r : Reason) → is_ours L c f g ≡ false → L.answers c f ≡ Refused r → groups_after L c f g ≡ g
+  groups-kept : (c : Call) (f g : List ℕ) (r : Reason) → is_ours L c f g ≡ false → L.answers c f ≡ Err r → groups_after L c f g ≡ g
   groups-kept (start count system delay x) f g r o e = rw e
   groups-kept (receive n frame out) f g r o e = rw o
   groups-kept tick f g r o e = rw e
@@ -71,11 +71,11 @@ module _ (L : Layer) (refuses : (c : Call) (t : List ℕ) (r : Reason) → L.ans
   groups-kept (aggregator k) f g r o e = refl
   groups-kept due f g r o e = refl
 
-  pub call-refused : (c : Call) (m : List ℕ) (r : Reason) → asked_answer L c m ≡ Refused r → (asked_after L c m ≡ m) × (asked_outgoing L c m ≡ buffer_of c)
+  pub call-refused : (c : Call) (m : List ℕ) (r : Reason) → asked_answer L c m ≡ Err r → (asked_after L c m ≡ m) × (asked_outgoing L c m ≡ buffer_of c)
   unfolding asked_answer asked_after asked_outgoing
   call-refused c m r e = by (room_for L c m) (is_ours L c (front_for L c m) (groups_for L c m)) refl e
     where
-      by : (x y : Bool) → is_ours L c (front_for L c m) (groups_for L c m) ≡ y → cond x (cond y Done (L.answers c (front_for L c m))) (Refused reason.Table) ≡ Refused r
+      by : (x y : Bool) → is_ours L c (front_for L c m) (groups_for L c m) ≡ y → cond x (cond y (Ok Done) (L.answers c (front_for L c m))) (Err reason.Table) ≡ Err r
           → (cond x (L.leaves c (front_for L c m) ++ groups_after L c (front_for L c m) (groups_for L c m)) m ≡ m) × (cond x (L.sends c (front_for L c m)) (buffer_of c) ≡ buffer_of c)
       by true true o h = absurd (true≢false (ap accepted h))
       by true false o h =
@@ -83,30 +83,18 @@ module _ (L : Layer) (refuses : (c : Call) (t : List ℕ) (r : Reason) → L.ans
           ((λ i. k.0 i ++ groups-kept c (front_for L c m) (groups_for L c m) r o h i) ∙ take-append-drop (L.size (count_for c m)) m, k.1)
       by false y o h = (refl, refl)
 
-old_refuses : (c : Call) (t : List ℕ) (r : Reason) → old_layer.answers c t ≡ Refused r → (old_layer.leaves c t ≡ t) × (old_layer.sends c t ≡ buffer_of c)
+old_refuses : (c : Call) (t : List ℕ) (r : Reason) → old_layer.answers c t ≡ Err r → (old_layer.leaves c t ≡ t) × (old_layer.sends c t ≡ buffer_of c)
 old_refuses c t r e = (refused-table c t e, refused-buffer c t e)
 
-held-refused : (h : Held) (c : Call) (r : Reason) → answer_to c h ≡ Refused r → (done (plain (call c)) h ≡ h) × (sent_by c h ≡ buffer_of c)
+held-refused : (h : Held) (c : Call) (r : Reason) → answer_to c h ≡ Err r → (done (plain (call c)) h ≡ h) × (sent_by c h ≡ buffer_of c)
 unfolding done
 held-refused (old m) c r e = let k = call-refused old_layer old_refuses c m r e in (ap old k.0, k.1)
 held-refused (new m) c r e = let k = call-refused new_layer whole-refused c m r e in (ap new k.0, k.1)
-
-kept : {A : Type 0} (x y : A) (a : Said) → agrees a ≡ false → unless_said a x y ≡ x
-kept x y (said.Plain Done) e = absurd (true≢false e)
-kept x y (said.Plain Lacpdu) e = absurd (true≢false e)
-kept x y (said.Plain Marker) e = absurd (true≢false e)
-kept x y (said.Plain (Refused r)) e = refl
-kept x y said.Wait e = refl
-kept x y said.NotDistributing e = refl
-kept x y said.Awaiting e = refl
 
 ask-refused : (h : Held) (n wait : ℕ) (out : List ℕ) → agrees (said_to n wait out h) ≡ false → (done (ask n wait out) h ≡ h) × (ask_outgoing (layer_of h) n wait out (memory_of h) ≡ out)
 unfolding done ask_after ask_outgoing
 ask-refused (old m) n wait out e = (ap old (kept m _ (said_to n wait out (old m)) e), kept out _ (said_to n wait out (old m)) e)
 ask-refused (new m) n wait out e = (ap new (kept m _ (said_to n wait out (new m)) e), kept out _ (said_to n wait out (new m)) e)
-
-unmoved : (a : Answer) (u v : List ℕ) (r : Reason) → a ≡ Refused r → unless a u v ≡ u
-unmoved a u v r e = ap (λ (x : Answer). unless x u v) e
 
 -- ---- a further step
 
@@ -192,18 +180,18 @@ front-runs h m ds k = let r = fronts-along ds k h (made-joint h m) in record { m
 
 -- ---- what a call answers, but for a start
 
-called : (h : Held) → Joint h → (c : Call) → is_start c ≡ false → answer_to c h ≡ cond (is_ours (layer_of h) c (memory_of (front_in h)) (groups_in h)) Done (answer_in c (front_in h))
-called h j c s = subst (λ (x : Held). answer_to c x ≡ cond (is_ours (layer_of x) c (memory_of (front_in x)) (groups_in x)) Done (answer_in c (front_in x))) (sym j.is) (by j.front j.sound j.groups j.ranged)
+called : (h : Held) → Joint h → (c : Call) → is_start c ≡ false → answer_to c h ≡ cond (is_ours (layer_of h) c (memory_of (front_in h)) (groups_in h)) (Ok Done) (answer_in c (front_in h))
+called h j c s = subst (λ (x : Held). answer_to c x ≡ cond (is_ours (layer_of x) c (memory_of (front_in x)) (groups_in x)) (Ok Done) (answer_in c (front_in x))) (sym j.is) (by j.front j.sound j.groups j.ranged)
   where
     by : (f : Held) → HeldSound f → (g : List ℕ) → Groups (count_in (memory_of f)) g
-        → answer_to c (join f g) ≡ cond (is_ours (layer_of (join f g)) c (memory_of (front_in (join f g))) (groups_in (join f g))) Done (answer_in c (front_in (join f g)))
+        → answer_to c (join f g) ≡ cond (is_ours (layer_of (join f g)) c (memory_of (front_in (join f g))) (groups_in (join f g))) (Ok Done) (answer_in c (front_in (join f g)))
     by (old t) z g gs =
         call-answer old_layer t (front-some (old t) z) (front-size (old t) z) g gs c s
-        ∙ sym (λ i. cond (is_ours old_layer c (joined-front old_layer t (front-some (old t) z) (front-size (old t) z) g gs i) (joined-groups old_layer t (front-some (old t) z) (front-size (old t) z) g gs i)) Done
+        ∙ sym (λ i. cond (is_ours old_layer c (joined-front old_layer t (front-some (old t) z) (front-size (old t) z) g gs i) (joined-groups old_layer t (front-some (old t) z) (front-size (old t) z) g gs i)) (Ok Done)
         (old_layer.answers c (joined-front old_layer t (front-some (old t) z) (front-size (old t) z) g gs i)))
     by (new w) z g gs =
         call-answer new_layer w (front-some (new w) z) (front-size (new w) z) g gs c s
-        ∙ sym (λ i. cond (is_ours new_layer c (joined-front new_layer w (front-some (new w) z) (front-size (new w) z) g gs i) (joined-groups new_layer w (front-some (new w) z) (front-size (new w) z) g gs i)) Done
+        ∙ sym (λ i. cond (is_ours new_layer c (joined-front new_layer w (front-some (new w) z) (front-size (new w) z) g gs i) (joined-groups new_layer w (front-some (new w) z) (front-size (new w) z) g gs i)) (Ok Done)
         (new_layer.answers c (joined-front new_layer w (front-some (new w) z) (front-size (new w) z) g gs i)))
 
 sends-so : (h : Held) → Joint h → (c : Call) → is_start c ≡ false → sent_by c h ≡ outgoing_in c (front_in h)
@@ -220,21 +208,22 @@ sends-so h j c s = subst (λ (x : Held). sent_by c x ≡ outgoing_in c (front_in
 pub front-calls : FrontCalls
 front-calls h m c k s = record { answers = called h (made-joint h m) c s; leaves = call-front h m c k; sends = sends-so h (made-joint h m) c s }
 
-unfaulted : (h : Held) → AskedMade h → (c : Call) → is_start c ≡ false → answer_to c h ≡ Refused reason.Table → ⊥
+unfaulted : (h : Held) → AskedMade h → (c : Call) → is_start c ≡ false → answer_to c h ≡ Err reason.Table → ⊥
 unfaulted h m c s e = by (is_ours (layer_of h) c (memory_of (front_in h)) (groups_in h)) (sym (called h (made-joint h m) c s) ∙ e)
   where
-    by : (b : Bool) → cond b Done (answer_in c (front_in h)) ≡ Refused reason.Table → ⊥
+    by : (b : Bool) → cond b (Ok Done) (answer_in c (front_in h)) ≡ Err reason.Table → ⊥
     by true f = true≢false (ap accepted f)
     by false f = fronts.unfaulted (front_in h) (front-made h m) c s f
 
 -- what is said of the table is what a report says
 plain_of : Said → Answer
-plain_of (said.Plain a) = a
-plain_of said.Wait = Done
-plain_of said.NotDistributing = Done
-plain_of said.Awaiting = Done
+plain_of (Ok u) = Ok Done
+plain_of (Err (refusal.Plain r)) = Err r
+plain_of (Err refusal.Wait) = Ok Done
+plain_of (Err refusal.NotDistributing) = Ok Done
+plain_of (Err refusal.Awaiting) = Ok Done
 
-not_table : (a b c d : Bool) → cond a (said.Plain (Refused reason.Buffer)) (cond b (cond c (cond d said.Awaiting (said.Plain Done)) said.NotDistributing) said.Wait) ≡ said.Plain (Refused reason.Table) → ⊥
+not_table : (a b c d : Bool) → room_tests a b c d ≡ Err (refusal.Plain reason.Table) → ⊥
 not_table true b c d f = let k = ap said_number f in omega (arith, k)
 not_table false true true true f = let k = ap said_number f in omega (arith, k)
 not_table false true true false f = let k = ap said_number f in omega (arith, k)
@@ -242,20 +231,18 @@ not_table false true false d f = let k = ap said_number f in omega (arith, k)
 not_table false false c d f = let k = ap said_number f in omega (arith, k)
 
 faulted : (r : Answer) (a b c d : Bool)
-    → unless r (said.Plain r) (cond a (said.Plain (Refused reason.Buffer)) (cond b (cond c (cond d said.Awaiting (said.Plain Done)) said.NotDistributing) said.Wait)) ≡ said.Plain (Refused reason.Table)
-    → r ≡ Refused reason.Table
+    → after_report r (room_tests a b c d) ≡ Err (refusal.Plain reason.Table)
+    → r ≡ Err reason.Table
 unfolding plain_of
-faulted (Refused x) a b c d e = ap plain_of e
-faulted Done a b c d e = absurd (not_table a b c d e)
-faulted Lacpdu a b c d e = absurd (not_table a b c d e)
-faulted Marker a b c d e = absurd (not_table a b c d e)
+faulted (Err x) a b c d e = ap plain_of e
+faulted (Ok x) a b c d e = absurd (not_table a b c d e)
 
-ask-faulted : (h : Held) → Joint h → (n wait : ℕ) (out : List ℕ) → said_to n wait out h ≡ said.Plain (Refused reason.Table) → answer_in (report n) (front_in h) ≡ Refused reason.Table
+ask-faulted : (h : Held) → Joint h → (n wait : ℕ) (out : List ℕ) → said_to n wait out h ≡ Err (refusal.Plain reason.Table) → answer_in (report n) (front_in h) ≡ Err reason.Table
 ask-faulted h j n wait out =
-    subst (λ (x : Held). said_to n wait out x ≡ said.Plain (Refused reason.Table) → answer_in (report n) (front_in x) ≡ Refused reason.Table) (sym j.is) (by j.front j.sound j.groups j.ranged)
+    subst (λ (x : Held). said_to n wait out x ≡ Err (refusal.Plain reason.Table) → answer_in (report n) (front_in x) ≡ Err reason.Table) (sym j.is) (by j.front j.sound j.groups j.ranged)
   where
-    by : (f : Held) → HeldSound f → (g : List ℕ) → Groups (count_in (memory_of f)) g → said_to n wait out (join f g) ≡ said.Plain (Refused reason.Table)
-        → answer_in (report n) (front_in (join f g)) ≡ Refused reason.Table
+    by : (f : Held) → HeldSound f → (g : List ℕ) → Groups (count_in (memory_of f)) g → said_to n wait out (join f g) ≡ Err (refusal.Plain reason.Table)
+        → answer_in (report n) (front_in (join f g)) ≡ Err reason.Table
     by (old t) s g gs e =
         let some = front-some (old t) s in
         let size = front-size (old t) s in
@@ -271,17 +258,17 @@ ask-faulted h j n wait out =
 
 -- ---- a fetch reads back, in any memory
 
-fetched : (L : Layer) (m : List ℕ) (n : ℕ) (out : List ℕ) → asked_answer L (fetch n out) m ≡ Done
-    → (L.answers (fetch n out) (front_of L m) ≡ Done) × (asked_outgoing L (fetch n out) m ≡ L.sends (fetch n out) (front_of L m))
+fetched : (L : Layer) (m : List ℕ) (n : ℕ) (out : List ℕ) → asked_answer L (fetch n out) m ≡ Ok Done
+    → (L.answers (fetch n out) (front_of L m) ≡ Ok Done) × (asked_outgoing L (fetch n out) m ≡ L.sends (fetch n out) (front_of L m))
 unfolding asked_answer asked_outgoing
 fetched L m n out e = by (has_asks L m) e
   where
-    by : (b : Bool) → cond b (L.answers (fetch n out) (front_of L m)) (Refused reason.Table) ≡ Done
-        → (L.answers (fetch n out) (front_of L m) ≡ Done) × (cond b (L.sends (fetch n out) (front_of L m)) out ≡ L.sends (fetch n out) (front_of L m))
+    by : (b : Bool) → cond b (L.answers (fetch n out) (front_of L m)) (Err reason.Table) ≡ Ok Done
+        → (L.answers (fetch n out) (front_of L m) ≡ Ok Done) × (cond b (L.sends (fetch n out) (front_of L m)) out ≡ L.sends (fetch n out) (front_of L m))
     by true f = (f, refl)
     by false f = absurd (false≢true (ap accepted f))
 
-reads-back : (h : Held) (n : ℕ) (out : List ℕ) → answer_to (fetch n out) h ≡ Done → Reads (table_in h) n (sent_by (fetch n out) h)
+reads-back : (h : Held) (n : ℕ) (out : List ℕ) → answer_to (fetch n out) h ≡ Ok Done → Reads (table_in h) n (sent_by (fetch n out) h)
 reads-back (old m) n out e = let k = fetched old_layer m n out e in subst (Reads (table_in (old m)) n) (sym k.1) (fronts.reads-back (front_in (old m)) n out k.0)
 reads-back (new m) n out e = let k = fetched new_layer m n out e in subst (Reads (table_in (new m)) n) (sym k.1) (fronts.reads-back (front_in (new m)) n out k.0)
 

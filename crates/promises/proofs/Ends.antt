@@ -1,7 +1,7 @@
 -- Along any run of the library: what a port asked for follows from the steps, a Marker ends in its time, and numbers are used in order. Assumes nothing.
 use Prim.Native.Nat.{ℕ, ◌+◌, ◌-◌, ◌%◌, ◌≤◌, ◌<◌}
 use mathlib.Core.Path.{◌≡◌, refl, sym, ap, ◌∙◌, subst}
-use mathlib.Core.Bool.{Bool, true, false, cond, ◌&&◌, false≢true, true≢false}
+use mathlib.Core.Bool.{Bool, true, false, cond, ◌&&◌, true≢false}
 use mathlib.Core.List.{List, [], ◌∷◌, ◌++◌}
 use native.Mathlib.Omega.{arith}
 use lib.ListN.{drop}
@@ -18,18 +18,15 @@ use Rattle.asks.specs.declared.ask.Ask.{Ask}
 use Rattle.asks.specs.Ask.{longest_wait, is_awaiting, asked}
 use Rattle.asks.specs.Groups.{ask_at, all_begun}
 use Rattle.asks.proofs.MadeLaws.{Groups, begun-at}
-use Rattle.control.specs.declared.answer.Answer.TheVariants.{Done, Lacpdu, Marker, Refused}
-use Rattle.asked.specs.declared.said.Said.{Said}
-use Rattle.asked.specs.declared.said.Said.TheVariants as said
 use Rattle.asked.specs.Layer.{old_layer, new_layer}
 use Rattle.asked.specs.Asked.{front_of, request_of}
-use Rattle.asked.specs.Ask.{unless_said, marker_for, ask_outgoing}
+use Rattle.asked.specs.Ask.{marker_for, ask_outgoing}
 use Rattle.promises.specs.Run.{Held, old, new, memory_of, records_of, call, stepped, through}
 use Rattle.promises.specs.Whole.{HeldSound}
 use Rattle.promises.specs.Asked.{layer_of, groups_in, table_in, ask_in, Deed, plain, ask, said_to, agrees, done, after-all, DeedTakes, AllTaken, AskedMade, front_step, ask_by}
 use Rattle.promises.specs.Asks.{is_end, fate, tick_of, ticks_of, NoStart, count_ask, count_asks, asks_of, AsksFollow, EndsInTime, NumbersInOrder}
 use Rattle.promises.proofs.Run.{steps-go}
-use Rattle.promises.proofs.Joined.{ask-answer, tests_pass}
+use Rattle.promises.proofs.Joined.{agreed, ask-answer, tests_pass}
 use Rattle.promises.proofs.Asked.{records-count, front-size, front-some, reported, named, join, deed_step, front-takes, Joint, joint-front, joint-groups, from_start, begun-sound, begun-ranged, made-joint}
 use Rattle.promises.proofs.Asks.{OneStep, one-step, number_step}
 
@@ -192,15 +189,6 @@ module _ (h : Held) (m : AskedMade h) where
 table_is : (h : Held) → (layer_of h).records (front_of (layer_of h) (memory_of h)) ≡ table_in h
 table_is (old m) = refl
 table_is (new m) = refl
-
-pub agreed : {A : Type 0} (x y : A) (a : Said) → agrees a ≡ true → unless_said a x y ≡ y
-agreed x y (said.Plain Done) e = refl
-agreed x y (said.Plain Lacpdu) e = refl
-agreed x y (said.Plain Marker) e = refl
-agreed x y (said.Plain (Refused r)) e = absurd (false≢true e)
-agreed x y said.Wait e = absurd (false≢true e)
-agreed x y said.NotDistributing e = absurd (false≢true e)
-agreed x y said.Awaiting e = absurd (false≢true e)
 
 -- what an accepted ask sent gives back its request, in any memory
 pub ask-reads-back : (h : Held) (n wait : ℕ) (out : List ℕ) → agrees (said_to n wait out h) ≡ true

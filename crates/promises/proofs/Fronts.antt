@@ -4,8 +4,8 @@ use Prim.Native.Nat.{ℕ, ◌+◌, ◌-◌, ◌<◌}
 use mathlib.Core.Path.{◌≡◌, refl, sym, ap, ◌∙◌, subst}
 use mathlib.Core.Bool.{true, false, true≢false}
 use mathlib.Core.List.{List, map}
-use mathlib.Core.Option.{some}
 use native.Mathlib.Omega.{arith}
+use Rattle.std.specs.Prelude.{Some, Ok, Err}
 use Rattle.port.specs.Compared.{compared}
 use Rattle.table.specs.Table.{count_in, port_at, ports, ours}
 use Rattle.trunk.specs.Selection.{shares_group}
@@ -13,8 +13,8 @@ use Rattle.trunk.proofs.GroupLaws.{shares_refl}
 use Rattle.churn.specs.declared.Stage.TheVariants.{Other}
 use Rattle.churn.specs.Whole.{base_of, monitors_at}
 use Rattle.churn.proofs.WholeLaws.{base-count}
-use Rattle.control.specs.declared.answer.Answer.{Answer}
-use Rattle.control.specs.declared.answer.Answer.TheVariants.{Done, Refused}
+use Rattle.control.specs.Answer.{Answer}
+use Rattle.control.specs.declared.answer.Accepted.TheVariants.{Done}
 use Rattle.control.specs.declared.answer.Reason.{Reason}
 use Rattle.control.specs.declared.answer.Reason.TheVariants.{Table}
 use Rattle.control.specs.Accepted.{accepted}
@@ -85,7 +85,7 @@ monitors_stay (new w) m c k i g not same =
     let s = held-never_stuck (new w) m in
     let here : i < count_in w = rw (base-count w) at g in
     let event = other-event w c i not in
-    ap some (churn-step w s c k i here ∙ (λ j. churn_after (event j) (seen_of (same j)) (monitors_at w i))
+    ap Some (churn-step w s c k i here ∙ (λ j. churn_after (event j) (seen_of (same j)) (monitors_at w i))
     ∙ sym (watching-is Other (port_at (base_of w) i) (monitors_at w i)) ∙ s.rest i here)
 
 others_stay : (h : Held) → HeldMade h → (c : Call) → Takes c → (n : ℕ) → IsPort h n
@@ -96,14 +96,14 @@ others_stay h m c k n p f =
 
 -- ---- calls that find room
 
-unfaulted : (h : Held) → HeldMade h → (c : Call) → is_start c ≡ false → answer_in c h ≡ Refused Table → ⊥
+unfaulted : (h : Held) → HeldMade h → (c : Call) → is_start c ≡ false → answer_in c h ≡ Err Table → ⊥
 unfolding base_of
 unfaulted (old t) m c s e = no_answer-one t (base-made (old t) m) c s e
 unfaulted (new w) m c s e =
     let room = plain-room c s w ∙ (held-never_stuck (new w) m).ranged in
     no_answer-one (base_of w) (base-made (new w) m) c s (sym (front-answer c w (count_in w) (plain-count c s w) room) ∙ e)
 
-reads-back : (h : Held) (n : ℕ) (out : List ℕ) → answer_in (fetch n out) h ≡ Done → Reads (records_of h) n (outgoing_in (fetch n out) h)
+reads-back : (h : Held) (n : ℕ) (out : List ℕ) → answer_in (fetch n out) h ≡ Ok Done → Reads (records_of h) n (outgoing_in (fetch n out) h)
 unfolding base_of
 reads-back (old t) n out e = read_back t n out e
 reads-back (new w) n out e =
@@ -113,7 +113,7 @@ reads-back (new w) n out e =
 
 -- ---- moves that are refused
 
-unmoved : (a : Answer) (u v : List ℕ) (r : Reason) → a ≡ Refused r → unless a u v ≡ u
+pub unmoved : (a : Answer) (u v : List ℕ) (r : Reason) → a ≡ Err r → unless a u v ≡ u
 unmoved a u v r e = ap (λ (x : Answer). unless x u v) e
 
 pub fronts : Fronts

@@ -8,6 +8,7 @@ use lib.ListN.{length, take, drop}
 use lib.Seq.{take_at, drop_at}
 use lib.Dec.{eqb, ltb}
 use borrow.Author.Tests.{eqb-true, eqb-false, eq-eqb, ne_eqb}
+use Rattle.std.specs.Prelude.{Ok, Err}
 use Rattle.octets.specs.Octets.{within}
 use Rattle.octets.proofs.RangeLaws.{both, both_true, within-true}
 use Rattle.frame.specs.declared.block.SystemId.{SystemId}
@@ -26,21 +27,18 @@ use Rattle.asks.specs.Group.{ask_fits}
 use Rattle.asks.specs.Groups.{ask_at, all_fallen, all_begun}
 use Rattle.asks.proofs.AskLaws.{asked-fits, ended-fits}
 use Rattle.asks.proofs.MadeLaws.{Groups, fits-at, begun-groups, begun-at, fallen-groups, fallen-at, put-groups, put_at_lem, put_other}
-use Rattle.control.specs.declared.answer.Answer.{Answer}
-use Rattle.control.specs.declared.answer.Answer.TheVariants.{Done, Lacpdu, Marker, Refused}
+use Rattle.control.specs.Answer.{Answer, answer_number}
+use Rattle.control.specs.declared.answer.Accepted.TheVariants.{Done}
 use Rattle.control.specs.declared.answer.Reason.TheVariants as reason
 use Rattle.control.specs.Accepted.{accepted}
-use Rattle.control.specs.Answer.{answer_number}
 use Rattle.control.specs.Call.{Call, start, receive, tick, line, configure, fetch, report, aggregator, due, is_start}
-use Rattle.control.specs.After.{unless}
 use Rattle.whole.specs.Calls.{count_for}
 use Rattle.whole.proofs.FrontLaws.{plain-count}
-use Rattle.asked.specs.declared.said.Said.{Said}
-use Rattle.asked.specs.declared.said.Said.TheVariants as said
+use Rattle.asked.specs.declared.said.AskRefusal.TheVariants as refusal
 use Rattle.asked.specs.Layer.{Layer}
 use Rattle.asked.specs.Asked.{asked_size, front_of, groups_of, is_asked_room, has_asks, with_ask, ended_at, brings_back}
 use Rattle.asked.specs.Calls.{front_for, groups_for, room_for, is_ours, falls_from, groups_after, asked_answer, asked_after, asked_outgoing}
-use Rattle.asked.specs.Ask.{unless_said, ask_tests, ask_answer, ask_after}
+use Rattle.asked.specs.Ask.{Said, unless_said, after_report, ask_tests, ask_answer, ask_after}
 use Rattle.asked.proofs.JoinLaws as join
 use Rattle.promises.specs.Asked.{agrees, ask_by_call}
 
@@ -56,6 +54,19 @@ plain-asks L (report n) s m = refl
 plain-asks L (aggregator k) s m = refl
 plain-asks L due s m = refl
 
+-- the tests of an ask after those of a report: room, the time to wait, that the port distributes, and that it awaits none
+abbrev pub room_tests : Bool → Bool → Bool → Bool → Said
+room_tests a b c d = cond a (Err (refusal.Plain reason.Buffer)) (cond b (cond c (cond d (Err refusal.Awaiting) (Ok tt)) (Err refusal.NotDistributing)) (Err refusal.Wait))
+
+-- what an ask leaves that is accepted, and one that is refused
+pub agreed : {A : Type 0} (x y : A) (a : Said) → agrees a ≡ true → unless_said a x y ≡ y
+agreed x y (Ok u) e = refl
+agreed x y (Err r) e = absurd (false≢true e)
+
+pub kept : {A : Type 0} (x y : A) (a : Said) → agrees a ≡ false → unless_said a x y ≡ x
+kept x y (Ok u) e = absurd (true≢false e)
+kept x y (Err r) e = refl
+
 -- ---- an accepted start, on any memory
 
 module _ (L : Layer) (m : List ℕ) (count : ℕ) (system : SystemId) (delay : TensOfMicroseconds) (x : Settings) (done : accepted (asked_answer L (start count system delay x) m) ≡ true) where
@@ -66,7 +77,7 @@ module _ (L : Layer) (m : List ℕ) (count : ℕ) (system : SystemId) (delay : T
       by true e = e
       by false e = absurd (false≢true (sym (ap accepted (refused e)) ∙ done))
         where
-          refused : is_asked_room L m count ≡ false → asked_answer L (start count system delay x) m ≡ Refused reason.Table
+          refused : is_asked_room L m count ≡ false → asked_answer L (start count system delay x) m ≡ Err reason.Table
           refused f = unfold asked_answer in rw f refl
 
   pub start-below : accepted (L.answers (start count system delay x) (take (L.size count) m)) ≡ true
@@ -108,9 +119,9 @@ module _ (L : Layer) (w : List ℕ) (some : 1 ≤ length w) (size : length w ≡
     its_groups : groups_for L c (w ++ g) ≡ g
     its_groups = ap (λ (n : ℕ). drop (L.size n) (w ++ g)) (plain-count c s (w ++ g)) ∙ joined-groups
 
-    pub call-answer : asked_answer L c (w ++ g) ≡ cond (is_ours L c w g) Done (L.answers c w)
+    pub call-answer : asked_answer L c (w ++ g) ≡ cond (is_ours L c w g) (Ok Done) (L.answers c w)
     unfolding asked_answer
-    call-answer = rw room (λ i. cond (is_ours L c (its_front i) (its_groups i)) Done (L.answers c (its_front i)))
+    call-answer = rw room (λ i. cond (is_ours L c (its_front i) (its_groups i)) (Ok Done) (L.answers c (its_front i)))
 
     pub call-after : asked_after L c (w ++ g) ≡ L.leaves c w ++ groups_after L c w g
     unfolding asked_after
@@ -280,34 +291,23 @@ module _ (L : Layer) (w : List ℕ) (some : 1 ≤ length w) (size : length w ≡
   tests_pass n wait out e =
       by (L.answers (report n) w) (ltb (length out) frame_size) (within 1 wait longest_wait) (distributes (port_at (L.records w) (n - 1)).phase.mux) (is_awaiting (ask_at g (n - 1)).outcome) e
     where
-      passed : (a b c d : Bool) → agrees (cond a (said.Plain (Refused reason.Buffer)) (cond b (cond c (cond d said.Awaiting (said.Plain Done)) said.NotDistributing) said.Wait)) ≡ true → (b ≡ true) × (d ≡ false)
+      passed : (a b c d : Bool) → agrees (room_tests a b c d) ≡ true → (b ≡ true) × (d ≡ false)
       passed true b c d f = absurd (false≢true f)
       passed false true true true f = absurd (false≢true f)
       passed false true true false f = (refl, refl)
       passed false true false d f = absurd (false≢true f)
       passed false false c d f = absurd (false≢true f)
 
-      by : (r : Answer) (a b c d : Bool) → agrees (unless r (said.Plain r) (cond a (said.Plain (Refused reason.Buffer)) (cond b (cond c (cond d said.Awaiting (said.Plain Done)) said.NotDistributing) said.Wait))) ≡ true
+      by : (r : Answer) (a b c d : Bool) → agrees (after_report r (room_tests a b c d)) ≡ true
           → (accepted r ≡ true) × (b ≡ true) × (d ≡ false)
-      by Done a b c d f = (let p = passed a b c d f in (refl, p.0, p.1))
-      by Lacpdu a b c d f = (let p = passed a b c d f in (refl, p.0, p.1))
-      by Marker a b c d f = (let p = passed a b c d f in (refl, p.0, p.1))
-      by (Refused r) a b c d f = absurd (false≢true f)
+      by (Ok x) a b c d f = (let p = passed a b c d f in (refl, p.0, p.1))
+      by (Err r) a b c d f = absurd (false≢true f)
 
   pub record AskJoined (n wait : ℕ) (out : List ℕ) : Type 0 where
     pub groups : List ℕ
     pub ranged : Groups (count_in w) groups
     pub after : ask_after L n wait out (w ++ g) ≡ w ++ groups
     pub asks : (i : ℕ) → ask_at groups i ≡ cond (eqb i (n - 1) && agrees (ask_answer L n wait out (w ++ g))) (asked wait (ask_at g i)) (ask_at g i)
-
-  unless-by : {A : Type 0} (x y : A) (a : Said) → unless_said a x y ≡ cond (agrees a) y x
-  unless-by x y (said.Plain Done) = refl
-  unless-by x y (said.Plain Lacpdu) = refl
-  unless-by x y (said.Plain Marker) = refl
-  unless-by x y (said.Plain (Refused r)) = refl
-  unless-by x y said.Wait = refl
-  unless-by x y said.NotDistributing = refl
-  unless-by x y said.Awaiting = refl
 
   abbrev leftover : ℕ → ℕ → List ℕ
   leftover n wait = front_of L (w ++ g) ++ with_ask (n - 1) (asked wait (ask_at (groups_of L (w ++ g)) (n - 1))) (groups_of L (w ++ g))
@@ -328,12 +328,12 @@ module _ (L : Layer) (w : List ℕ) (some : 1 ≤ length w) (size : length w ≡
           record {
             groups = with_ask (n - 1) a g;
             ranged = put-groups (count_in w) g k (n - 1) there a fit;
-            after = unless-by (w ++ g) (leftover n wait) (ask_answer L n wait out (w ++ g)) ∙ ap (λ (b : Bool). cond b (leftover n wait) (w ++ g)) e ∙ leftover_is n wait;
+            after = agreed (w ++ g) (leftover n wait) (ask_answer L n wait out (w ++ g)) e ∙ leftover_is n wait;
             asks = λ i. one-ask (n - 1) true a (λ t. there) fit i ∙ here (asked wait) (n - 1) i true ∙ sym (ap (λ (b : Bool). cond (eqb i (n - 1) && b) (asked wait (ask_at g i)) (ask_at g i)) e);
           }
       by false e = record {
         groups = g;
         ranged = k;
-        after = unless-by (w ++ g) (leftover n wait) (ask_answer L n wait out (w ++ g)) ∙ ap (λ (b : Bool). cond b (leftover n wait) (w ++ g)) e;
+        after = kept (w ++ g) (leftover n wait) (ask_answer L n wait out (w ++ g)) e;
         asks = λ i. sym (ap (λ (b : Bool). cond (eqb i (n - 1) && b) (asked wait (ask_at g i)) (ask_at g i)) e ∙ never (eqb i (n - 1)) (asked wait (ask_at g i)) (ask_at g i));
       }

@@ -5,9 +5,10 @@ use mathlib.Core.Bool.{true}
 use mathlib.Core.List.{List}
 use lib.ListN.{length}
 use borrow.Author.Tests.{eq-eqb}
+use Rattle.std.specs.Prelude.{Ok}
 use Rattle.table.specs.Table.{count_in}
 use Rattle.asks.proofs.MadeLaws.{Groups}
-use Rattle.control.specs.declared.answer.Answer.TheVariants.{Done}
+use Rattle.control.specs.declared.answer.Accepted.TheVariants.{Done}
 use Rattle.asked.specs.Layer.{old_layer, new_layer}
 use Rattle.asked.specs.Asked.{asked_size}
 use Rattle.asked.specs.Moves.{is_old_asked, is_new_asked, forward_answer, back_answer}
@@ -34,11 +35,11 @@ formed h j = subst Formed (sym j.is) (by j.front j.sound j.groups j.ranged)
     by (new w) s g gs =
         rw (joined-has new_layer w (front-some (new w) s) (front-size (new w) s) g gs, joined-front new_layer w (front-some (new w) s) (front-size (new w) s) g gs, s.ranged) s.base.ranged
 
-forward-taken : (m : List ℕ) → AskedMade (old m) → (u : List ℕ) → length u ≡ asked_size new_layer (count_in m) → forward_answer m u ≡ Done
+forward-taken : (m : List ℕ) → AskedMade (old m) → (u : List ℕ) → length u ≡ asked_size new_layer (count_in m) → forward_answer m u ≡ Ok Done
 unfolding forward_answer
 forward-taken m made u e = rw (formed (old m) (made-joint (old m) made), eq-eqb (length u) (asked_size new_layer (count_in m)) e)
 
-back-taken : (m : List ℕ) → AskedMade (new m) → (u : List ℕ) → length u ≡ asked_size old_layer (count_in m) → back_answer m u ≡ Done
+back-taken : (m : List ℕ) → AskedMade (new m) → (u : List ℕ) → length u ≡ asked_size old_layer (count_in m) → back_answer m u ≡ Ok Done
 unfolding back_answer
 back-taken m made u e = rw (formed (new m) (made-joint (new m) made), eq-eqb (length u) (asked_size old_layer (count_in m)) e)
 

@@ -8,6 +8,7 @@ use native.Mathlib.Omega.{arith}
 use lib.ListN.{length, take, drop, set}
 use lib.Dec.{eqb}
 use borrow.Author.Tests.{eqb-true, eqb-false, eq-eqb}
+use Rattle.std.specs.Prelude.{Ok, Err}
 use Rattle.octets.specs.Octets.{Octets, within}
 use Rattle.octets.proofs.OctetLists.{append-octets, drop-octets}
 use Rattle.frame.specs.declared.block.SystemId.{SystemId}
@@ -31,13 +32,12 @@ use Rattle.churn.specs.Whole.{whole_size, base_of, monitors_at, has_monitors, pr
 use Rattle.churn.proofs.ChurnLaws.{watching-twice}
 use Rattle.churn.proofs.WholeLaws.{base-count, base-length}
 use Rattle.churn.proofs.MadeLaws.{watched-base, watched-count, watched-monitors, watched-has, watched-octets, begun-has, begun-octets}
-use Rattle.control.specs.declared.answer.Answer.{Answer}
-use Rattle.control.specs.declared.answer.Answer.TheVariants.{Done, Lacpdu, Marker, Refused}
+use Rattle.control.specs.Answer.{Answer, with_default, with_room, due_answer}
+use Rattle.control.specs.declared.answer.Accepted.TheVariants.{Done}
 use Rattle.control.specs.declared.answer.Reason.TheVariants as reason
 use Rattle.control.specs.Accepted.{accepted, is_lacpdu}
-use Rattle.control.specs.Answer.{with_default, with_room, due_answer}
 use Rattle.control.specs.Call.{Call, start, receive, tick, line, configure, fetch, report, aggregator, due as dueCall}
-use Rattle.control.specs.After.{answer, after, after_frame, changed_by, unless, effect}
+use Rattle.control.specs.After.{answer, after, changed_by, effect}
 use Rattle.control.proofs.CallLaws.{after-accepted, refused-table, refused-buffer, named}
 use Rattle.control.proofs.CountLaws.{started-count, kept_if}
 use Rattle.whole.specs.Calls.{count_for, is_whole_room, has_room, settles, stage_of, watched_if, whole_answer, whole_after}
@@ -46,7 +46,7 @@ use Rattle.whole.proofs.FrontLaws.{lost_after, lost_answer, lost_out, accepted-r
 use Rattle.whole.proofs.JoinLaws.{joined-count, joined-whole, joined-base, joined-monitors, joined-has}
 use Rattle.claims.specs.Run.{Takes}
 use Rattle.claims.specs.AtRest.{Sound}
-use Rattle.claims.proofs.Sound.{sound_back, send_ports}
+use Rattle.claims.proofs.Sound.{call-left, frame-left, sound_back, send_ports}
 use Rattle.claims.proofs.Calls.{call-sound, started-sound}
 use Rattle.claims.proofs.Counts.{call-count}
 use Rattle.claims.proofs.Locality.{again-at}
@@ -69,23 +69,13 @@ unfolding sent
 sent-seen p = refl
 
 repeated : (a : Answer) (b : Bool) → accepted a ≡ true → (accepted a && not b) ≡ false → b ≡ true
-repeated Done true e f = refl
-repeated Done false e f = absurd (true≢false f)
-repeated Lacpdu true e f = refl
-repeated Lacpdu false e f = absurd (true≢false f)
-repeated Marker true e f = refl
-repeated Marker false e f = absurd (true≢false f)
-repeated (Refused r) b e f = absurd (false≢true e)
+repeated (Ok x) true e f = refl
+repeated (Ok x) false e f = absurd (true≢false f)
+repeated (Err r) b e f = absurd (false≢true e)
 
 module _ (t : List ℕ) (s : Sound t) (i : ℕ) (h : i < count_in t) where
   same_seen_lem : seen_of (port_at (octets_of (state_of t)) i) ≡ seen_of (port_at t i)
   same_seen_lem = ap (λ (u : List ℕ). seen_of (port_at u i)) (sound_back t s)
-
-  frame-seen : (a : Answer) (k : ℕ) (frame : List ℕ) → is_lacpdu a ≡ false → seen_of (port_at (on_octets (after_frame a k frame) t) i) ≡ seen_of (port_at t i)
-  frame-seen Done k frame e = same_seen_lem
-  frame-seen Lacpdu k frame e = absurd (true≢false e)
-  frame-seen Marker k frame e = same_seen_lem
-  frame-seen (Refused r) k frame e = same_seen_lem
 
   kept_seen : (b : Bool) (qs : List Port) → b ≡ true → seen_of (port_at (kept_if b t qs) i) ≡ seen_of (port_at t i)
   kept_seen true qs e = same_seen_lem
@@ -101,7 +91,9 @@ module _ (t : List ℕ) (s : Sound t) (i : ℕ) (h : i < count_in t) where
   changed-seen : (c : Call) → accepted (answer c t) ≡ true → settles c t (answer c t) ≡ false → seen_of (port_at (changed_by c t) i) ≡ seen_of (port_at t i)
   unfolding answer effect
   changed-seen (start count system delay x) e f = absurd (true≢false (sym e ∙ f))
-  changed-seen (receive n frame out) e f = frame-seen (answer (receive n frame out) t) (n - 1) frame f
+  changed-seen (receive n frame out) e f =
+      frame-left (λ u. seen_of (port_at u i) ≡ seen_of (port_at t i)) (answer (receive n frame out) t) (n - 1) frame t same_seen_lem
+      (λ a. absurd (true≢false (sym (ap is_lacpdu a) ∙ f)))
   changed-seen tick e f = absurd (true≢false (sym e ∙ f))
   changed-seen (line n l) e f = unfold after_line after_one in
       kept_seen (same_line l (port_at t (n - 1)).line) (worked (ours t) (set (ports t) (n - 1) (lined l (port_at t (n - 1)))))
@@ -116,13 +108,7 @@ module _ (t : List ℕ) (s : Sound t) (i : ℕ) (h : i < count_in t) where
 
   pub idle-seen : (c : Call) → settles c t (answer c t) ≡ false → seen_of (port_at (after c t) i) ≡ seen_of (port_at t i)
   unfolding after
-  idle-seen c f = by (answer c t) (λ e. changed-seen c e f)
-    where
-      by : (a : Answer) → (accepted a ≡ true → seen_of (port_at (changed_by c t) i) ≡ seen_of (port_at t i)) → seen_of (port_at (unless a t (changed_by c t)) i) ≡ seen_of (port_at t i)
-      by Done g = g refl
-      by Lacpdu g = g refl
-      by Marker g = g refl
-      by (Refused r) g = refl
+  idle-seen c f = call-left (λ u. seen_of (port_at u i) ≡ seen_of (port_at t i)) (answer c t) t (changed_by c t) refl (λ e. changed-seen c e f)
 
 -- the machines look at nothing else
 pub seen_alike : (p q : Port) (m : Monitors) → seen_of p ≡ seen_of q → watching p m ≡ watching q m
@@ -335,10 +321,10 @@ start-alike w s count =
     ∙ ap (λ (b : Bool). within 1 count most_ports && b) (rooms_alike (count_in w) count) ∙ ap (λ (n : ℕ). within 1 count most_ports && eqb n (whole_size count)) (sym long)
 
 -- a call without room is a start that the table without monitors refuses too
-pub lost_base : (w : List ℕ) → WholeSound w → (c : Call) → has_room c w ≡ false → answer c (base_of w) ≡ Refused reason.Table
+pub lost_base : (w : List ℕ) → WholeSound w → (c : Call) → has_room c w ≡ false → answer c (base_of w) ≡ Err reason.Table
 unfolding answer
 lost_base w s (start count system delay x) e =
-    ap (λ (b : Bool). cond b (with_default x Done) (Refused reason.Table)) (start-alike w s count ∙ e)
+    ap (λ (b : Bool). cond b (with_default x (Ok Done)) (Err reason.Table)) (start-alike w s count ∙ e)
 lost_base w s (receive n frame out) e = absurd (true≢false (sym s.ranged ∙ e))
 lost_base w s tick e = absurd (true≢false (sym s.ranged ∙ e))
 lost_base w s (line n l) e = absurd (true≢false (sym s.ranged ∙ e))

@@ -1,6 +1,6 @@
 -- Runs of the library: calls, moves, and asks for Markers (M-102), on tables of either form with what their ports asked for. Such a table is a table without it, its front,
 -- and the groups behind. On the front a call is the call of `Run`, a move a move, and an ask nothing.
-use Rattle.std.specs.Prelude.{ℕ, ◌-◌, ◌≡◌, Bool, true, false, cond, ◌&&◌, List, [], ◌∷◌, ◌++◌, take, eqb}
+use Rattle.std.specs.Prelude.{ℕ, ◌-◌, ◌≡◌, Bool, true, false, cond, ◌&&◌, List, [], ◌∷◌, ◌++◌, take, eqb, Ok, is_ok}
 use Rattle.octets.specs.Octets.{Octets}
 use Rattle.table.specs.Layout.{place}
 use Rattle.table.specs.Table.{count_in, port_at}
@@ -9,16 +9,14 @@ use Rattle.asks.specs.declared.ask.Ask.{Ask}
 use Rattle.asks.specs.declared.ask.Outcome.TheVariants.{Answered, Cancelled}
 use Rattle.asks.specs.Ask.{never_asked, asked, ended, ask_fallen}
 use Rattle.asks.specs.Groups.{ask_at}
-use Rattle.control.specs.declared.answer.Answer.{Answer}
-use Rattle.control.specs.declared.answer.Answer.TheVariants.{Done}
+use Rattle.control.specs.Answer.{Answer}
+use Rattle.control.specs.declared.answer.Accepted.TheVariants.{Done}
 use Rattle.control.specs.Accepted.{accepted}
 use Rattle.control.specs.Call.{Call, start, receive, tick, line, configure, fetch, report, aggregator, due, is_start}
-use Rattle.asked.specs.declared.said.Said.{Said}
-use Rattle.asked.specs.declared.said.Said.TheVariants as said
 use Rattle.asked.specs.Layer.{Layer, old_layer, new_layer}
 use Rattle.asked.specs.Asked.{front_of, groups_of}
 use Rattle.asked.specs.Calls.{is_ours, falls_from, asked_answer, asked_after, asked_outgoing}
-use Rattle.asked.specs.Ask.{ask_answer, ask_after}
+use Rattle.asked.specs.Ask.{Said, ask_answer, ask_after}
 use Rattle.asked.specs.Moves.{forward_answer, forward_to, back_answer, back_to}
 use Rattle.claims.specs.Run.{Takes}
 use Rattle.promises.specs.Run.{Held, old, new, memory_of, records_of, answer_in, outgoing_in, Step, call, forward, back, stepped, through, StepTakes, AllStepsTake, HeldMade}
@@ -64,10 +62,7 @@ abbrev pub said_to : ℕ → ℕ → List ℕ → Held → Said
 said_to n wait out h = ask_answer (layer_of h) n wait out (memory_of h)
 
 abbrev pub agrees : Said → Bool
-agrees (said.Plain a) = accepted a
-agrees said.Wait = false
-agrees said.NotDistributing = false
-agrees said.Awaiting = false
+agrees = is_ok
 
 unfoldable pub done : Deed → Held → Held
 done (plain (call c)) h = holding h (asked_after (layer_of h) c (memory_of h))
@@ -132,7 +127,7 @@ FrontRuns = (h : Held) → AskedMade h → (ds : List Deed) → AllTaken ds → 
 
 -- and a call that is no start is there the same call, with the same answer but for a Response that is ours
 pub record FrontCall (c : Call) (h : Held) : Type 0 where
-  pub answers : answer_to c h ≡ cond (is_ours (layer_of h) c (memory_of (front_in h)) (groups_in h)) Done (answer_in c (front_in h))
+  pub answers : answer_to c h ≡ cond (is_ours (layer_of h) c (memory_of (front_in h)) (groups_in h)) (Ok Done) (answer_in c (front_in h))
   pub leaves : front_in (done (plain (call c)) h) ≡ stepped (call c) (front_in h)
   pub sends : sent_by c h ≡ outgoing_in c (front_in h)
 

@@ -1,6 +1,6 @@
 -- What a port's churn fields follow from: its link and both Synchronizations after each step, and where the accepted ticks, starts and moves lie. Nothing else.
-use Rattle.std.specs.Prelude.{ℕ, ◌<◌, ◌≡◌, Bool, true, false, cond, ◌&&◌, List, [], ◌∷◌}
-use Rattle.std.proofs.Math.Option.{Option, none, some, get_or}
+use Rattle.std.specs.Prelude.{ℕ, ◌<◌, ◌≡◌, Bool, true, false, cond, ◌&&◌, List, [], ◌∷◌, Option, Some, None}
+use Rattle.std.specs.Option.{unwrap_or}
 use Rattle.machine.specs.Bits.{alike}
 use Rattle.port.specs.declared.record.Port.{Port}
 use Rattle.table.specs.Table.{count_in, port_at}
@@ -29,12 +29,12 @@ seen_at w i = seen_of (port_at (base_of w) i)
 
 -- what is seen of port i, from 0, and its churn fields, where the table has monitors
 abbrev pub seen_in : ℕ → Held → Option Seen
-seen_in i (old t) = none
-seen_in i (new w) = some (seen_at w i)
+seen_in i (old t) = None
+seen_in i (new w) = Some (seen_at w i)
 
 abbrev pub churn_in : ℕ → Held → Option Monitors
-churn_in i (old t) = none
-churn_in i (new w) = some (monitors_at w i)
+churn_in i (old t) = None
+churn_in i (new w) = Some (monitors_at w i)
 
 -- what a call is to the machines: an accepted start, an accepted tick, or any other, a refused start or tick among them
 abbrev pub event_of : Call → List ℕ → Stage
@@ -61,8 +61,8 @@ churn_after e x m = monitors (watched x.up x.actor (prepared e m).actor) (watche
 
 -- and after a step, if there are any then; where there were none they have begun, and `prepared` looks at nothing
 abbrev pub churn_after_step : Stage → Option Seen → Option Monitors → Option Monitors
-churn_after_step e none m = none
-churn_after_step e (some x) m = some (churn_after e x (get_or m both_begun))
+churn_after_step e None m = None
+churn_after_step e (Some x) m = Some (churn_after e x (unwrap_or m both_begun))
 
 abbrev pub ChurnFollows : Type 0
 ChurnFollows = (h : Held) → HeldMade h → (s : Step) → StepTakes s → (i : ℕ) → i < count_in (records_of h)
@@ -103,10 +103,10 @@ abbrev pub same_seen : Seen → Seen → Bool
 same_seen x y = alike x.up y.up && (alike x.actor y.actor && alike x.partner y.partner)
 
 abbrev pub same_sight : Option Seen → Option Seen → Bool
-same_sight none none = true
-same_sight none (some y) = false
-same_sight (some x) none = false
-same_sight (some x) (some y) = same_seen x y
+same_sight None None = true
+same_sight None (Some y) = false
+same_sight (Some x) None = false
+same_sight (Some x) (Some y) = same_seen x y
 
 abbrev pub is_other : Stage → Bool
 is_other Start = false

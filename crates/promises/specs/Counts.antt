@@ -1,6 +1,6 @@
 -- What a port's counters add up to along a run of the library (M-100): one record of them, at zeros first, is lent to each receive and each fetch on the port.
 use Rattle.std.specs.Prelude.{ℕ, ◌+◌, ◌%◌, ◌≡◌, cond, ◌&&◌, List, [], ◌∷◌, eqb}
-use Rattle.control.specs.declared.answer.Answer.{Answer}
+use Rattle.control.specs.Answer.{Answer}
 use Rattle.control.specs.Accepted.{accepted}
 use Rattle.control.specs.Call.{Call, start, receive, tick, line, configure, fetch, report, aggregator, due}
 use Rattle.counters.specs.declared.Counters.{Counters}

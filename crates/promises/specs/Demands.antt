@@ -3,7 +3,7 @@
 -- are the definitions of asked/specs) the contracts speak; `old` that of the calls before churn detection, from which and to which a table is moved (M-106). A step of a run (`Deed`)
 -- is a call, a move, or an ask for a Marker. That every call takes every input is no field here: the contracts ask nothing of a caller. `AskedMade` is in Asked.antt, `Takes` in
 -- claims/specs/Run.antt; words of ports (`IsPort`, `carries` ..) are in Fronts.antt.
-use Rattle.std.specs.Prelude.{ℕ, ◌-◌, ◌≡◌, ◌≢◌, true, false, List, map}
+use Rattle.std.specs.Prelude.{ℕ, ◌-◌, ◌≡◌, ◌≢◌, true, false, List, map, Ok, Err}
 use Rattle.octets.specs.Octets.{Octets}
 use Rattle.port.specs.Compared.{compared}
 use Rattle.port.specs.Receive.{receive_run}
@@ -12,12 +12,12 @@ use Rattle.trunk.specs.Selection.{shares_group}
 use Rattle.work.specs.Work.{worked}
 use Rattle.churn.specs.Churn.{watching}
 use Rattle.churn.specs.Whole.{monitors_at}
-use Rattle.control.specs.declared.answer.Answer.TheVariants.{Done, Refused}
+use Rattle.control.specs.declared.answer.Accepted.TheVariants.{Done}
 use Rattle.control.specs.declared.answer.Reason.{Reason}
 use Rattle.control.specs.declared.answer.Reason.TheVariants.{Table}
 use Rattle.control.specs.Call.{Call, fetch, is_start}
 use Rattle.control.specs.After.{buffer_of}
-use Rattle.asked.specs.declared.said.Said.TheVariants as said
+use Rattle.asked.specs.declared.said.AskRefusal.TheVariants as refusal
 use Rattle.asked.specs.Layer.{new_layer}
 use Rattle.asked.specs.Asked.{front_of}
 use Rattle.asked.specs.Ask.{ask_outgoing}
@@ -43,22 +43,22 @@ pub record AsItWas (d : Deed) (h : Held) (m : ℕ) : Type 0 where
 
 pub record Demands : Type 0 where
   -- 1: a refused call leaves the table as it came, and the outgoing buffer too, in any memory; so does a refused ask; a refused move leaves its target
-  pub refused-table : (h : Held) (c : Call) (r : Reason) → answer_to c h ≡ Refused r → done (plain (call c)) h ≡ h
-  pub refused-buffer : (h : Held) (c : Call) (r : Reason) → answer_to c h ≡ Refused r → sent_by c h ≡ buffer_of c
+  pub refused-table : (h : Held) (c : Call) (r : Reason) → answer_to c h ≡ Err r → done (plain (call c)) h ≡ h
+  pub refused-buffer : (h : Held) (c : Call) (r : Reason) → answer_to c h ≡ Err r → sent_by c h ≡ buffer_of c
   pub refused-ask : (h : Held) (n wait : ℕ) (out : List ℕ) → agrees (said_to n wait out h) ≡ false
       → (done (ask n wait out) h ≡ h) × (ask_outgoing (layer_of h) n wait out (memory_of h) ≡ out)
-  pub refused-forward : (t u : List ℕ) (r : Reason) → forward_answer t u ≡ Refused r → forward_to t u ≡ u
-  pub refused-back : (w u : List ℕ) (r : Reason) → back_answer w u ≡ Refused r → back_to w u ≡ u
+  pub refused-forward : (t u : List ℕ) (r : Reason) → forward_answer t u ≡ Err r → forward_to t u ≡ u
+  pub refused-back : (w u : List ℕ) (r : Reason) → back_answer w u ≡ Err r → back_to w u ≡ u
   -- 2: what a start and later steps made, a further one makes again, and no call but a start is refused for the table
   pub made : (h : Held) → AskedMade h → (d : Deed) → DeedTakes d → AskedMade (done d h)
-  pub unfaulted : (h : Held) → AskedMade h → (c : Call) → is_start c ≡ false → answer_to c h ≢ Refused Table
-  pub unfaulted-ask : (h : Held) → AskedMade h → (n wait : ℕ) (out : List ℕ) → said_to n wait out h ≢ said.Plain (Refused Table)
+  pub unfaulted : (h : Held) → AskedMade h → (c : Call) → is_start c ≡ false → answer_to c h ≢ Err Table
+  pub unfaulted-ask : (h : Held) → AskedMade h → (n wait : ℕ) (out : List ℕ) → said_to n wait out h ≢ Err (refusal.Plain Table)
   -- and no work is left undone: the order of work once more, without an event, changes nothing, nor does one more run of a port's churn detection
   pub finished : (h : Held) → AskedMade h → worked (ours (table_in h)) (map receive_run (ports (table_in h))) ≡ ports (table_in h)
   pub watched : (m : List ℕ) → AskedMade (new m) → (n : ℕ) → IsPort (front_in (new m)) n
       → watching (record_of (front_in (new m)) n) (monitors_at (front_of new_layer m) (n - 1)) ≡ monitors_at (front_of new_layer m) (n - 1)
   -- what a fetch sent reads back as the two blocks that it was written from
-  pub reads-back : (h : Held) (n : ℕ) (out : List ℕ) → answer_to (fetch n out) h ≡ Done → Reads (table_in h) n (sent_by (fetch n out) h)
+  pub reads-back : (h : Held) (n : ℕ) (out : List ℕ) → answer_to (fetch n out) h ≡ Ok Done → Reads (table_in h) n (sent_by (fetch n out) h)
   -- 3: every port holds the aggregator that the rule gives it now
   pub aggregator : (h : Held) → AskedMade h → (n : ℕ) → IsPort (front_in h) n → (record_of (front_in h) n).aggregator ≡ rule_gives (front_in h) n
   -- who carries has a link that is up, and a partner in sync that collects

@@ -1,7 +1,6 @@
 -- The demands of fronts: tables without what their ports asked for, of either form (`Held` in Run.antt). Those of the library are in Demands.antt; what they say of records is
 -- said here, and holds there because a run of the library is on its front a run of such calls and moves.
-use Rattle.std.specs.Prelude.{ℕ, ◌-◌, ◌≤◌, ◌≡◌, ◌≢◌, Bool, true, false, List, map}
-use Rattle.std.proofs.Math.Option.{Option}
+use Rattle.std.specs.Prelude.{ℕ, ◌-◌, ◌≤◌, ◌≡◌, ◌≢◌, Bool, true, false, List, map, Option, Ok, Err}
 use Rattle.machine.specs.Mux.{is_attached, distributes}
 use Rattle.port.specs.declared.record.Port.{Port}
 use Rattle.port.specs.Compared.{compared}
@@ -12,7 +11,7 @@ use Rattle.work.specs.Work.{worked}
 use Rattle.churn.specs.declared.watch.Monitors.{Monitors}
 use Rattle.churn.specs.Churn.{watching}
 use Rattle.churn.specs.Whole.{monitors_at}
-use Rattle.control.specs.declared.answer.Answer.TheVariants.{Done, Refused}
+use Rattle.control.specs.declared.answer.Accepted.TheVariants.{Done}
 use Rattle.control.specs.declared.answer.Reason.{Reason}
 use Rattle.control.specs.declared.answer.Reason.TheVariants.{Table}
 use Rattle.control.specs.Call.{Call, fetch, is_start}
@@ -65,18 +64,18 @@ pub record AsItWas (c : Call) (h : Held) (m : ℕ) : Type 0 where
 
 pub record Fronts : Type 0 where
   -- 1: a refused call leaves the table as it came, and the outgoing buffer too, in any memory; a refused move leaves its target
-  pub refused-table : (h : Held) (c : Call) (r : Reason) → answer_in c h ≡ Refused r → stepped (call c) h ≡ h
-  pub refused-buffer : (h : Held) (c : Call) (r : Reason) → answer_in c h ≡ Refused r → outgoing_in c h ≡ buffer_of c
-  pub refused-forward : (t u : List ℕ) (r : Reason) → forward_answer t u ≡ Refused r → forward_to t u ≡ u
-  pub refused-back : (w u : List ℕ) (r : Reason) → back_answer w u ≡ Refused r → back_to w u ≡ u
+  pub refused-table : (h : Held) (c : Call) (r : Reason) → answer_in c h ≡ Err r → stepped (call c) h ≡ h
+  pub refused-buffer : (h : Held) (c : Call) (r : Reason) → answer_in c h ≡ Err r → outgoing_in c h ≡ buffer_of c
+  pub refused-forward : (t u : List ℕ) (r : Reason) → forward_answer t u ≡ Err r → forward_to t u ≡ u
+  pub refused-back : (w u : List ℕ) (r : Reason) → back_answer w u ≡ Err r → back_to w u ≡ u
   -- 2: what a start, calls and moves made, a further one makes again, and no call but a start is refused for the table
   pub made : (h : Held) → HeldMade h → (s : Step) → StepTakes s → HeldMade (stepped s h)
-  pub unfaulted : (h : Held) → HeldMade h → (c : Call) → is_start c ≡ false → answer_in c h ≢ Refused Table
+  pub unfaulted : (h : Held) → HeldMade h → (c : Call) → is_start c ≡ false → answer_in c h ≢ Err Table
   -- and no work is left undone: the order of work once more, without an event, changes nothing, nor does one more run of a port's churn detection
   pub finished : (h : Held) → HeldMade h → worked (ours (records_of h)) (map receive_run (ports (records_of h))) ≡ ports (records_of h)
   pub watched : (w : List ℕ) → WholeMade w → (n : ℕ) → IsPort (new w) n → watching (record_of (new w) n) (monitors_at w (n - 1)) ≡ monitors_at w (n - 1)
   -- what a fetch sent reads back as the two blocks that it was written from
-  pub reads-back : (h : Held) (n : ℕ) (out : List ℕ) → answer_in (fetch n out) h ≡ Done → Reads (records_of h) n (outgoing_in (fetch n out) h)
+  pub reads-back : (h : Held) (n : ℕ) (out : List ℕ) → answer_in (fetch n out) h ≡ Ok Done → Reads (records_of h) n (outgoing_in (fetch n out) h)
   -- 3: every port holds the aggregator that the rule gives it now
   pub aggregator : (h : Held) → HeldMade h → (n : ℕ) → IsPort h n → (record_of h n).aggregator ≡ rule_gives h n
   -- who carries has a link that is up, and a partner in sync that collects

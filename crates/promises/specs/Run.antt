@@ -4,7 +4,7 @@
 use Rattle.std.specs.Prelude.{ℕ, ◌≡◌, true, cond, List, [], ◌∷◌}
 use Rattle.octets.specs.Octets.{Octets}
 use Rattle.churn.specs.Whole.{base_of}
-use Rattle.control.specs.declared.answer.Answer.{Answer}
+use Rattle.control.specs.Answer.{Answer}
 use Rattle.control.specs.Accepted.{accepted}
 use Rattle.control.specs.Call.{Call, is_start}
 use Rattle.control.specs.After.{answer, after, outgoing}

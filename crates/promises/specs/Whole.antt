@@ -1,11 +1,10 @@
 -- What every table that a run makes is like, and what a call is to its records: with the monitors dropped it is the call on the table without them, in each call and in
 -- each run. So what `claims` proves of tables without monitors holds of the records of every table, whatever moves came before.
-use Rattle.std.specs.Prelude.{ℕ, ◌<◌, ◌≡◌, true, List}
+use Rattle.std.specs.Prelude.{ℕ, ◌<◌, ◌≡◌, true, List, Err}
 use Rattle.octets.specs.Octets.{Octets}
 use Rattle.table.specs.Table.{count_in, port_at}
 use Rattle.churn.specs.Churn.{watching}
 use Rattle.churn.specs.Whole.{base_of, monitors_at, has_monitors}
-use Rattle.control.specs.declared.answer.Answer.TheVariants.{Refused}
 use Rattle.control.specs.declared.answer.Reason.{Reason}
 use Rattle.control.specs.Call.{Call}
 use Rattle.control.specs.After.{answer, after, buffer_of, outgoing}
@@ -39,7 +38,7 @@ pub record HeldRefused (c : Call) (h : Held) : Type 0 where
   pub buffer : outgoing_in c h ≡ buffer_of c
 
 abbrev pub HeldRefusals : Type 0
-HeldRefusals = (h : Held) (c : Call) (r : Reason) → answer_in c h ≡ Refused r → HeldRefused c h
+HeldRefusals = (h : Held) (c : Call) (r : Reason) → answer_in c h ≡ Err r → HeldRefused c h
 
 -- what a call does to the records, it does in either form
 pub record BaseCall (c : Call) (h : Held) : Type 0 where

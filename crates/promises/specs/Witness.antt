@@ -1,7 +1,6 @@
 -- Two runs that have nothing in common but what the machines of one port look at, and their moves: other counts of ports, systems, settings, frames, refused calls, and
 -- other calls while the table is of the old form. So `two_runs` is not empty: its premises are met here, by computation, and its conclusion is applied.
-use Rattle.std.specs.Prelude.{ℕ, ◌≡◌, Bool, true, false, List, [], ◌∷◌}
-use Rattle.std.proofs.Math.Option.{Option, none, some}
+use Rattle.std.specs.Prelude.{ℕ, ◌≡◌, Bool, true, false, List, [], ◌∷◌, Option, Some, None, Ok}
 use Rattle.frame.specs.Wire.{zeros}
 use Rattle.machine.specs.States.{ticks}
 use Rattle.table.specs.Layout.{table_size}
@@ -12,7 +11,7 @@ use Rattle.churn.specs.declared.watch.Monitors.{Monitors}
 use Rattle.churn.specs.declared.watch.Churn.TheVariants.{Monitor}
 use Rattle.churn.specs.Churn.{watch, monitors}
 use Rattle.churn.specs.Whole.{whole_size}
-use Rattle.control.specs.declared.answer.Answer.TheVariants.{Lacpdu}
+use Rattle.control.specs.declared.answer.Accepted.TheVariants.{Lacpdu}
 use Rattle.control.specs.Accepted.{accepted}
 use Rattle.control.specs.Call.{Call, start, receive, tick, line, fetch, report}
 use Rattle.control.specs.After.{after}
@@ -63,7 +62,7 @@ steps3 =
     call (line 2 up_full) ∷ call tick ∷ call tick ∷ back (zeros (table_size 2)) ∷ forward (zeros (whole_size 2)) ∷ call tick ∷ call begin2 ∷ call tick ∷ call (line 2 up_full) ∷ call tick ∷ []
 
 abbrev pub both : ℕ → Option Monitors
-both n = some (monitors (watch Monitor (ticks n) 0) (watch Monitor (ticks n) 0))
+both n = Some (monitors (watch Monitor (ticks n) 0) (watch Monitor (ticks n) 0))
 
 -- the table with its link up, before it hears
 abbrev pub linked : Held
@@ -88,20 +87,20 @@ room = new (zeros (asked_size new_layer 1))
 
 -- what happens to the port in both: what each step is, and the link, with neither Synchronization, where the table has monitors
 abbrev pub sees : Bool → Option Seen
-sees up = some (record { up = up; actor = false; partner = false })
+sees up = Some (record { up = up; actor = false; partner = false })
 
 abbrev pub happens : Stage → Option Seen → Happening
 happens e x = record { event = e; seen = x }
 
 abbrev pub happened : List Happening
 happened =
-    happens Start (sees false) ∷ happens Other (sees true) ∷ happens Tick (sees true) ∷ happens Other (sees true) ∷ happens Tick (sees true) ∷ happens Other none ∷ happens Other none
+    happens Start (sees false) ∷ happens Other (sees true) ∷ happens Tick (sees true) ∷ happens Other (sees true) ∷ happens Tick (sees true) ∷ happens Other None ∷ happens Other None
     ∷ happens Start (sees true) ∷ happens Tick (sees true) ∷ happens Start (sees false) ∷ happens Tick (sees false) ∷ happens Other (sees false) ∷ happens Other (sees true) ∷ happens Tick (sees true) ∷ []
 
 -- after the start, with steps left out
 abbrev pub left : List Happening
 left =
-    happens Other (sees true) ∷ happens Tick (sees true) ∷ happens Tick (sees true) ∷ happens Other none ∷ happens Start (sees true) ∷ happens Tick (sees true) ∷ happens Start (sees false)
+    happens Other (sees true) ∷ happens Tick (sees true) ∷ happens Tick (sees true) ∷ happens Other None ∷ happens Start (sees true) ∷ happens Tick (sees true) ∷ happens Start (sees false)
     ∷ happens Tick (sees false) ∷ happens Other (sees true) ∷ happens Tick (sees true) ∷ []
 
 pub record Witness : Type 0 where
@@ -114,7 +113,7 @@ pub record Witness : Type 0 where
   pub history-two : history 1 memory2 (call begin2 ∷ steps2) ≡ happened
   -- the monitors run while the link is up, stand at 600 where it is down, and begin afresh with the move forward
   pub runs : churns 0 memory (call begin ∷ steps)
-      ≡ both 600 ∷ both 600 ∷ both 599 ∷ both 599 ∷ both 598 ∷ none ∷ none ∷ both 600 ∷ both 599 ∷ both 600 ∷ both 600 ∷ both 600 ∷ both 600 ∷ both 599 ∷ []
+      ≡ both 600 ∷ both 600 ∷ both 599 ∷ both 599 ∷ both 598 ∷ None ∷ None ∷ both 600 ∷ both 599 ∷ both 600 ∷ both 600 ∷ both 600 ∷ both 600 ∷ both 599 ∷ []
   -- a start and ten of them
   pub seen_one : seen_in 0 (stepped (call begin) memory) ≡ sees false
   pub seen-two : seen_in 1 (stepped (call begin2) memory2) ≡ sees false
@@ -125,7 +124,7 @@ pub record Witness : Type 0 where
       ≡ record { lacpdus = 1; markers = 0; responses = 0; unknown = 1; illegal = 1; sent = 1; answered = 0 }
   pub to-count : all_of (heard_on 1) room (on begin ∷ counted) ≡ 3
   -- an LACPDU is taken, and neither a tick nor a move ends what it said
-  pub taken : answer_in heard linked ≡ Lacpdu
+  pub taken : answer_in heard linked ≡ Ok Lacpdu
   pub none-ends : NoneEnds (after heard (records_of linked)) 0 (calls_of there_and_back)
 
 -- what follows by the theorems

@@ -6,12 +6,14 @@ ghost use Rattle.std.specs.Prelude.{◌≡◌, true};
 ghost use Rattle.control.specs.Accepted.{accepted};
 ghost use Rattle.promises.specs.Asked.{OldAsked, NewAsked};
 
-use asked::said::Said;
+use asked::said::AskRefusal;
 use control::answer::Answer;
 use frame::block::SystemId;
 use frame::wire::TensOfMicroseconds;
+use machine::states::Line;
 use settings::Settings;
 
+// Kept: `NewAsked` stands in each contract, for the memory is lent to one call at a time; a struct that held the loan would say nothing of it afterwards, as `NewAsked table.new` does.
 // Any memory.
 pub fn start(
     table: &mut [u8],
@@ -39,11 +41,11 @@ pub fn tick(table: &mut [u8]) -> Answer
     asked::tick(table)
 }
 
-pub fn line(table: &mut [u8], n: u32, up: bool, full: bool) -> Answer
+pub fn line(table: &mut [u8], n: u32, line: Line) -> Answer
     requires { NewAsked table.old }
     ensures { NewAsked table.new }
 {
-    asked::line(table, n, up, full)
+    asked::line(table, n, line)
 }
 
 pub fn configure(table: &mut [u8], n: u32, settings: Settings) -> Answer
@@ -60,7 +62,7 @@ pub fn fetch(table: &mut [u8], n: u32, out: &mut [u8]) -> Answer
     asked::fetch(table, n, out)
 }
 
-pub fn ask(table: &mut [u8], n: u32, wait: u32, out: &mut [u8]) -> Said
+pub fn ask(table: &mut [u8], n: u32, wait: u32, out: &mut [u8]) -> Result<(), AskRefusal>
     requires { NewAsked table.old }
     ensures { NewAsked table.new }
 {

@@ -1,18 +1,18 @@
 -- Two systems of one port each, joined by a link, by the calls that the library's contracts cite: a Marker that the one asks for (43.5; M-102) is answered by the other, which
 -- collects; one that is not answered times out at its tick, and one on a link that falls is cancelled.
-use Rattle.std.specs.Prelude.{ℕ, zero, suc, ◌≡◌, true, cond, List}
+use Rattle.std.specs.Prelude.{ℕ, zero, suc, ◌≡◌, true, cond, List, Ok, Err}
 use Rattle.frame.specs.Wire.{zeros}
 use Rattle.machine.specs.States.{ticks}
 use Rattle.asks.specs.declared.ask.Ask.{Ask}
 use Rattle.asks.specs.declared.ask.Outcome.TheVariants.{Awaiting, Answered, TimedOut, Cancelled}
 use Rattle.asks.specs.Ask.{asking}
 use Rattle.asks.specs.Groups.{ask_at}
-use Rattle.control.specs.declared.answer.Answer.{Answer}
-use Rattle.control.specs.declared.answer.Answer.TheVariants.{Done, Marker, Refused}
+use Rattle.control.specs.Answer.{Answer}
+use Rattle.control.specs.declared.answer.Accepted.TheVariants.{Done, Marker}
 use Rattle.control.specs.declared.answer.Reason.TheVariants.{Response}
 use Rattle.control.specs.Accepted.{accepted}
 use Rattle.control.specs.Call.{Call, start, receive, tick, line, fetch}
-use Rattle.asked.specs.declared.said.Said.TheVariants as said
+use Rattle.asked.specs.declared.said.AskRefusal.TheVariants as refusal
 use Rattle.asked.specs.Layer.{new_layer}
 use Rattle.asked.specs.Asked.{asked_size, groups_of}
 use Rattle.asked.specs.Calls.{asked_answer, asked_after, asked_outgoing}
@@ -80,21 +80,21 @@ ticking zero m = m
 ticking (suc n) m = ticking n (leaves tick m)
 
 pub record Asks (p : Pair) : Type 0 where
-  pub accepted : ask_answer new_layer 1 5 (zeros 124) p.one ≡ said.Plain Done
+  pub accepted : ask_answer new_layer 1 5 (zeros 124) p.one ≡ Ok tt
   pub awaited : ask_of (asked p.one) ≡ asking Awaiting (ticks 5) 1
-  pub again : ask_answer new_layer 1 5 (zeros 124) (asked p.one) ≡ said.Awaiting
+  pub again : ask_answer new_layer 1 5 (zeros 124) (asked p.one) ≡ Err refusal.Awaiting
   -- the other takes it for a Marker, and its Response ends the wait; a second copy is one that nobody awaits
-  pub heard : says (hears (marker_of p.one)) p.other ≡ Marker
-  pub brought : says (hears (response p)) (asked p.one) ≡ Done
+  pub heard : says (hears (marker_of p.one)) p.other ≡ Ok Marker
+  pub brought : says (hears (response p)) (asked p.one) ≡ Ok Done
   pub answered : ask_of (leaves (hears (response p)) (asked p.one)) ≡ asking Answered (ticks 0) 1
-  pub twice : says (hears (response p)) (leaves (hears (response p)) (asked p.one)) ≡ Refused Response
+  pub twice : says (hears (response p)) (leaves (hears (response p)) (asked p.one)) ≡ Err Response
   -- one tick before the last it counts, after it no more
   pub in_time : ask_of (ticking 4 (asked p.one)) ≡ asking Awaiting (ticks 1) 1
-  pub just : says (hears (response p)) (ticking 4 (asked p.one)) ≡ Done
+  pub just : says (hears (response p)) (ticking 4 (asked p.one)) ≡ Ok Done
   pub timed-out : ask_of (ticking 5 (asked p.one)) ≡ asking TimedOut (ticks 0) 1
-  pub late : says (hears (response p)) (ticking 5 (asked p.one)) ≡ Refused Response
+  pub late : says (hears (response p)) (ticking 5 (asked p.one)) ≡ Err Response
   -- a repeated line cancels nothing, and a link that falls does
   pub repeated : ask_of (leaves (line 1 up_full) (asked p.one)) ≡ asking Awaiting (ticks 5) 1
   pub cancelled : ask_of (leaves (line 1 down_full) (asked p.one)) ≡ asking Cancelled (ticks 0) 1
   -- who does not distribute asks for nothing
-  pub down : ask_answer new_layer 1 5 (zeros 124) (leaves (line 1 down_full) p.one) ≡ said.NotDistributing
+  pub down : ask_answer new_layer 1 5 (zeros 124) (leaves (line 1 down_full) p.one) ≡ Err refusal.NotDistributing

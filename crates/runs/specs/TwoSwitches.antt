@@ -1,6 +1,6 @@
 -- Two systems of two ports each, joined by two links: what becomes of both tables by the calls that the program's contracts cite, every
 -- LACPDU that a port gives being received at the link's other end.
-use Rattle.std.specs.Prelude.{ℕ, zero, suc, ◌-◌, ◌+◌, ◌≡◌, Bool, true, false, ◌&&◌, List, [], ◌∷◌, take, eqb}
+use Rattle.std.specs.Prelude.{ℕ, zero, suc, ◌-◌, ◌+◌, ◌≡◌, Bool, true, false, ◌&&◌, List, [], ◌∷◌, take, eqb, Ok, Err}
 use Rattle.frame.specs.Wire.{zeros}
 use Rattle.machine.specs.declared.states.Receive.{Receive}
 use Rattle.machine.specs.declared.states.Receive.TheVariants.{PortDisabled, Expired, Defaulted, Current}
@@ -9,8 +9,8 @@ use Rattle.machine.specs.declared.states.Mux.TheVariants.{Waiting, Attached, Col
 use Rattle.machine.specs.Codes.{receive_code, mux_code}
 use Rattle.table.specs.Layout.{table_size}
 use Rattle.table.specs.Table.{port_at}
-use Rattle.control.specs.declared.answer.Answer.{Answer}
-use Rattle.control.specs.declared.answer.Answer.TheVariants.{Done, Lacpdu, Marker, Refused}
+use Rattle.control.specs.Answer.{Answer}
+use Rattle.control.specs.declared.answer.Accepted.TheVariants.{Done, Lacpdu, Marker}
 use Rattle.control.specs.Call.{Call, start, receive, tick, line, fetch}
 use Rattle.control.specs.After.{answer, after, outgoing}
 use Rattle.claims.specs.Speakers.{system, no_delay, settings, up_full, down_full}
@@ -36,12 +36,12 @@ fetches n = fetch n (zeros 124)
 
 -- the first 124 octets of the one's buffer are received on port n of the other, or lost; a fetch that is refused gives no frame
 abbrev pub carried_if : Answer → Bool → ℕ → Pair → Pair
-carried_if Done true n p =
+carried_if (Ok Done) true n p =
     pair (after (fetches n) p.one) (after (receive n (take 124 (outgoing (fetches n) p.one)) (zeros 124)) p.other)
-carried_if Done false n p = pair (after (fetches n) p.one) p.other
-carried_if Lacpdu carried n p = p
-carried_if Marker carried n p = p
-carried_if (Refused r) carried n p = p
+carried_if (Ok Done) false n p = pair (after (fetches n) p.one) p.other
+carried_if (Ok Lacpdu) carried n p = p
+carried_if (Ok Marker) carried n p = p
+carried_if (Err r) carried n p = p
 
 -- port n of the one is fetched once
 unfoldable pub speaks : Bool → ℕ → Pair → Pair

@@ -1,6 +1,6 @@
 -- `promises::back` leaves a table that a run made where it is accepted, by `made-back`. Assumes nothing.
 use mathlib.Core.Path.{sym, ap, ◌∙◌, subst}
-use Rattle.control.specs.declared.answer.Answer.{Answer}
+use Rattle.control.specs.Answer.{Answer}
 use Rattle.control.specs.Accepted.{accepted}
 use Rattle.promises.specs.Asked.{OldAsked}
 use Rattle.promises.proofs.Demands.{made-back}

@@ -1,6 +1,6 @@
 -- `promises::forward` leaves a table that a run made where it is accepted, by `made-forward`. Assumes nothing.
 use mathlib.Core.Path.{sym, ap, ◌∙◌, subst}
-use Rattle.control.specs.declared.answer.Answer.{Answer}
+use Rattle.control.specs.Answer.{Answer}
 use Rattle.control.specs.Accepted.{accepted}
 use Rattle.promises.specs.Asked.{NewAsked}
 use Rattle.promises.proofs.Demands.{made-forward}

@@ -9,4 +9,4 @@ pub returns : goal.returns
 returns c =
     let a = c.args in
     subst NewAsked (sym c.line.ensures.1)
-    (made-call a.table.now c.requires (call_line a.n (record { up = a.up; full = a.full })) tt)
+    (made-call a.table.now c.requires (call_line a.n a.line) tt)

@@ -4,7 +4,7 @@ use Rattle.promises.specs.Asked.{NewAsked}
 use Rattle.promises.proofs.Demands.{made-start}
 use Rattle.table.specs.Range.{header_fits}
 use Rattle.octets.proofs.RangeLaws.{both_true}
-use Rattle.control.specs.declared.answer.Answer.{Answer}
+use Rattle.control.specs.Answer.{Answer}
 use Rattle.control.specs.Accepted.{accepted}
 use Rattle.promises.proofs.Typed.{fit, settings_typed}
 use Rattle.promises.proofs.start.Goals as goal
