@@ -177,6 +177,13 @@ groups-at (suc n) w e i h =
     by below here true s = ap (λ (k : ℕ). group_in_range (group_at w k)) (eqb-true i n s) ∙ here
     by below here false s = let differ : i ≡ n → ⊥ = eqb-false i n s in below (omega arith)
 
+pub groups-not : (n : ℕ) (w : List ℕ) (i : ℕ) → i < n → group_in_range (group_at w i) ≡ false → groups_in_range n w ≡ false
+groups-not n w i h e = by (groups_in_range n w) refl
+  where
+    by : (b : Bool) → groups_in_range n w ≡ b → b ≡ false
+    by true s = sym (groups-at n w s i h) ∙ e
+    by false s = refl
+
 -- all of the first n parts behind the base are in range where the first n groups are
 chunks-ranged : (w : List ℕ) (k n : ℕ) → n ≤ k
     → list_all group_in_range (take n (first_chunks group_size k (drop (place (count_in w)) w))) ≡ groups_in_range n w

@@ -45,6 +45,11 @@ unfolding bits_before
 bits_most [] n = omega arith
 bits_most (b ∷ bs) n = let rest = bits_most bs n in omega (arith, rest)
 
+-- one bit more doubles the bound
+pub grows : (b : Bool) (n m r : ℕ) → r ≡ n * 2 + weighed b 1 → n < m → r < m * 2
+grows true n m r e h = omega (arith, e, h)
+grows false n m r e h = omega (arith, e, h)
+
 -- a turn takes the last of those before
 module _ (rest : List Bool) (b : Bool) (n : ℕ) {bs : List Bool} {m : ℕ} (is : bs ≡ rest ++ b ∷ []) (all : bits_before bs n ≡ m) where
   pub bits-turn : bits_before rest (n * 2 + bool_byte b) ≡ m

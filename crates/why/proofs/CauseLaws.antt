@@ -39,6 +39,15 @@ longest_end k n ps m e = rw (← e, drop-length ps)
 
 -- ---- there is one exactly if somebody holds back
 
+-- of one port
+pub wait-holds : (k : ℕ) (p : Port) → is_some (wait_for k p) ≡ holds_back k p
+unfolding wait_for
+wait-holds k p = by (holds_back k p)
+  where
+    by : (b : Bool) → is_some (cond b (Some p.timers.wait.0) None) ≡ b
+    by true = refl
+    by false = refl
+
 longer-some : (w n : ℕ) (h : Option Hold) → is_some (longer (Some w) n h) ≡ true
 longer-some w n None = rw (le-leb 0 w (omega arith))
 longer-some w n (Some h) = by (leb h.ticks w)
