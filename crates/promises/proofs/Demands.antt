@@ -118,10 +118,10 @@ made-by_deed h m d k = record {
 
 -- the same of the program's calls
 
-pub made-start : (m : List ℕ) → Octets m → (count : ℕ) (system : SystemId) (delay : TensOfMicroseconds) (x : Settings) → Takes (start count system delay x)
+pub made_start : (m : List ℕ) → Octets m → (count : ℕ) (system : SystemId) (delay : TensOfMicroseconds) (x : Settings) → Takes (start count system delay x)
     → accepted (asked_answer new_layer (start count system delay x) m) ≡ true → NewAsked (asked_after new_layer (start count system delay x) m)
 unfolding after-all done
-made-start m o count system delay x k e = record {
+made_start m o count system delay x k e = record {
   memory = new m;
   start = start count system delay x;
   deeds = [];
@@ -129,21 +129,21 @@ made-start m o count system delay x k e = record {
   gives = refl;
 }
 
-pub made-call : (w : List ℕ) → NewAsked w → (c : Call) → Takes c → NewAsked (asked_after new_layer c w)
+pub made_call : (w : List ℕ) → NewAsked w → (c : Call) → Takes c → NewAsked (asked_after new_layer c w)
 unfolding done
-made-call w m c k = made-by_deed (new w) m (plain (call c)) k
+made_call w m c k = made-by_deed (new w) m (plain (call c)) k
 
-pub made-ask : (w : List ℕ) → NewAsked w → (n wait : ℕ) (out : List ℕ) → Octets out → NewAsked (ask_after new_layer n wait out w)
+pub made_ask : (w : List ℕ) → NewAsked w → (n wait : ℕ) (out : List ℕ) → Octets out → NewAsked (ask_after new_layer n wait out w)
 unfolding done
-made-ask w m n wait out o = made-by_deed (new w) m (ask n wait out) o
+made_ask w m n wait out o = made-by_deed (new w) m (ask n wait out) o
 
-pub made-forward : (t : List ℕ) → OldAsked t → (u : List ℕ) → Octets u → accepted (forward_answer t u) ≡ true → NewAsked (forward_to t u)
+pub made_forward : (t : List ℕ) → OldAsked t → (u : List ℕ) → Octets u → accepted (forward_answer t u) ≡ true → NewAsked (forward_to t u)
 unfolding done
-made-forward t m u o e = subst AskedMade (rw e) (made-by_deed (old t) m (plain (forward u)) o)
+made_forward t m u o e = subst AskedMade (rw e) (made-by_deed (old t) m (plain (forward u)) o)
 
-pub made-back : (w : List ℕ) → NewAsked w → (u : List ℕ) → Octets u → accepted (back_answer w u) ≡ true → OldAsked (back_to w u)
+pub made_back : (w : List ℕ) → NewAsked w → (u : List ℕ) → Octets u → accepted (back_answer w u) ≡ true → OldAsked (back_to w u)
 unfolding done
-made-back w m u o e = subst AskedMade (rw e) (made-by_deed (new w) m (plain (back u)) o)
+made_back w m u o e = subst AskedMade (rw e) (made-by_deed (new w) m (plain (back u)) o)
 
 -- ---- what a step leaves of the front
 

@@ -1,6 +1,7 @@
 // What is promised of the library's calls, stated in specs/ and proved in proofs/. The code is the calls once more, on a table that a start and
 // later steps made: whatever the arguments are, they leave such a table. So what the program's types can hold is what `Takes` asks for.
-#![tactic(auto)]
+// Kept: `NewAsked` stands in each contract: of a type that held the loan each method would have to say that its loan is the same one (`ghost_name`), a clause for a clause.
+#![tactic(auto, using(crate::proofs::Demands::made_call, crate::proofs::Demands::made_ask, crate::proofs::Demands::made_forward, crate::proofs::Demands::made_back, crate::proofs::Typed::settings_typed))]
 
 ghost use Rattle.std.specs.Prelude.{◌≡◌, true};
 ghost use Rattle.control.specs.Accepted.{accepted};
@@ -13,7 +14,6 @@ use frame::wire::TensOfMicroseconds;
 use machine::states::Line;
 use settings::Settings;
 
-// Kept: `NewAsked` stands in each contract, for the memory is lent to one call at a time; a struct that held the loan would say nothing of it afterwards, as `NewAsked table.new` does.
 // Any memory.
 pub fn start(
     table: &mut [u8],
