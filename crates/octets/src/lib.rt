@@ -37,7 +37,7 @@ pub fn chunk<const N: usize>(s: &[u8], at: usize) -> &[u8; N]
     requires { at + N ≤ length s.now }
     ensures { result.now ≡ take N (drop at s.now) }
 {
-    s[at..].first_chunk().unwrap()
+    s[at..at + N].first_chunk().unwrap()
 }
 
 // A value that stands in octets, every number high octet first.
