@@ -51,16 +51,16 @@ def crate_lines():
 
 
 def types_alone(source):
-    """A Rattle file without its functions, their contracts and what only those use."""
+    """A Rattle file without its functions and traits, their contracts, tactics and what only those use."""
     kept, skipping = [], False
     for line in source.split("\n"):
         if skipping:
             skipping = not line.startswith("}")
             continue
-        if re.match(r"(pub(\(crate\))? )?(fn|impl)\b", line):
+        if re.match(r"(pub(\(crate\))? )?(fn|impl|trait)\b", line):
             skipping = not re.match(r".*\{.*\}$", line)
             continue
-        if not line.startswith("ghost use"):
+        if not line.startswith(("ghost use", "#[tactic(")):
             kept.append(line)
     text = "\n".join(kept)
     imports = re.compile(r"(?m)^use ([\w:]+::)(\w+|\{[^}]*\});\n")
