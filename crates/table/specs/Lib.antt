@@ -6,3 +6,4 @@ pub mod State
 pub mod Table
 pub mod Leaves
 pub mod Keys
+pub mod Lent

@@ -1,6 +1,6 @@
 -- The octets of a table: a header and one record for each port, both ways, and answer 1's check on any memory.
 use Rattle.std.specs.Prelude.{ℕ, zero, suc, ◌+◌, ◌<◌, ◌≡◌, Bool, true, ◌&&◌, List, [], ◌∷◌, ◌++◌, length, take, drop, get_or, leb, eqb}
-use Rattle.octets.specs.Octets.{within}
+use Rattle.octets.specs.Octets.{Octets, within}
 use Rattle.port.specs.declared.record.Port.{Port}
 use Rattle.table.specs.declared.layout.Header.{Header}
 use Rattle.table.specs.Layout.{header_size, record_size, most_ports, place, table_size, header_of, header_octets}
@@ -82,3 +82,7 @@ is_room t count = within 1 count most_ports && eqb (length t) (table_size count)
 -- a table in range, and one of its ports, from 0
 abbrev pub InTable : List ℕ → ℕ → Type 0
 InTable t i = (table_in_range t ≡ true) × (i < count_in t)
+
+-- what holds of the octets of every table that is lent as one
+abbrev pub IsTable : List ℕ → Type 0
+IsTable t = (table_in_range t ≡ true) × Octets t

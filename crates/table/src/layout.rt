@@ -1,8 +1,7 @@
 // The layout of a table: a header, and then the records one after the other, the first port's first.
-ghost use Rattle.std.specs.Prelude.{◌≡◌, ◌+◌, ◌≤◌, true, length};
+ghost use Rattle.std.specs.Prelude.{◌≡◌, ◌+◌, ◌≤◌, length};
 ghost use Rattle.octets.specs.Octets.{put_at};
 ghost use Rattle.table.specs.Layout.{header_size, place, published_size, header_of, header_octets};
-ghost use Rattle.table.specs.Table.{table_in_range};
 
 use frame::block::SystemId;
 use frame::wire::TensOfMicroseconds;
@@ -43,9 +42,8 @@ pub fn table_size(count: u32) -> u32
 }
 
 // The header at the front of a table.
-#[tactic(auto, using(crate::proofs::TableLaws::headed))]
-pub fn read_header(table: &[u8]) -> Header
-    requires { table_in_range table.now ≡ true }
+pub(crate) fn read_header(table: &[u8]) -> Header
+    requires { header_size ≤ length table.now }
     ensures { result ≡ header_of table.now }
 {
     Header {

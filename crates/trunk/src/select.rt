@@ -6,15 +6,16 @@ ghost use Rattle.octets.specs.Octets.{within};
 ghost use Rattle.octets.specs.Sets.{member};
 ghost use Rattle.port.specs.Compared.{compared};
 ghost use Rattle.table.specs.Keys.{compared_by};
-ghost use Rattle.table.specs.Table.{table_in_range, InTable, count_in, ports, port_at};
+ghost use Rattle.table.specs.Table.{count_in, ports, port_at};
 ghost use Rattle.trunk.specs.Selection.{individual, same_group};
 ghost use Rattle.trunk.specs.Settled.{must_move, reselected, selected_all};
 ghost use Rattle.trunk.specs.Groups.{since, placing};
-ghost use Rattle.table.specs.Leaves.{Leaves, Became};
+ghost use Rattle.table.specs.Lent.{Has, Stepped, Swept};
 
 use machine::states::Selection;
 use octets::sets;
 use table::layout::Header;
+use table::lent::{Table, TableMut};
 use table::record::{Keys, neighbour_in};
 
 // Own or partner's Aggregation clear, or the partner is our own system.
@@ -35,25 +36,25 @@ fn same_group(c: Keys, d: Keys, ours: Header) -> bool
 }
 
 // Whether port j shares the group of another port, of which c is compared. Most that do not are told by their neighbour's address.
-fn shares(table: &[u8], j: usize, c: Keys, ours: Header) -> bool
-    requires { InTable table.now j }
+fn shares(table: &Table, j: usize, c: Keys, ours: Header) -> bool
+    requires { j < count_in table.now }
     ensures { result ≡ same_group ours (compared_by c) (compared (port_at table.now j)) }
 {
-    (neighbour_in(table::look(table, j)) == c.system.address.low)
-        && same_group(c, table::keys(table, j), ours)
+    (neighbour_in(table.look(j)) == c.system.address.low) && same_group(c, table.keys(j), ours)
 }
 
 // Port i and the later ports of its group. An individual port has none.
-fn group_of(table: &[u8], i: usize, ours: Header) -> u32
-    requires { InTable table.now i }
+fn group_of(table: &Table, i: usize, ours: Header) -> u32
+    requires { i < count_in table.now }
     ensures { (m : ℕ) → member result m ≡ since ours (map compared (ports table.now)) i m }
 {
-    let c = table::keys(table, i);
+    let n = table.count();
+    let c = table.keys(i);
     let mut set = sets::with(0, i);
     if is_individual(c, ours) {
         return set;
     }
-    for j in i + 1..table::count(table) {
+    for j in i + 1..n {
         set = sets::with_if(set, j, shares(table, j, c, ours));
     }
     set
@@ -61,32 +62,32 @@ fn group_of(table: &[u8], i: usize, ours: Header) -> u32
 
 // UNSELECTED, or k is not what port i holds.
 #[tactic(auto, unfolding(crate::specs::Settled::must_move))]
-fn must_move(table: &[u8], i: usize, k: u8) -> bool
-    requires { InTable table.now i }
+fn must_move(table: &Table, i: usize, k: u8) -> bool
+    requires { i < count_in table.now }
     ensures { result ≡ must_move k (port_at table.now i) }
 {
-    (table::phase(table, i).selected == Selection::Unselected) | (table::aggregator(table, i) != k)
+    (table.phase(i).selected == Selection::Unselected) | (table.aggregator(i) != k)
 }
 
 // Steps 3 and 4 for port i, which is to hold aggregator k. A port that must move goes state by state down to DETACHED, and only then to
 // k; one that need not is left alone.
-fn select_one(table: &mut [u8], i: usize, k: u8)
-    requires { InTable table.old i × (within 1 k (count_in table.old) ≡ true) }
-    ensures { Became table.old table.new i (reselected k (port_at table.old i)) }
+fn select_one(table: &mut TableMut, i: usize, k: u8)
+    requires { Has table.old i × (within 1 k (count_in table.old.octets.now) ≡ true) }
+    ensures { Stepped table.old table.new i (reselected k) }
 {
-    if must_move(table, i, k) {
-        let p = table::load(table, i);
-        table::store(table, i, p.detach().place(k));
+    if must_move(&table.lent(), i, k) {
+        let p = table.lent().load(i);
+        table.store(i, p.detach().place(k));
     }
 }
 
 // Steps 3 and 4 for the ports of a set, none of which is before port i: they are to hold its aggregator.
-fn select_set(table: &mut [u8], set: u32, i: usize)
-    requires { InTable table.old i × ((m : ℕ) → m < i → member set m ≡ false) }
-    ensures { Leaves table.old table.new (map_from (placing set i) 0 (ports table.old)) }
+fn select_set(table: &mut TableMut, set: u32, i: usize)
+    requires { Has table.old i × ((m : ℕ) → m < i → member set m ≡ false) }
+    ensures { Swept table.old table.new (map_from (placing set i) 0) }
 {
     let k = (i + 1) as u8;
-    for j in i..table::count(table).min(sets::end(set)) {
+    for j in i..table.lent().count().min(sets::end(set)) {
         if sets::has(set, j) {
             select_one(table, j, k);
         }
@@ -94,14 +95,13 @@ fn select_set(table: &mut [u8], set: u32, i: usize)
 }
 
 // Steps 3 and 4 for all ports: the lowest port that no set has yet gives its aggregator to its group.
-pub fn select_all(table: &mut [u8], ours: Header)
-    requires { table_in_range table.old ≡ true }
-    ensures { Leaves table.old table.new (selected_all ours (ports table.old)) }
+pub fn select_all(table: &mut TableMut, ours: Header)
+    ensures { Swept table.old table.new (selected_all ours) }
 {
     let mut done: u32 = 0;
-    for i in 0..table::count(table) {
+    for i in 0..table.lent().count() {
         if !sets::has(done, i) {
-            let set = group_of(table, i, ours);
+            let set = group_of(&table.lent(), i, ours);
             select_set(table, set, i);
             done = sets::all_of(done, set);
         }

@@ -1,20 +1,21 @@
 // What every port does in turn, the first port first.
-ghost use Rattle.std.specs.Prelude.{◌≡◌, true, map, ℕ};
+ghost use Rattle.std.specs.Prelude.{◌≡◌, ◌<◌, true, map, ℕ};
 ghost use Rattle.octets.specs.Lists.{map_from};
 ghost use Rattle.port.specs.Mux.{mux_run};
 ghost use Rattle.port.specs.Receive.{receive_run, rests_receive};
 ghost use Rattle.port.specs.Periodic.{periodic_run, rests_periodic};
 ghost use Rattle.port.specs.Transmit.{ticked, advanced, is_settled};
 ghost use Rattle.table.specs.Record.{decoded};
-ghost use Rattle.table.specs.Table.{table_in_range, InTable, ports, port_at};
+ghost use Rattle.table.specs.Table.{count_in, port_at};
 ghost use Rattle.trunk.specs.Settled.{muxed};
 ghost use Rattle.trunk.specs.Displaced.{displaced};
-ghost use Rattle.table.specs.Leaves.{Leaves, Became};
+ghost use Rattle.table.specs.Lent.{Has, Stepped, Swept};
 
 use crate::displace::displace_one;
 use frame::block::Block;
 use port::record::Port;
 use table::layout::RECORD;
+use table::lent::{Table, TableMut};
 use table::record::{actor_in, ages_in, line_in, ntt_in, partner_in, phase_in, timers_in};
 
 // ---- whether a step leaves a record as it is, from the few of its octets that the step looks at
@@ -61,64 +62,64 @@ fn is_settled(s: &[u8; RECORD]) -> bool
 // ---- the steps, each in a function of its own, so that the records of one lie in the stack where those of another do
 
 // Timers fall and sends grow older, where they stand.
-fn pass_time(table: &mut [u8], i: usize)
-    requires { InTable table.old i }
-    ensures { Became table.old table.new i (ticked (port_at table.old i)) }
+fn pass_time(table: &mut TableMut, i: usize)
+    requires { Has table.old i }
+    ensures { Stepped table.old table.new i ticked }
 {
-    let timers = timers_in(table::look(table, i));
-    table::store_timers(table, i, timers.tick());
-    let ages = ages_in(table::look(table, i));
-    table::store_ages(table, i, ages.tick());
+    let timers = timers_in(table.lent().look(i));
+    table.store_timers(i, timers.tick());
+    let ages = ages_in(table.lent().look(i));
+    table.store_ages(i, ages.tick());
 }
 
 // The receive machine of port i, which mostly rests.
-fn receive_one(table: &mut [u8], i: usize)
-    requires { InTable table.old i }
-    ensures { Became table.old table.new i (receive_run (port_at table.old i)) }
+fn receive_one(table: &mut TableMut, i: usize)
+    requires { Has table.old i }
+    ensures { Stepped table.old table.new i receive_run }
 {
-    if !rests_receive(table::look(table, i)) {
-        let p = table::load(table, i);
-        table::store(table, i, p.receive());
+    if !rests_receive(table.lent().look(i)) {
+        let p = table.lent().load(i);
+        table.store(i, p.receive());
     }
 }
 
 // Timers, ages and the receive machine of port i.
-fn tick_one(table: &mut [u8], i: usize)
-    requires { InTable table.old i }
-    ensures { Became table.old table.new i (advanced (port_at table.old i)) }
+fn tick_one(table: &mut TableMut, i: usize)
+    requires { Has table.old i }
+    ensures { Stepped table.old table.new i advanced }
 {
     pass_time(table, i);
     receive_one(table, i);
 }
 
 // The periodic machine of port i, which mostly rests.
-fn periodic_one(table: &mut [u8], i: usize)
-    requires { InTable table.old i }
-    ensures { Became table.old table.new i (periodic_run (port_at table.old i)) }
+fn periodic_one(table: &mut TableMut, i: usize)
+    requires { Has table.old i }
+    ensures { Stepped table.old table.new i periodic_run }
 {
-    if !rests_periodic(table::look(table, i)) {
-        let p = table::load(table, i);
-        table::store(table, i, p.periodic());
+    if !rests_periodic(table.lent().look(i)) {
+        let p = table.lent().load(i);
+        table.store(i, p.periodic());
     }
 }
 
 // What the mux machine makes of port i. A function of its own, so that the record as it was is gone from the stack before the other is stored.
-fn after_mux(table: &[u8], i: usize) -> Port
-    requires { InTable table.now i }
+fn after_mux(table: &Table, i: usize) -> Port
+    requires { i < count_in table.now }
     ensures { result ≡ mux_run (port_at table.now i) }
 {
-    let p = table::load(table, i);
+    let p = table.load(i);
     p.mux()
 }
 
 // The mux machine of port i, and its NTT; mostly both stay.
-fn mux_one(table: &mut [u8], i: usize)
-    requires { InTable table.old i }
-    ensures { Became table.old table.new i (muxed (port_at table.old i)) }
+fn mux_one(table: &mut TableMut, i: usize)
+    requires { Has table.old i }
+    ensures { Stepped table.old table.new i muxed }
 {
-    if !is_settled(table::look(table, i)) {
-        let p = after_mux(table, i);
-        table::store(table, i, p.clear_ntt());
+    if !is_settled(table.lent().look(i)) {
+        let p = after_mux(&table.lent(), i);
+        table.store(i, p.clear_ntt());
     }
 }
 
@@ -126,46 +127,41 @@ fn mux_one(table: &mut [u8], i: usize)
 
 // What `does` says of port i, `step` makes of it: every port in turn, the first port first. A further step for each port is a function for one
 // port, and one that goes over all of them by this.
-pub(crate) fn sweep<F: Fn(&mut [u8], usize)>(table: &mut [u8], step: F)
+pub(crate) fn sweep<F: Fn(&mut TableMut, usize)>(table: &mut TableMut, step: F)
     ghost does: { ℕ → Port → Port }
-    requires ranged { table_in_range table.old ≡ true }
-    requires may { (t : _) (i : _) → InTable t.now i → F.pre step t i }
-    requires steps { (t : _) (i : _) (u : _) → InTable t.now i → F.post step t i tt u → Became t.now u.now i (does i (port_at t.now i)) }
-    ensures { Leaves table.old table.new (map_from does 0 (ports table.old)) }
+    requires may { (t : _) (i : _) → Has t.now i → F.pre step t i }
+    requires steps { (t : _) (i : _) (u : _) → Has t.now i → F.post step t i tt u → Stepped t.now u.now i (does i) }
+    ensures { Swept table.old table.new (map_from does 0) }
 {
-    for i in 0..table::count(table) {
+    for i in 0..table.lent().count() {
         step(table, i);
     }
 }
 
 // Steps 1 and 2 of a tick.
-pub fn tick_all(table: &mut [u8])
-    requires { table_in_range table.old ≡ true }
-    ensures { Leaves table.old table.new (map advanced (ports table.old)) }
+pub fn tick_all(table: &mut TableMut)
+    ensures { Swept table.old table.new (map advanced) }
 {
     sweep(table, tick_one);
 }
 
 // The periodic machines.
-pub fn periodic_all(table: &mut [u8])
-    requires { table_in_range table.old ≡ true }
-    ensures { Leaves table.old table.new (map periodic_run (ports table.old)) }
+pub fn periodic_all(table: &mut TableMut)
+    ensures { Swept table.old table.new (map periodic_run) }
 {
     sweep(table, periodic_one);
 }
 
 // Step 6: the mux machines, and NTT cleared where it is to be.
-pub fn mux_all(table: &mut [u8])
-    requires { table_in_range table.old ≡ true }
-    ensures { Leaves table.old table.new (map muxed (ports table.old)) }
+pub fn mux_all(table: &mut TableMut)
+    ensures { Swept table.old table.new (map muxed) }
 {
     sweep(table, mux_one);
 }
 
 // The port with index r heard the block `a`: any other port that it displaces does INITIALIZE, then PORT_DISABLED.
-pub fn displace_all(table: &mut [u8], r: usize, a: Block)
-    requires { table_in_range table.old ≡ true }
-    ensures { Leaves table.old table.new (displaced r a (ports table.old)) }
+pub fn displace_all(table: &mut TableMut, r: usize, a: Block)
+    ensures { Swept table.old table.new (displaced r a) }
 {
     sweep(table, |table, i| displace_one(table, i, r, a));
 }

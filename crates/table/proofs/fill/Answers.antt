@@ -7,4 +7,4 @@ returns c =
     let a = c.args in
     let e = c.requires in
     filled_holds a.header a.p a.table.now (room-is a.table.now a.header.count e.0) e.1 _
-    (rw (c.put.ensures, c.write_header.ensures) at c.repeat_first.ensures)
+    (rw (c.put.ensures.put, c.write_header.ensures) at c.repeat_first.ensures)

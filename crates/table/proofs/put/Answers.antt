@@ -6,9 +6,12 @@ use Rattle.table.specs.Layout.{place, record_size}
 use Rattle.table.specs.Record.{encoded}
 use Rattle.table.proofs.put.Goals as goal
 
-pub returns : goal.returns
+pub returns-clause-put : goal.returns-clause-put
 unfolding encoded
-returns c =
+returns-clause-put c =
     let a = c.args in
     rw (c.write_record.ensures, c.place_of-at.ensures)
     (put-part (place a.i) (place a.i + record_size) (encoded a.p) a.table.now refl)
+
+pub returns-clause-octets : goal.returns-clause-octets
+returns-clause-octets c = λ j. (c.type_inv.table j).fits

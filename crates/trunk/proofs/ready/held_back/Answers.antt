@@ -1,5 +1,5 @@
 -- `trunk::ready::held_back` meets its contract: from the top port down, the set is that of the records from i on. Assumes nothing.
-use Prim.Native.Nat.{ℕ, suc, ◌+◌, ◌-◌, ◌<◌}
+use Prim.Native.Nat.{ℕ, suc, ◌+◌, ◌-◌, ◌<◌, ◌≤◌}
 use mathlib.Core.Path.{◌≡◌, sym, ap, ◌∙◌}
 use mathlib.Core.Bool.{true, false, not, ◌&&◌, ◌||◌}
 use native.Mathlib.Omega.{arith}
@@ -11,30 +11,13 @@ use Rattle.machine.specs.Time.{ran_out}
 use Rattle.table.specs.Table.{count_in, ports, port_at}
 use Rattle.table.proofs.StoreLaws.{ports-length, ports-at}
 use Rattle.trunk.specs.Ready.{held_back}
-use Rattle.trunk.proofs.GroupSets.{holds-some, held_more, held_same, held_end}
+use Rattle.trunk.proofs.GroupSets.{held_more, held_same, held_end}
 use Rattle.trunk.proofs.ready.held_back.Goals as goal
 
 pub loop-i-init : goal.loop-i-init
 loop-i-init c =
     let t = c.args.table.now in
-    (omega (arith, c.count-i.ensures), held_end (ports t) c.count-i.result (ports-length t ∙ sym c.count-i.ensures))
-
-pub overflow_sub-aggregator : goal.overflow_sub-aggregator
-overflow_sub-aggregator c =
-    let inv = c.loop-i.invariant in
-    rw c.aggregator.ensures (holds-some c.args.table.now (c.loop-i.i - 1) (c.requires, omega arith) (λ j. (c.type_inv.table j).fits)).0
-
-pub overflow_cast-aggregator : goal.overflow_cast-aggregator
-overflow_cast-aggregator c =
-    let inv = c.loop-i.invariant in
-    let k = holds-some c.args.table.now (c.loop-i.i - 1) (c.requires, omega arith) (λ j. (c.type_inv.table j).fits) in
-    rw c.aggregator.ensures (omega (arith, k.0, k.1))
-
-pub with-set-requires : goal.with-set-requires
-with-set-requires c =
-    let inv = c.loop-i.invariant in
-    let k = holds-some c.args.table.now (c.loop-i.i - 1) (c.requires, omega arith) (λ j. (c.type_inv.table j).fits) in
-    rw c.aggregator.ensures (omega (arith, k.0, k.1))
+    (omega (arith, c.count-i.ensures.count), held_end (ports t) c.count-i.result (ports-length t ∙ sym c.count-i.ensures.count))
 
 pub loop-i-preserved-then-holds_back : goal.loop-i-preserved-then-holds_back
 loop-i-preserved-then-holds_back c =
@@ -48,8 +31,8 @@ loop-i-preserved-then-holds_back c =
     let here = ports-at t (i - 1) p less in
     let so_far : (k : ℕ) → member c.loop-i.set k ≡ held_back (k + 1) (drop (suc (i - 1)) (ports t)) = λ k. inv.1 k ∙ ap (λ (m : ℕ). held_back (k + 1) (drop m (ports t))) (sym back) in
     let told : waits p.phase.mux && not (ran_out p.timers.wait) ≡ true = sym c.holds_back.ensures ∙ c.if-holds_back.true in
-    let some = (holds-some c.args.table.now (c.loop-i.i - 1) (c.requires, omega arith) (λ j. (c.type_inv.table j).fits)).0 in
-    let grown : (k : ℕ) → member c.with-set.result k ≡ (eqb k (p.aggregator - 1) || member c.loop-i.set k) = λ k. c.with-set.ensures k ∙ ap (λ (g : ℕ). eqb k (g - 1) || member c.loop-i.set k) c.aggregator.ensures in
+    let some : 1 ≤ p.aggregator = rw c.aggregator.ensures.0 at c.aggregator.ensures.1 in
+    let grown : (k : ℕ) → member c.with-set.result k ≡ (eqb k (p.aggregator - 1) || member c.loop-i.set k) = λ k. c.with-set.ensures k ∙ ap (λ (g : ℕ). eqb k (g - 1) || member c.loop-i.set k) c.aggregator.ensures.0 in
     (omega arith, (held_more (ports t) (i - 1) p (rw ports-length less) (rw here some) (rw here told) c.loop-i.set c.with-set.result so_far (rw here grown)))
 
 pub loop-i-preserved : goal.loop-i-preserved

@@ -7,11 +7,11 @@ use Rattle.octets.specs.Lists.{map_from}
 use Rattle.octets.specs.Sets.{member}
 use Rattle.port.specs.Compared.{compared}
 use Rattle.table.specs.Table.{ports}
-use Rattle.table.specs.Leaves.{Leaves}
+use Rattle.table.specs.Lent.{Swept}
 use Rattle.trunk.specs.Selection.{lowest}
 use Rattle.trunk.proofs.GroupSets.{done_below}
 use Rattle.trunk.proofs.select.select_all.Given as goal
 
 abbrev pub invariant-loop-i : goal.invariant-loop-i
-invariant-loop-i l = ((m : ℕ) → member l.done m ≡ ltb (lowest l.ours (map compared (ports l.initial.table)) m) l.i)
-    × Leaves l.initial.table l.table (map_from (done_below l.ours (ports l.initial.table) l.i) 0 (ports l.initial.table))
+invariant-loop-i l = ((m : ℕ) → member l.done m ≡ ltb (lowest l.ours (map compared (ports l.initial.table.octets.now)) m) l.i)
+    × Swept l.initial.table l.table (map_from (done_below l.ours (ports l.initial.table.octets.now) l.i) 0)

@@ -6,8 +6,8 @@ use mathlib.Core.Bool.{false}
 use native.Mathlib.Omega.{arith}
 use Rattle.octets.specs.Sets.{member}
 use Rattle.octets.proofs.ListLaws.{done_to}
-use Rattle.table.specs.Table.{count_in, ports}
-use Rattle.table.specs.Leaves.{Leaves}
+use Rattle.table.specs.Table.{count_in}
+use Rattle.table.specs.Lent.{Swept}
 use Rattle.trunk.specs.Groups.{placing}
 use Rattle.trunk.proofs.select.select_set.Given as goal
 
@@ -20,4 +20,4 @@ pub bound : (set count end : ℕ) → ((m : ℕ) → end ≤ m → member set m 
 bound set count end none = record { few = omega arith; rest = λ m h k. none m (omega (arith, h, k)) }
 
 abbrev pub invariant-loop-j : goal.invariant-loop-j
-invariant-loop-j l = Bound l.set l.j-end (count_in l.initial.table) × Leaves l.initial.table l.table (done_to (placing l.set l.i) l.j (ports l.initial.table))
+invariant-loop-j l = Bound l.set l.j-end (count_in l.initial.table.octets.now) × Swept l.initial.table l.table (done_to (placing l.set l.i) l.j)

@@ -15,5 +15,5 @@ returns-else-neighbour_in-c c =
     let a = c.args in
     let p = port_at a.table.now a.j in
     let low : c.neighbour_in.result ≡ p.partner.system.address.low =
-    c.neighbour_in.ensures ∙ ap (λ (x : Port). x.partner.system.address.low) c.look.ensures.0 in
+    c.neighbour_in.ensures ∙ ap (λ (x : Port). x.partner.system.address.low) c.look.ensures.octets.0 in
     ne_eqb _ _ c.if-neighbour_in-c.false ∙ sym (other_neighbour a.ours (compared_by a.c) (compared p) (λ e. c.if-neighbour_in-c.false (low ∙ sym e)))

@@ -4,4 +4,4 @@ use Rattle.port.specs.Mux.{mux_run}
 use Rattle.trunk.proofs.sweep.after_mux.Goals as goal
 
 pub returns : goal.returns
-returns c = c.mux.ensures ∙ ap mux_run c.load-p.ensures
+returns c = c.mux.ensures ∙ ap mux_run c.load-p.ensures.0

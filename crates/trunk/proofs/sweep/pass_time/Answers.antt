@@ -10,25 +10,21 @@ use Rattle.port.specs.Transmit.{ticked}
 use Rattle.port.proofs.RangeLaws.{ranged, fallen-ranged, ages-ranged}
 use Rattle.table.specs.Record.{decoded}
 use Rattle.table.specs.Table.{count_in, ports, port_at}
-use Rattle.table.proofs.LeavesLaws.{said}
-use Rattle.table.proofs.TableLaws.{ranged-at}
-use Rattle.trunk.proofs.TableWork.{still, became_at, became_then}
+use Rattle.trunk.proofs.TableWork.{found, still, became_at, became_then, told_at}
 use Rattle.trunk.proofs.sweep.pass_time.Goals as goal
 
 pub store_timers-requires : goal.store_timers-requires
 unfolding decoded
 store_timers-requires c =
     let a = c.args in
-    let t = a.table.now in
-    let at = c.requires in
+    let t = a.table.now.octets.now in
     let is : c.tick.result ≡ timers_fallen (port_at t a.i).timers =
-    c.tick.ensures ∙ ap timers_fallen (c.timers_in-timers.ensures ∙ ap (λ (p : Port). p.timers) c.look.ensures.0) in
-    let r = ranged (count_in t) (port_at t a.i) (ranged-at t at.0 (λ j. (c.slice_known-1.given j).fits) a.i at.1) in
-    (at, ap timers_in_range is ∙ fallen-ranged (port_at t a.i).timers r.timers)
+    c.tick.ensures ∙ ap timers_fallen (c.timers_in-timers.ensures ∙ ap (λ (p : Port). p.timers) (rw c.lent.ensures at c.look.ensures.octets.0)) in
+    let r = ranged (count_in t) (port_at t a.i) (found a.table.now a.i c.requires).1.1 in
+    (c.requires, ap timers_in_range is ∙ fallen-ranged (port_at t a.i).timers r.timers)
 
 pub look-requires-2 : goal.look-requires-2
-look-requires-2 c =
-    still _ c.requires c.store_timers.ensures
+look-requires-2 c = rw c.lent-2.ensures (still _ c.requires c.store_timers.ensures)
 
 pub store_ages-requires : goal.store_ages-requires
 store_ages-requires c = (
@@ -40,23 +36,11 @@ pub returns : goal.returns
 unfolding ticked decoded
 returns c =
     let a = c.args in
-    let at = c.requires in
-    let t = a.table.now in
-    let p = port_at t a.i in
-    let fell = c.store_timers.ensures in
+    let p = port_at a.table.now.octets.now a.i in
     let timers : c.tick.result ≡ timers_fallen p.timers =
-    c.tick.ensures
-    ∙ ap timers_fallen
-    (c.timers_in-timers.ensures
-    ∙ ap (λ (x : Port). x.timers) c.look.ensures.0) in
-    let q = with_timers p c.tick.result in
-    let then_is = became_at a.i q at fell in
+    c.tick.ensures ∙ ap timers_fallen (c.timers_in-timers.ensures ∙ ap (λ (x : Port). x.timers) (rw c.lent.ensures at c.look.ensures.octets.0)) in
+    let then_is = became_at (λ x. with_timers x c.tick.result) a.i c.requires c.store_timers.ensures in
     let ages : c.tick-2.result ≡ ages_ticked p.ages =
-    c.tick-2.ensures
-    ∙ ap ages_ticked
-    (c.ages_in-ages.ensures
-    ∙ ap (λ (x : Port). x.ages) (c.look-2.ensures.0 ∙ then_is)) in
-    said
-    (ap (λ (x : Port). set (ports t) a.i (with_ages x c.tick-2.result)) then_is
-    ∙ (λ i. set (ports t) a.i (with_ages (with_timers p (timers i)) (ages i))))
-    (became_then a.i q _ fell c.store_ages.ensures)
+    c.tick-2.ensures ∙ ap ages_ticked (c.ages_in-ages.ensures ∙ ap (λ (x : Port). x.ages) ((rw c.lent-2.ensures at c.look-2.ensures.octets.0) ∙ then_is)) in
+    told_at (λ x. with_ages (with_timers x c.tick.result) c.tick-2.result) ticked a.i (λ i. with_ages (with_timers p (timers i)) (ages i))
+    (became_then (λ x. with_timers x c.tick.result) (λ x. with_ages x c.tick-2.result) a.i c.requires c.store_timers.ensures c.store_ages.ensures)

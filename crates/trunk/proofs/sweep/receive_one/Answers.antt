@@ -5,24 +5,22 @@ use Rattle.port.specs.Receive.{receive_run, rests_receive}
 use Rattle.port.proofs.GivesBack.{receive-gives-back}
 use Rattle.port.proofs.RangeLaws.{receive-ranged}
 use Rattle.table.specs.Table.{port_at}
-use Rattle.table.proofs.LeavesLaws.{left_alone}
-use Rattle.trunk.proofs.TableWork.{may_store, changed-at}
+use Rattle.trunk.proofs.TableWork.{may_store, changed-at, left_be}
 use Rattle.trunk.proofs.sweep.receive_one.Goals as goal
 
 pub store-requires : goal.store-requires
 store-requires c =
     let a = c.args in
-    may_store receive_run a.table.now a.i c.requires (λ j. (c.slice_known-1.given j).fits) (receive-ranged _) c.load-p.ensures c.receive.ensures
+    may_store receive_run a.table.now a.i c.requires (receive-ranged _) (c.lent-then-not-rests_receive.ensures, c.load-p.ensures) c.receive.ensures
 
 pub returns-then-not-rests_receive : goal.returns-then-not-rests_receive
 returns-then-not-rests_receive c =
     let a = c.args in
-    changed-at receive_run a.table.now a.i c.load-p.ensures c.receive.ensures c.store.ensures
+    changed-at receive_run a.table.now a.i (c.lent-then-not-rests_receive.ensures, c.load-p.ensures) c.receive.ensures c.store.ensures
 
 pub returns-else-not-rests_receive : goal.returns-else-not-rests_receive
 returns-else-not-rests_receive c =
     let a = c.args in
-    let t = a.table.now in
-    let at = c.requires in
-    let rests : rests_receive (port_at t a.i) ≡ true = sym (c.rests_receive.ensures ∙ ap rests_receive c.look.ensures.0) ∙ c.if-not-rests_receive.false in
-    left_alone t a.i (receive_run (port_at t a.i)) at.0 at.1 (receive-gives-back (port_at t a.i) rests)
+    let p = port_at a.table.now.octets.now a.i in
+    let rests : rests_receive p ≡ true = rw c.lent.ensures at (sym (c.rests_receive.ensures ∙ ap rests_receive c.look.ensures.octets.0) ∙ c.if-not-rests_receive.false) in
+    left_be receive_run a.table.now a.i c.requires (receive-gives-back p rests)

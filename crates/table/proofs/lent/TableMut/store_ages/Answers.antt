@@ -1,0 +1,29 @@
+-- `store_ages` meets its contract: the ages are written in their place, and the rest of the record's octets tell what they told. Assumes nothing.
+use mathlib.Core.Path.{refl}
+use native.Mathlib.Omega.{arith}
+use Rattle.octets.proofs.OctetLists.{put-octets, octets_of_lem}
+use Rattle.table.specs.Record.{ages_octets}
+use Rattle.table.proofs.CodeLaws.{ages-fit}
+use Rattle.table.proofs.GroupLaws.{ages-stored}
+use Rattle.table.proofs.TableLaws.{lies}
+use Rattle.table.proofs.lent.TableMut.store_ages.Goals as goal
+
+pub put-requires : goal.put-requires
+put-requires c = let room = lies _ _ (c.args.self.now.in_range, c.requires.0) in rw c.ages_octets.ensures (omega (arith, c.place_of.ensures))
+
+pub invariant_of-self-clause-in_range : goal.invariant_of-self-clause-in_range
+invariant_of-self-clause-in_range c =
+    let a = c.args in
+    let left = ages-stored a.self.now.octets.now a.i (a.self.now.in_range, c.requires.0) a.self.now.fits a.ages c.requires.1 in
+    rw (c.put.ensures, c.ages_octets.ensures, c.place_of.ensures) left.ranged
+
+pub returns : goal.returns
+returns c =
+    let a = c.args in
+    let left = ages-stored a.self.now.octets.now a.i (a.self.now.in_range, c.requires.0) a.self.now.fits a.ages c.requires.1 in
+    record { memory = refl; left = rw (c.put.ensures, c.ages_octets.ensures, c.place_of.ensures) left; }
+
+pub invariant_of-self-clause-fits : goal.invariant_of-self-clause-fits
+invariant_of-self-clause-fits c =
+    let young = ages-fit c.args.ages c.requires.1 in
+    rw (c.put.ensures, c.ages_octets.ensures) (put-octets _ _ _ (octets_of_lem (ages_octets c.args.ages) (young.0, (young.1, (young.2, tt)))) c.args.self.now.fits)
