@@ -1,14 +1,15 @@
 // Reports of several ports as 32-bit sets: those that hold an aggregator, are attached to it and distribute, and those that have an LACPDU to send.
 #![tactic(auto)]
 
-ghost use Rattle.std.specs.Prelude.{◌≡◌, true, Bool};
+ghost use Rattle.std.specs.Prelude.{◌≡◌, ◌<◌, Bool};
 ghost use Rattle.port.specs.declared.record.Port.{Port};
 ghost use Rattle.port.specs.Transmit.{is_due};
 ghost use Rattle.table.specs.Record.{decoded};
-ghost use Rattle.table.specs.Table.{table_in_range, InTable, ports, port_at};
+ghost use Rattle.table.specs.Table.{count_in, ports, port_at};
 ghost use Rattle.report.specs.Sets.{holds, set_of, lowest_of, sets_of, due_of};
 
 use table::layout::RECORD;
+use table::lent::Table;
 use table::record::{ages_in, line_in, ntt_in};
 
 // The ports of an aggregator as sets, bit 0 the first port, with how many distribute and the lowest that does (from 1; 0 for none).
@@ -30,26 +31,25 @@ fn is_due(s: &[u8; RECORD]) -> bool
 }
 
 // The ports that pass a test, bit 0 the first port.
-fn set_of<F: Fn(&[u8], usize) -> bool>(table: &[u8], passes: F) -> u32
+fn set_of<F: Fn(&Table, usize) -> bool>(table: &Table, passes: F) -> u32
     ghost test: { Port → Bool }
-    requires ranged { table_in_range table.now ≡ true }
-    requires may { (t : _) (i : _) → InTable t.now i → F.pre passes t i }
-    requires tells { (t : _) (i : _) (r : _) → InTable t.now i → F.post passes t i r → r ≡ test (port_at t.now i) }
+    requires may { (t : _) (i : _) → i < count_in t.now → F.pre passes t i }
+    requires tells { (t : _) (i : _) (r : _) → i < count_in t.now → F.post passes t i r → r ≡ test (port_at t.now i) }
     ensures { result ≡ set_of test (ports table.now) }
 {
     let mut set = 0;
-    for i in (0..table::count(table)).rev() {
+    for i in (0..table.count()).rev() {
         set = set * 2 + u32::from(passes(table, i));
     }
     set
 }
 
 // Whether port i, from 0, holds aggregator k.
-fn holds(table: &[u8], i: usize, k: u8) -> bool
-    requires { InTable table.now i }
+fn holds(table: &Table, i: usize, k: u8) -> bool
+    requires { i < count_in table.now }
     ensures { result ≡ holds k (port_at table.now i) }
 {
-    table::aggregator(table, i) == k
+    table.aggregator(i) == k
 }
 
 // The lowest port of a set, from 1; 0 for an empty set.
@@ -64,16 +64,15 @@ fn lowest_of(set: u32) -> u32
 }
 
 // What the report says of aggregator k.
-pub fn aggregator_of(table: &[u8], k: u8) -> Sets
-    requires { table_in_range table.now ≡ true }
+pub fn aggregator_of(table: &Table, k: u8) -> Sets
     ensures { result ≡ sets_of k (ports table.now) }
 {
     let holding = set_of(table, |table, i| holds(table, i, k));
     let attached = set_of(table, |table, i| {
-        holds(table, i, k) & table::phase(table, i).mux.is_attached()
+        holds(table, i, k) & table.phase(i).mux.is_attached()
     });
     let distributing = set_of(table, |table, i| {
-        holds(table, i, k) & table::phase(table, i).mux.distributes()
+        holds(table, i, k) & table.phase(i).mux.distributes()
     });
     Sets {
         holding,
@@ -85,9 +84,8 @@ pub fn aggregator_of(table: &[u8], k: u8) -> Sets
 }
 
 // The ports on which an LACPDU is due, bit 0 the first port.
-pub fn due_ports(table: &[u8]) -> u32
-    requires { table_in_range table.now ≡ true }
+pub fn due_ports(table: &Table) -> u32
     ensures { result ≡ due_of (ports table.now) }
 {
-    set_of(table, |table, i| is_due(table::look(table, i)))
+    set_of(table, |table, i| is_due(table.look(i)))
 }

@@ -17,3 +17,8 @@ pub record Swept (t u : TableMut) (f : List Port → List Port) : Type 0 where
 -- f made port i of what it was, and every other one stayed
 abbrev pub Stepped : TableMut → TableMut → ℕ → (Port → Port) → Type 0
 Stepped t u i f = Swept t u (λ ps. set ps i (f (port_at t.octets.now i)))
+
+-- f made its octets of those that it had
+pub record Remade (t u : TableMut) (f : List ℕ → List ℕ) : Type 0 where
+  pub memory : u.octets.ghost_name ≡ t.octets.ghost_name
+  pub made : u.octets.now ≡ f t.octets.now

@@ -52,9 +52,18 @@ impl<'a> Table<'a> {
         Some(Table { octets: memory })
     }
 
+    // Memory that is known to be a table.
+    pub fn known(memory: &'a [u8]) -> Table<'a>
+        requires { table_in_range memory.now ≡ true }
+        ensures { result ≡ memory.now }
+    {
+        Table { octets: memory }
+    }
+
     // The port count in the header.
     pub fn count(&self) -> usize
         ensures count { result ≡ count_in self.now }
+        ensures few { result ≤ most_ports }
         ensures in_range { table_in_range self.now ≡ true }
     {
         usize::from(self.octets[0])
@@ -147,7 +156,7 @@ impl<'a> TableMut<'a> {
     ghost use Rattle.table.specs.Lent.{Has, Stepped};
 
     // Memory that is known to be a table.
-    pub fn of(memory: &'a mut [u8]) -> TableMut<'a>
+    pub fn known(memory: &'a mut [u8]) -> TableMut<'a>
         requires { table_in_range memory.old ≡ true }
         ensures { (result.octets.ghost_name ≡ memory.entry.ghost_name) × (result.octets.now ≡ memory.old) }
     {

@@ -10,19 +10,20 @@ use Rattle.octets.proofs.ListLaws.{map_at, done_to, done_next, done_none, done_m
 use Rattle.port.specs.declared.record.Port.{Port}
 use Rattle.port.specs.Range.{port_in_range}
 use Rattle.table.specs.declared.lent.TableMut.{TableMut}
-use Rattle.table.specs.Table.{count_in, ports, port_at}
-use Rattle.table.specs.Lent.{Has, Swept, Stepped}
+use Rattle.table.specs.Layout.{header_of}
+use Rattle.table.specs.Table.{count_in, ports, port_at, table_octets}
+use Rattle.table.specs.Lent.{Has, Swept, Stepped, Remade}
 use Rattle.table.proofs.StoreLaws.{ports-length, ports-at}
 use Rattle.table.proofs.TableLaws.{ranged-at}
-use Rattle.table.proofs.LeavesLaws.{unworked, left_alone, then, count_kept, said}
+use Rattle.table.proofs.LeavesLaws.{unworked, left_alone, then, count_kept, said, made_of}
 
 -- a lent view `v` of the table, of which record i was loaded
 abbrev pub Loaded : TableMut → List ℕ → ℕ → Port → Type 0
 Loaded t v i p = (v ≡ t.octets.now) × ((p ≡ port_at v i) × (port_in_range (count_in v) p ≡ true))
 
 -- the record as it stands in the table
-pub found : (t : TableMut) (i : ℕ) → Has t i → Loaded t t.octets.now i (port_at t.octets.now i)
-found t i at = (refl, (refl, ranged-at t.octets.now t.in_range t.fits i at))
+pub found : (t : TableMut) (i : ℕ) {p : Port} → Has t i → p ≡ port_at t.octets.now i → Loaded t t.octets.now i p
+found t i at is = (refl, (is, rw is (ranged-at t.octets.now t.in_range t.fits i at)))
 
 -- load, step, store: a step that keeps a record in range gives one that may be stored, and makes of port i what it says
 pub may_store : (f : Port → Port) (t : TableMut) (i : ℕ) {v : List ℕ} {p q : Port} → Has t i
@@ -47,6 +48,10 @@ told e w = record { memory = w.memory; left = said e w.left }
 -- one piece of work after another
 pub then_all : {t u v : TableMut} {f g : List Port → List Port} → Swept t u f → Swept u v g → Swept t v (λ ps. g (f ps))
 then_all {g = g} a b = record { memory = b.memory ∙ a.memory; left = said (ap g a.left.records) (then a.left b.left) }
+
+-- the octets that a piece of work leaves
+pub remade : {t u : TableMut} {f : List Port → List Port} → Swept t u f → Remade t u (λ l. table_octets (header_of l) (f (ports l)))
+remade {u = u} w = record { memory = w.memory; made = made_of w.left u.fits; }
 
 pub told_at : {t u : TableMut} (f g : Port → Port) (i : ℕ) → f (port_at t.octets.now i) ≡ g (port_at t.octets.now i) → Stepped t u i f → Stepped t u i g
 told_at {t} f g i e w = told (ap (λ (x : Port). set (ports t.octets.now) i x) e) w

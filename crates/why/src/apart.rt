@@ -1,11 +1,12 @@
 // Why two ports are not in one group (R10): what the selection rule compares, each field for itself.
-ghost use Rattle.std.specs.Prelude.{◌≡◌, map};
+ghost use Rattle.std.specs.Prelude.{◌≡◌, ◌<◌, map};
 ghost use Rattle.port.specs.Compared.{compared};
 ghost use Rattle.table.specs.Keys.{compared_by};
-ghost use Rattle.table.specs.Table.{InTable, ports, ours};
+ghost use Rattle.table.specs.Table.{count_in, ports, ours};
 ghost use Rattle.why.specs.Apart.{alone, apart_from, apart_number, apart_of};
 
 use table::layout::Header;
+use table::lent::Table;
 use table::record::Keys;
 
 // Why a port is individual (R10.1), each reason for itself.
@@ -59,15 +60,14 @@ fn apart_from(c: Keys, d: Keys, ours: Header) -> Apart
 
 // Why ports i and j, from 0, are apart. A port is not apart from itself.
 #[tactic(auto, unfolding(crate::specs::Apart::apart_of))]
-pub fn apart_of(table: &[u8], i: usize, j: usize) -> Apart
-    requires { InTable table.now i × InTable table.now j }
+pub fn apart_of(table: &Table, i: usize, j: usize) -> Apart
+    requires { (i < count_in table.now) × (j < count_in table.now) }
     ensures { result ≡ apart_of (ours table.now) (map compared (ports table.now)) i j }
 {
     if i == j {
         return Apart::default();
     }
-    let header = table::layout::read_header(table);
-    apart_from(table::keys(table, i), table::keys(table, j), header)
+    apart_from(table.keys(i), table.keys(j), table.header())
 }
 
 impl Apart {

@@ -1,10 +1,11 @@
 // Why a port does not carry: the first of the causes that applies.
-ghost use Rattle.std.specs.Prelude.{◌≡◌, true};
-ghost use Rattle.table.specs.Table.{table_in_range, InTable, ports, port_at};
+ghost use Rattle.std.specs.Prelude.{◌≡◌, ◌<◌};
+ghost use Rattle.table.specs.Table.{count_in, ports, port_at};
 ghost use Rattle.why.specs.Cause.{number_of, is_defaulted, is_expired, is_by_default, wait_for, longer as cause_longer, longest as cause_longest, cause_of, holder as cause_holder, ticks as cause_ticks, why_of};
 
 use machine::states::Receive;
 use port::record::Port;
+use table::lent::Table;
 
 // The order is that in which they are asked for, and each keeps its number. Where none is known, in memory that no run made, C has 0.
 #[derive(Clone, Copy, PartialEq, Eq)]
@@ -77,13 +78,13 @@ fn is_by_default(r: Receive) -> bool
 
 // The ticks that port i still waits for aggregator k, if it waits for it and some are left.
 #[tactic(auto, unfolding(crate::specs::Cause::wait_for, trunk::specs::Ready::holds_back, trunk::specs::Ready::waits_for))]
-fn wait_for(table: &[u8], i: usize, k: u8) -> Option<u32>
-    requires { InTable table.now i }
+fn wait_for(table: &Table, i: usize, k: u8) -> Option<u32>
+    requires { i < count_in table.now }
     ensures { result ≡ wait_for k (port_at table.now i) }
 {
-    let mux = table::phase(table, i).mux;
-    let wait = table::timers(table, i).wait.0;
-    if (table::aggregator(table, i) == k) & (mux.waits() & !(wait == 0)) {
+    let mux = table.phase(i).mux;
+    let wait = table.timers(i).wait.0;
+    if (table.aggregator(i) == k) & (mux.waits() & !(wait == 0)) {
         Some(wait as u32)
     } else {
         None
@@ -105,12 +106,11 @@ fn longer(wait: Option<u32>, n: u32, others: Option<Hold>) -> Option<Hold>
 }
 
 // The port that waits longest for aggregator k, the lowest of several.
-fn longest(table: &[u8], k: u8) -> Option<Hold>
-    requires { table_in_range table.now ≡ true }
+fn longest(table: &Table, k: u8) -> Option<Hold>
     ensures { result ≡ cause_longest k 1 (ports table.now) }
 {
     let mut hold = None;
-    for i in (0..table::count(table)).rev() {
+    for i in (0..table.count()).rev() {
         hold = longer(wait_for(table, i, k), i as u32 + 1, hold);
     }
     hold
@@ -174,11 +174,11 @@ fn ticks(cause: Option<Cause>, wait: u32, hold: Option<Hold>) -> u32
 }
 
 // Why port i, from 0, does not carry, or that it does.
-pub fn why_of(table: &[u8], i: usize) -> Why
-    requires { InTable table.now i }
+pub fn why_of(table: &Table, i: usize) -> Why
+    requires { i < count_in table.now }
     ensures { result ≡ why_of (ports table.now) (port_at table.now i) }
 {
-    let p = table::load(table, i);
+    let p = table.load(i);
     let hold = longest(table, p.aggregator);
     let cause = cause_of(p, hold.is_some());
     Why {

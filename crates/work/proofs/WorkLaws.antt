@@ -1,7 +1,7 @@
 -- What a piece of work leaves is the octets of the header as it was and of the records that it names; the end of a call keeps their number
 -- and range. Assumes nothing.
 use Prim.Native.Nat.{ℕ, ◌+◌, ◌<◌, ◌≤◌}
-use mathlib.Core.Path.{◌≡◌, ◌∙◌}
+use mathlib.Core.Path.{◌≡◌, ap, ◌∙◌}
 use mathlib.Core.Bool.{true}
 use mathlib.Core.List.{List, map}
 use native.Mathlib.Omega.{arith}
@@ -20,9 +20,11 @@ use Rattle.port.specs.declared.record.Own.{Own}
 use Rattle.port.specs.Range.{own_fits}
 use Rattle.port.specs.Record.{actor_block}
 use Rattle.port.specs.contracts.record.Own.{the_type}
-use Rattle.table.specs.Layout.{most_ports}
+use Rattle.table.specs.Layout.{most_ports, header_of}
 use Rattle.table.specs.State.{State, port_of}
-use Rattle.table.specs.Table.{table_in_range, count_in}
+use Rattle.table.specs.declared.lent.TableMut.{TableMut}
+use Rattle.table.specs.Lent.{Swept, Remade}
+use Rattle.table.specs.Table.{table_in_range, count_in, ports, table_octets}
 use Rattle.table.proofs.TableLaws.{in_range}
 use Rattle.octets.specs.Lists.{Each}
 use Rattle.octets.proofs.ListLaws.{each_map}
@@ -30,6 +32,7 @@ use Rattle.port.specs.declared.record.Port.{Port}
 use Rattle.port.specs.Periodic.{periodic_run}
 use Rattle.table.specs.declared.layout.Header.{Header}
 use Rattle.trunk.proofs.EachLaws.{Fits, settled-fits}
+use Rattle.trunk.proofs.TableWork.{told, then_all, remade}
 use Rattle.trunk.proofs.SettledLaws.{settled-length}
 use Rattle.port.proofs.RangeLaws.{periodic-ranged}
 use Rattle.work.specs.Work.{worked, lacpdu_of}
@@ -67,6 +70,13 @@ unfolding worked
 worked-fits count s ps n e =
     settled-fits count s (map periodic_run ps) (length-map ps periodic_run ∙ n)
     (each_map (Fits count) (Fits count) periodic_run ps (λ p h. periodic-ranged count p h) e)
+
+-- a change of the records, and then the end of a call
+pub finished : {t u v : TableMut} {f : List Port → List Port} → Swept t u f → Swept u v (worked (header_of u.octets.now))
+    → Remade t v (λ l. table_octets (header_of l) (worked (header_of l) (f (ports l))))
+finished {t} {f = f} a b =
+    let left = remade {f = λ ps. worked (header_of t.octets.now) (f ps)} (told (ap (λ (h : Header). worked h (f (ports t.octets.now))) a.left.header) (then_all a b)) in
+    record { memory = left.memory; made = left.made; }
 
 -- ---- R6.4: what a sent LACPDU says, row by row, the delay that was given at start among it
 

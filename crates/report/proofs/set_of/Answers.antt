@@ -39,21 +39,21 @@ weight false = refl
 pub loop-i-init : goal.loop-i-init
 loop-i-init g c =
     let t = c.args.table.now in
-    sym (set_end g.test (ports t) c.count-i.result (ports-length t ∙ sym c.count-i.ensures))
+    sym (set_end g.test (ports t) c.count-i.result (ports-length t ∙ sym c.count-i.ensures.count))
 
 pub overflow_mul-set : goal.overflow_mul-set
 overflow_mul-set g c =
-    let less = fits g.test c.args.table.now c.requires.1.0 c.loop-i.i (omega (arith, c.loop-i-test.true)) c.loop-i.invariant in
+    let less = fits g.test c.args.table.now c.count-i.ensures.in_range c.loop-i.i (omega (arith, c.loop-i-test.true)) c.loop-i.invariant in
     omega (arith, less)
 
 pub passes-requires : goal.passes-requires
 passes-requires g c =
-    let h : c.loop-i.i - 1 < count_in c.args.table.now = omega (arith, c.loop-i-test.true, c.loop-i.auto.i, c.count-i.ensures) in
-    c.requires.1.1.0 _ (c.loop-i.i - 1) (c.requires.1.0, h)
+    let h : c.loop-i.i - 1 < count_in c.args.table.now = omega (arith, c.loop-i-test.true, c.loop-i.auto.i, c.count-i.ensures.count) in
+    c.requires.1.0 _ (c.loop-i.i - 1) h
 
 pub overflow_add-set : goal.overflow_add-set
 overflow_add-set g c =
-    let less = fits g.test c.args.table.now c.requires.1.0 c.loop-i.i (omega (arith, c.loop-i-test.true)) c.loop-i.invariant in
+    let less = fits g.test c.args.table.now c.count-i.ensures.in_range c.loop-i.i (omega (arith, c.loop-i-test.true)) c.loop-i.invariant in
     let least = weight_less c.passes.result in
     omega (arith, less, least, c.from.ensures ∙ weight c.passes.result)
 
@@ -61,9 +61,9 @@ pub loop-i-preserved : goal.loop-i-preserved
 loop-i-preserved g c =
     let t = c.args.table.now in
     let i = c.loop-i.i in
-    let most : i ≤ count_in t = omega (arith, c.loop-i.auto.i, c.count-i.ensures) in
+    let most : i ≤ count_in t = omega (arith, c.loop-i.auto.i, c.count-i.ensures.count) in
     let h : i - 1 < count_in t = omega (arith, c.loop-i-test.true, most) in
-    let told : c.passes.result ≡ g.test (port_at t (i - 1)) = c.requires.1.1.1 _ (i - 1) _ (c.requires.1.0, h) c.passes.ensures in
+    let told : c.passes.result ≡ g.test (port_at t (i - 1)) = c.requires.1.1 _ (i - 1) _ h c.passes.ensures in
     ap (λ (n : ℕ). c.loop-i.set * 2 + n) (c.from.ensures ∙ weight c.passes.result ∙ ap (λ (b : Bool). weighed b 1) told)
     ∙ turn g.test t i (omega (arith, c.loop-i-test.true)) most c.loop-i.invariant
 

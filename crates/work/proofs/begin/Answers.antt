@@ -1,15 +1,18 @@
 -- `work::begin` meets its contract: memory is filled with the record with which a port begins, and steps 3 to 6 done. Assumes nothing.
 use mathlib.Core.Path.{◌≡◌, sym, ap, ◌∙◌}
-use mathlib.Core.List.{List, map}
+use Prim.Native.Nat.{ℕ}
+use mathlib.Core.List.{List}
 use lib.ListN.{replicate}
 use Rattle.port.specs.declared.record.Port.{Port}
 use Rattle.settings.specs.Settings.{started}
 use Rattle.port.specs.Range.{own_fits}
-use Rattle.table.specs.Table.{table_octets}
-use Rattle.trunk.specs.Settled.{muxed, settled}
+use Rattle.table.specs.Layout.{header_of}
+use Rattle.table.specs.Table.{ports, table_octets}
+use Rattle.trunk.specs.Settled.{settled}
 use Rattle.work.specs.Work.{after_start}
 use Rattle.table.proofs.FillLaws.{room-is}
-use Rattle.table.proofs.LeavesLaws.{made_of, then, said}
+use borrow.Author.Rules.{rules}
+use Rattle.trunk.proofs.TableWork.{then_all, remade}
 use Rattle.settings.proofs.RangeLaws.{started_typed}
 use Rattle.work.proofs.WorkLaws.{own_typed}
 use Rattle.work.proofs.begin.Goals as goal
@@ -25,10 +28,9 @@ fill-requires c =
 pub returns : goal.returns
 unfolding after_start settled
 returns c =
-    let a = c.args in
     let laid = c.fill.ensures in
-    let first = c.join_all.ensures in
-    let second = c.mux_all.ensures in
-    let both = said (ap (λ (l : List Port). map muxed l) first.records) (then first second) in
-    made_of both (λ j. (c.type_inv.table j).fits)
-    ∙ (λ j. table_octets (laid.0 j) (settled (laid.0 j) ((laid.2 ∙ ap (replicate a.header.count) c.start.ensures) j)))
+    let left = remade (then_all c.join_all.ensures c.mux_all.ensures) in
+    search rules
+    ∙ left.made
+    ∙ ap (λ (l : List ℕ). table_octets (header_of l) (settled (header_of l) (ports l))) c.known-table.ensures.1
+    ∙ (λ j. table_octets (laid.0 j) (settled (laid.0 j) ((laid.2 ∙ ap (replicate c.args.header.count) c.start.ensures) j)))

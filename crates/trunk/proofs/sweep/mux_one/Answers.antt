@@ -1,5 +1,5 @@
 -- `trunk::sweep::mux_one` meets its contract: what the machine made of the record has its NTT cleared and is stored, and stays in range; a settled one is left alone. Assumes nothing.
-use mathlib.Core.Path.{◌≡◌, sym, ap, ◌∙◌}
+use mathlib.Core.Path.{◌≡◌, refl, sym, ap, ◌∙◌}
 use mathlib.Core.Bool.{true}
 use Rattle.port.specs.Transmit.{ntt_cleared, is_settled}
 use Rattle.port.proofs.GivesBack.{step_6_gives-back}
@@ -13,13 +13,13 @@ pub store-requires : goal.store-requires
 unfolding muxed
 store-requires c =
     let a = c.args in
-    may_store muxed a.table.now a.i c.requires (muxed-ranged _) (found a.table.now a.i c.requires) (c.clear_ntt.ensures ∙ ap ntt_cleared (rw c.lent-then-not-is_settled.ensures at c.after_mux-p.ensures))
+    may_store muxed a.table.now a.i c.requires (muxed-ranged _) (found a.table.now a.i c.requires refl) (c.clear_ntt.ensures ∙ ap ntt_cleared (rw c.lent-then-not-is_settled.ensures at c.after_mux-p.ensures))
 
 pub returns-then-not-is_settled : goal.returns-then-not-is_settled
 unfolding muxed
 returns-then-not-is_settled c =
     let a = c.args in
-    changed-at muxed a.table.now a.i (found a.table.now a.i c.requires) (c.clear_ntt.ensures ∙ ap ntt_cleared (rw c.lent-then-not-is_settled.ensures at c.after_mux-p.ensures)) c.store.ensures
+    changed-at muxed a.table.now a.i (found a.table.now a.i c.requires refl) (c.clear_ntt.ensures ∙ ap ntt_cleared (rw c.lent-then-not-is_settled.ensures at c.after_mux-p.ensures)) c.store.ensures
 
 pub returns-else-not-is_settled : goal.returns-else-not-is_settled
 unfolding muxed

@@ -1,5 +1,5 @@
 -- `trunk::sweep::pass_time` meets its contract: timers are written over those that were read, and then ages over those. Assumes nothing.
-use mathlib.Core.Path.{◌≡◌, ap, ◌∙◌}
+use mathlib.Core.Path.{◌≡◌, refl, ap, ◌∙◌}
 use lib.ListN.{set}
 use Rattle.machine.specs.Ages.{ages_ticked}
 use Rattle.machine.specs.Time.{timers_fallen}
@@ -20,7 +20,7 @@ store_timers-requires c =
     let t = a.table.now.octets.now in
     let is : c.tick.result ≡ timers_fallen (port_at t a.i).timers =
     c.tick.ensures ∙ ap timers_fallen (c.timers_in-timers.ensures ∙ ap (λ (p : Port). p.timers) (rw c.lent.ensures at c.look.ensures.octets.0)) in
-    let r = ranged (count_in t) (port_at t a.i) (found a.table.now a.i c.requires).1.1 in
+    let r = ranged (count_in t) (port_at t a.i) (found a.table.now a.i c.requires refl).1.1 in
     (c.requires, ap timers_in_range is ∙ fallen-ranged (port_at t a.i).timers r.timers)
 
 pub look-requires-2 : goal.look-requires-2

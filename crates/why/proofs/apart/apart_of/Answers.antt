@@ -25,7 +25,7 @@ returns c =
     let a = c.args in
     let t = a.table.now in
     let pre = c.requires in
-    let first = c.keys.ensures ∙ read_at t a.i pre.0.1 in
-    let second = c.keys-2.ensures ∙ read_at t a.j pre.1.1 in
-    c.apart_from.ensures ∙ ap (λ (x : Header). apart_from x (compared_by c.keys.result) (compared_by c.keys-2.result)) c.read_header-header.ensures
+    let first = c.keys.ensures ∙ read_at t a.i pre.0 in
+    let second = c.keys-2.ensures ∙ read_at t a.j pre.1 in
+    c.apart_from.ensures ∙ ap (λ (x : Header). apart_from x (compared_by c.keys.result) (compared_by c.keys-2.result)) c.header.ensures
     ∙ ap₂ (λ (x y : Compared). apart_from (header_of t) x y) first second ∙ sym (rw (ne_eqb a.i a.j c.if-i-j.false))

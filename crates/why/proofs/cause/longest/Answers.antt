@@ -14,7 +14,7 @@ use Rattle.why.proofs.cause.longest.Goals as goal
 pub loop-i-init : goal.loop-i-init
 loop-i-init c =
     let t = c.args.table.now in
-    (omega (arith, c.count-i.ensures), sym (longest_end c.args.k (c.count-i.result + 1) (ports t) c.count-i.result (ports-length t ∙ sym c.count-i.ensures)))
+    (omega (arith, c.count-i.ensures.count), sym (longest_end c.args.k (c.count-i.result + 1) (ports t) c.count-i.result (ports-length t ∙ sym c.count-i.ensures.count)))
 
 pub loop-i-preserved : goal.loop-i-preserved
 loop-i-preserved c =

@@ -14,7 +14,7 @@ unfolding why_of
 returns c =
     let a = c.args in
     let t = a.table.now in
-    let p = c.load-p.ensures in
+    let p = c.load-p.ensures.0 in
     let holds = c.longest-hold.ensures in
     let held : is_some c.longest-hold.result ≡ held_back (port_at t a.i).aggregator (ports t) =
     ap (λ (h : Option Hold). is_some h) holds ∙ longest-holds c.load-p.result.aggregator 1 (ports t) ∙ ap (λ (x : Port). held_back x.aggregator (ports t)) p in
