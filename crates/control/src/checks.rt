@@ -1,18 +1,17 @@
 // The tests that come before any work, in the order of R2.14.
-ghost use Rattle.std.specs.Prelude.{◌≡◌, true};
-ghost use Rattle.table.specs.Table.{table_in_range};
+ghost use Rattle.std.specs.Prelude.{◌≡◌};
 ghost use Rattle.control.specs.Answer.{is_number, found, frame_answer};
 
 use crate::answer::{Accepted, Answer, Reason};
 use frame::class::{Kind, Refusal};
 use machine::states::{Line, Mux};
+use table::lent::Table;
 
 // Whether n is the number of a port of the table, and so of an aggregator.
-fn is_number(table: &[u8], n: u32) -> bool
-    requires { table_in_range table.now ≡ true }
+fn is_number(table: &Table, n: u32) -> bool
     ensures { result ≡ is_number table.now n }
 {
-    let count = table::count(table) as u32;
+    let count = table.count() as u32;
     (1..=count).contains(&n)
 }
 
@@ -20,10 +19,10 @@ fn is_number(table: &[u8], n: u32) -> bool
 pub fn find(table: &[u8], n: u32) -> Result<usize, Reason>
     ensures { result ≡ found table.now n }
 {
-    if !table::is_table(table) {
+    let Some(table) = Table::of(table) else {
         return Err(Reason::Table);
-    }
-    if !is_number(table, n) {
+    };
+    if !is_number(&table, n) {
         return Err(Reason::Number);
     }
     let i = n - 1;

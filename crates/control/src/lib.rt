@@ -16,6 +16,7 @@ use machine::states::Line;
 use report::Sets;
 use settings::Settings;
 use table::layout::{Header, RECORD};
+use table::lent::{Table, TableMut};
 
 pub mod answer;
 mod checks;
@@ -60,11 +61,11 @@ fn receive_at(table: &mut [u8], i: usize, frame: &[u8], out: &mut [u8]) -> Answe
     if out.len() < FRAME {
         return Err(Reason::Buffer);
     }
-    let p = table::load(table, i);
+    let p = Table::known(table).load(i);
     match checks::judge(frame::class::classify(frame), p.line, p.phase.mux)? {
         Accepted::Done => Ok(Accepted::Done),
         Accepted::Lacpdu => {
-            work::receive(table, i, p, frame);
+            work::receive(&mut TableMut::known(table), i, p, frame);
             Ok(Accepted::Lacpdu)
         }
         Accepted::Marker => {
@@ -81,7 +82,7 @@ pub fn tick(table: &mut [u8]) -> Answer
     if !table::is_table(table) {
         return Err(Reason::Table);
     }
-    work::advance(table);
+    work::advance(&mut TableMut::known(table));
     Ok(Accepted::Done)
 }
 
@@ -90,7 +91,7 @@ pub fn line(table: &mut [u8], n: u32, line: Line) -> Answer
     ensures { Meets (call_line n line) table.old result table.new }
 {
     let i = checks::find(table, n)?;
-    work::set_line(table, i, line);
+    work::set_line(&mut TableMut::known(table), i, line);
     Ok(Accepted::Done)
 }
 
@@ -100,7 +101,7 @@ pub fn configure(table: &mut [u8], n: u32, settings: Settings) -> Answer
 {
     let i = checks::find(table, n)?;
     if settings.is_lawful() {
-        work::configure(table, i, settings);
+        work::configure(&mut TableMut::known(table), i, settings);
         Ok(Accepted::Done)
     } else {
         Err(Reason::Default)
@@ -123,12 +124,13 @@ fn fetch_at(table: &mut [u8], i: usize, out: &mut [u8]) -> Answer
     if out.len() < FRAME {
         return Err(Reason::Buffer);
     }
-    if !table::ntt(table, i) {
+    let known = Table::known(table);
+    if !known.ntt(i) {
         return Err(Reason::NothingToSend);
     }
-    let p = table::load(table, i);
+    let p = known.load(i);
     p.due()?;
-    work::send(table, i, p, out);
+    work::send(&mut TableMut::known(table), i, p, out);
     Ok(Accepted::Done)
 }
 
@@ -142,7 +144,7 @@ pub fn report_port(table: &[u8], n: u32, record: &mut [u8]) -> Answer
             Err(why)
         }
         Ok(i) => {
-            octets::put_fitting(record, table::look(table, i));
+            octets::put_fitting(record, Table::known(table).look(i));
             Ok(Accepted::Done)
         }
     }
@@ -153,15 +155,15 @@ pub fn report_aggregator(table: &[u8], n: u32) -> Result<Sets, Reason>
     ensures { result ≡ aggregator_report n table.now }
 {
     checks::find(table, n)?;
-    Ok(report::aggregator_of(table, n as u8))
+    Ok(report::aggregator_of(&Table::known(table), n as u8))
 }
 
 // The ports that have something to send: those whose fetch would be answered 0.
 pub fn report_due(table: &[u8]) -> Result<u32, Reason>
     ensures { result ≡ due_report table.now }
 {
-    if !table::is_table(table) {
+    let Some(table) = Table::of(table) else {
         return Err(Reason::Table);
-    }
-    Ok(report::due_ports(table))
+    };
+    Ok(report::due_ports(&table))
 }

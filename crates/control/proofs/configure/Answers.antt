@@ -1,6 +1,7 @@
 -- `control::configure` meets its contract: answers 1, 2 and 4, or the work of new settings. Assumes nothing.
 use mathlib.Core.Path.{◌≡◌, sym, ap, ◌∙◌}
 use Prim.Native.Nat.{ℕ}
+use borrow.Author.Rules.{rules}
 use Rattle.table.specs.Table.{on_octets}
 use Rattle.work.specs.Work.{after_settings}
 use Rattle.std.specs.Prelude.{Ok, Err}
@@ -22,11 +23,11 @@ returns-else-is_lawful c =
     let refused = found-answers t a.n here (with_default a.settings (Ok Done)) ∙ wrong in
     (sym refused, sym (refused-table (call.configure a.n a.settings) t refused))
 
+pub known-requires : goal.known-requires
+known-requires c = found-table c.args.table.now _ (sym c.find.ensures ∙ c.in_ok-i.was)
+
 pub configure-requires : goal.configure-requires
-configure-requires c =
-    let t = c.args.table.now in
-    let here = sym c.find.ensures ∙ c.in_ok-i.was in
-    (found-table t _ here, found_inside t _ here)
+configure-requires c = rw c.known.ensures.1 (found_inside c.args.table.now _ (sym c.find.ensures ∙ c.in_ok-i.was))
 
 pub returns-in_err-i : goal.returns-in_err-i
 unfolding answer
@@ -43,9 +44,12 @@ returns-then-is_lawful c =
     let t = a.table.now in
     let here = sym c.find.ensures ∙ c.in_ok-i.was in
     let lawful : with_default a.settings (Ok Done) ≡ Ok Done = rw (sym c.is_lawful.ensures ∙ c.if-is_lawful.true) in
-    let done = found-answers t a.n here (with_default a.settings (Ok Done)) ∙ lawful in (
+    let done = found-answers t a.n here (with_default a.settings (Ok Done)) ∙ lawful in
+    let did = c.configure.ensures in (
       sym done,
-      c.configure.ensures
+      search rules
+          ∙ did.made
+          ∙ ap (on_octets (after_settings c.in_ok-i.i a.settings)) c.known.ensures.1
           ∙ ap (λ (i : ℕ). on_octets (after_settings i a.settings) t) (found-index t a.n here)
           ∙ sym (done-table (call.configure a.n a.settings) t done),
     )

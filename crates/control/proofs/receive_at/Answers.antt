@@ -6,9 +6,10 @@ use lib.ListN.{length}
 use borrow.Author.Tests.{lt-ltb, le-ltb}
 use Rattle.frame.specs.Class.{frame_size}
 use Rattle.frame.specs.Wire.{response}
-use Rattle.table.specs.Table.{port_at}
+use borrow.Author.Rules.{rules}
+use Rattle.table.specs.Table.{on_octets, port_at}
 use Rattle.table.proofs.TableLaws.{octets-back}
-use Rattle.work.specs.Work.{response_of, written_over}
+use Rattle.work.specs.Work.{after_received, response_of, written_over}
 use Rattle.std.specs.Prelude.{Ok}
 use Rattle.control.specs.Answer.{frame_answer}
 use Rattle.control.proofs.CallLaws.{passed-up, lacpdu-whole, marker-whole}
@@ -18,46 +19,53 @@ pub returns-then-out-lt-FRAME : goal.returns-then-out-lt-FRAME
 returns-then-out-lt-FRAME c = let short = lt-ltb (length c.args.out.now) frame_size c.if-out-lt-FRAME.true in (rw short, refl, refl)
 
 pub load-p-requires : goal.load-p-requires
-load-p-requires c = c.requires
+load-p-requires c = rw c.known.ensures c.requires.1
 
 pub receive-requires : goal.receive-requires
 receive-requires c =
     let a = c.args in
     let p = port_at a.table.now a.i in
-    let is = (λ j. frame_answer (sym c.classify.ensures j) (sym c.load-p.ensures j).line (sym c.load-p.ensures j).phase.mux) ∙ sym c.judge.ensures ∙ c.in_ok-judge.was ∙ ap Ok c.in-Lacpdu.is in
-    (c.requires, c.load-p.ensures, lacpdu-whole a.frame.now p.line p.phase.mux is)
+    let loaded = c.load-p.ensures.0 ∙ ap (λ l. port_at l c.args.i) c.known.ensures in
+    let is = (λ j. frame_answer (sym c.classify.ensures j) (sym loaded j).line (sym loaded j).phase.mux) ∙ sym c.judge.ensures ∙ c.in_ok-judge.was ∙ ap Ok c.in-Lacpdu.is in
+    (rw c.known-in-Lacpdu.ensures.1 c.requires.1, loaded ∙ ap (λ l. port_at l a.i) (sym c.known-in-Lacpdu.ensures.1), lacpdu-whole a.frame.now p.line p.phase.mux is)
 
 pub respond-requires : goal.respond-requires
 respond-requires c =
     let a = c.args in
     let p = port_at a.table.now a.i in
-    let is = (λ j. frame_answer (sym c.classify.ensures j) (sym c.load-p.ensures j).line (sym c.load-p.ensures j).phase.mux) ∙ sym c.judge.ensures ∙ c.in_ok-judge.was ∙ ap Ok c.in-Marker.is in
+    let loaded = c.load-p.ensures.0 ∙ ap (λ l. port_at l c.args.i) c.known.ensures in
+    let is = (λ j. frame_answer (sym c.classify.ensures j) (sym loaded j).line (sym loaded j).phase.mux) ∙ sym c.judge.ensures ∙ c.in_ok-judge.was ∙ ap Ok c.in-Marker.is in
     (marker-whole a.frame.now p.line p.phase.mux is, omega (arith, c.if-out-lt-FRAME.false))
 
 pub returns-in-Done : goal.returns-in-Done
 returns-in-Done c =
     let long = le-ltb (length c.args.out.now) frame_size c.if-out-lt-FRAME.false in
-    let is = (λ j. frame_answer (sym c.classify.ensures j) (sym c.load-p.ensures j).line (sym c.load-p.ensures j).phase.mux) ∙ sym c.judge.ensures ∙ c.in_ok-judge.was ∙ ap Ok c.in-Done.is in
+    let loaded = c.load-p.ensures.0 ∙ ap (λ l. port_at l c.args.i) c.known.ensures in
+    let is = (λ j. frame_answer (sym c.classify.ensures j) (sym loaded j).line (sym loaded j).phase.mux) ∙ sym c.judge.ensures ∙ c.in_ok-judge.was ∙ ap Ok c.in-Done.is in
     let same = octets-back c.args.table.now c.requires.0 (λ j. (c.slice_known-1.given j).fits) in
     (rw (long, is), sym same, refl)
 
 pub returns-in-Lacpdu : goal.returns-in-Lacpdu
 returns-in-Lacpdu c =
+    let did = c.receive.ensures in
     let long = le-ltb (length c.args.out.now) frame_size c.if-out-lt-FRAME.false in
-    let is = (λ j. frame_answer (sym c.classify.ensures j) (sym c.load-p.ensures j).line (sym c.load-p.ensures j).phase.mux) ∙ sym c.judge.ensures ∙ c.in_ok-judge.was ∙ ap Ok c.in-Lacpdu.is in
-    (rw (long, is), c.receive.ensures, refl)
+    let loaded = c.load-p.ensures.0 ∙ ap (λ l. port_at l c.args.i) c.known.ensures in
+    let is = (λ j. frame_answer (sym c.classify.ensures j) (sym loaded j).line (sym loaded j).phase.mux) ∙ sym c.judge.ensures ∙ c.in_ok-judge.was ∙ ap Ok c.in-Lacpdu.is in
+    (rw (long, is), search rules ∙ did.made ∙ ap (on_octets (after_received c.args.i c.args.frame.now)) c.known-in-Lacpdu.ensures.1, refl)
 
 pub returns-in-Marker : goal.returns-in-Marker
 unfolding response_of
 returns-in-Marker c =
     let a = c.args in
     let long = le-ltb (length c.args.out.now) frame_size c.if-out-lt-FRAME.false in
-    let is = (λ j. frame_answer (sym c.classify.ensures j) (sym c.load-p.ensures j).line (sym c.load-p.ensures j).phase.mux) ∙ sym c.judge.ensures ∙ c.in_ok-judge.was ∙ ap Ok c.in-Marker.is in
+    let loaded = c.load-p.ensures.0 ∙ ap (λ l. port_at l c.args.i) c.known.ensures in
+    let is = (λ j. frame_answer (sym c.classify.ensures j) (sym loaded j).line (sym loaded j).phase.mux) ∙ sym c.judge.ensures ∙ c.in_ok-judge.was ∙ ap Ok c.in-Marker.is in
     let same = octets-back c.args.table.now c.requires.0 (λ j. (c.slice_known-1.given j).fits) in
-    (rw (long, is), sym same, c.respond.ensures ∙ (λ j. written_over (response (c.load-p.ensures j).own.address a.frame.now) a.out.now))
+    (rw (long, is), sym same, c.respond.ensures ∙ (λ j. written_over (response (loaded j).own.address a.frame.now) a.out.now))
 
 pub returns-in_err-judge : goal.returns-in_err-judge
 returns-in_err-judge c =
     let long = le-ltb (length c.args.out.now) frame_size c.if-out-lt-FRAME.false in
-    let is = (λ j. frame_answer (sym c.classify.ensures j) (sym c.load-p.ensures j).line (sym c.load-p.ensures j).phase.mux) ∙ sym c.judge.ensures ∙ c.in_err-judge.was in
+    let loaded = c.load-p.ensures.0 ∙ ap (λ l. port_at l c.args.i) c.known.ensures in
+    let is = (λ j. frame_answer (sym c.classify.ensures j) (sym loaded j).line (sym loaded j).phase.mux) ∙ sym c.judge.ensures ∙ c.in_err-judge.was in
     rw (long, is, passed-up _ c.from_residual.ensures.1) (refl, refl, refl)

@@ -23,8 +23,8 @@ overflow_cast-n c =
     let within = (found_within t a.n here).1 in
     omega arith
 
-pub aggregator_of-requires : goal.aggregator_of-requires
-aggregator_of-requires c = found-table c.args.table.now _ (sym c.find.ensures ∙ c.in_ok-find.was)
+pub known-requires : goal.known-requires
+known-requires c = found-table c.args.table.now _ (sym c.find.ensures ∙ c.in_ok-find.was)
 
 pub returns-in_err-find : goal.returns-in_err-find
 unfolding aggregator_report answer
@@ -38,4 +38,4 @@ unfolding aggregator_report answer
 returns c =
     let a = c.args in
     let here = sym c.find.ensures ∙ c.in_ok-find.was in
-    rw (found-answers a.table.now a.n here (Ok Done), c.aggregator_of.ensures)
+    rw (found-answers a.table.now a.n here (Ok Done), c.aggregator_of.ensures, c.known.ensures)

@@ -6,19 +6,14 @@ use Rattle.control.specs.After.{answer}
 use Rattle.control.specs.Report.{due_report}
 use Rattle.control.proofs.report_due.Goals as goal
 
-pub returns-then-not-is_table : goal.returns-then-not-is_table
+pub returns-in_default : goal.returns-in_default
 unfolding due_report answer
-returns-then-not-is_table c =
-    let t = c.args.table.now in
-    let none : table_in_range t ≡ false = sym c.is_table.ensures ∙ c.if-not-is_table.true in
+returns-in_default c =
+    let none : table_in_range c.args.table.now ≡ false = sym (rw c.in_default.is at c.of.ensures.range) in
     rw none
-
-pub due_ports-requires : goal.due_ports-requires
-due_ports-requires c = sym c.is_table.ensures ∙ c.if-not-is_table.false
 
 pub returns : goal.returns
 unfolding due_report answer
 returns c =
-    let t = c.args.table.now in
-    let is : table_in_range t ≡ true = sym c.is_table.ensures ∙ c.if-not-is_table.false in
-    rw (is, c.due_ports.ensures)
+    let is : table_in_range c.args.table.now ≡ true = sym (rw c.in-Some.is at c.of.ensures.range) in
+    rw (is, c.due_ports.ensures, rw c.in-Some.is at c.of.ensures.table)

@@ -8,11 +8,11 @@ use Rattle.control.specs.Report.{port_report}
 use Rattle.control.proofs.CallLaws.{found-refused, found-answers, found-table, found_inside, found-index}
 use Rattle.control.proofs.report_port.Goals as goal
 
+pub known-requires : goal.known-requires
+known-requires c = found-table c.args.table.now _ (sym c.find.ensures ∙ c.in-Ok.is)
+
 pub look-requires : goal.look-requires
-look-requires c =
-    let t = c.args.table.now in
-    let here = sym c.find.ensures ∙ c.in-Ok.is in
-    (found-table t _ here, found_inside t _ here)
+look-requires c = rw c.known.ensures (found_inside c.args.table.now _ (sym c.find.ensures ∙ c.in-Ok.is))
 
 pub returns-in-Err : goal.returns-in-Err
 unfolding port_report answer
@@ -26,4 +26,4 @@ unfolding port_report answer
 returns-in-Ok c =
     let a = c.args in
     let here = sym c.find.ensures ∙ c.in-Ok.is in
-    rw (found-answers a.table.now a.n here (Ok Done), ← found-index a.table.now a.n here, ← c.look.ensures.1) (refl, c.put_fitting-in-Ok.ensures)
+    rw (found-answers a.table.now a.n here (Ok Done), ← found-index a.table.now a.n here, ← c.known.ensures, ← c.look.ensures.octets.1) (refl, c.put_fitting-in-Ok.ensures)
