@@ -35,6 +35,7 @@ use octets::InOctets;
 use report::Sets;
 use settings::Settings;
 use table::layout::place_of;
+use table::lent::Table;
 use whole::WHOLE_RECORD;
 
 mod form;
@@ -148,7 +149,7 @@ fn brings(table: &[u8], b: usize, f: usize, n: u32, frame: &[u8]) -> bool
     if !outcome.is_awaiting() {
         return false;
     }
-    let header = table::layout::read_header(&table[..b]);
+    let header = Table::known(&table[..b]).header();
     let system = header.system;
     let mut request = [0u8; 12];
     write_request(&mut request, n as u16, system.address, a.awaited());
@@ -266,13 +267,13 @@ fn find(front: &[u8], n: u32) -> Answer
 }
 
 // Writes the Marker of port n, whose number is `number`, over the first 124 octets of out. `base` is the header and the records.
-fn write_marker(base: &[u8], n: u32, number: u32, out: &mut [u8])
-    requires { InTable base.now (n - 1) × (1 ≤ n) × (n ≤ 32) × (frame_size ≤ length out.old) }
+fn write_marker(base: &Table, n: u32, number: u32, out: &mut [u8])
+    requires { (n - 1 < count_in base.now) × (1 ≤ n) × (n ≤ 32) × (frame_size ≤ length out.old) }
     ensures { out.new ≡ marker (port_at base.now (n - 1)).own.address kind.Marker (request_of n (ours base.now).system.address number) ++ drop frame_size out.old }
 {
     let i = n - 1;
-    let p = table::load(base, i as usize);
-    let header = table::layout::read_header(base);
+    let p = base.load(i as usize);
+    let header = base.header();
     let system = header.system;
     let mut request = [0u8; 12];
     write_request(&mut request, n as u16, system.address, number);
@@ -301,14 +302,14 @@ pub fn ask(table: &mut [u8], n: u32, wait: u32, out: &mut [u8]) -> Result<(), As
         return Err(AskRefusal::Wait);
     }
     let i = n - 1;
-    if !table::phase(&table[..b], i as usize).mux.distributes() {
+    if !Table::known(&table[..b]).phase(i as usize).mux.distributes() {
         return Err(AskRefusal::NotDistributing);
     }
     let q = asks::at(&table[f..], i as usize);
     if q.outcome.is_awaiting() {
         return Err(AskRefusal::Awaiting);
     }
-    write_marker(&table[..b], n, q.number, out);
+    write_marker(&Table::known(&table[..b]), n, q.number, out);
     asks::store(&mut table[f..], i as usize, q.ask(wait as u16));
     Ok(())
 }

@@ -9,6 +9,7 @@ ghost use Rattle.reasons.specs.Reasons.{first, port_found, why_report, apart_rep
 
 use control::answer::Reason;
 use table::layout::place_of;
+use table::lent::Table;
 use why::apart::Apart;
 use why::cause::Why;
 
@@ -34,7 +35,8 @@ pub fn why(table: &[u8], n: u32) -> Result<Why, Reason>
     ensures { result ≡ why_report n table.now }
 {
     let i = find(table, n)?;
-    Ok(why::cause::why_of(records(table), i))
+    let records = Table::known(records(table));
+    Ok(why::cause::why_of(&records, i))
 }
 
 // Why ports n and m are not in one group: nothing where they are.
@@ -43,5 +45,6 @@ pub fn apart(table: &[u8], n: u32, m: u32) -> Result<Apart, Reason>
 {
     let i = find(table, n)?;
     let j = find(table, m)?;
-    Ok(why::apart::apart_of(records(table), i, j))
+    let records = Table::known(records(table));
+    Ok(why::apart::apart_of(&records, i, j))
 }

@@ -69,20 +69,33 @@ overflow_sub-i c =
     let there = port-there a.n a.table.now c.in_ok-f.f c.place_of-b.result front.is c.place_of-b.ensures (ap accepted done) in
     there.some
 
-pub slice_bounds-phase-end : goal.slice_bounds-phase-end
-slice_bounds-phase-end c =
+pub slice_bounds-known-end : goal.slice_bounds-known-end
+slice_bounds-known-end c =
     let front = found-front new_layer c.args.table.now (sym c.front_size.ensures.0 ∙ c.in_ok-f.was) in
     omega (arith, front.size, front.is, c.place_of-b.ensures)
 
-pub slice_bounds-write_marker-end : goal.slice_bounds-write_marker-end
-slice_bounds-write_marker-end c =
+pub slice_bounds-known-end-3 : goal.slice_bounds-known-end-3
+slice_bounds-known-end-3 c =
     let front = found-front new_layer c.args.table.now (sym c.front_size.ensures.0 ∙ c.in_ok-f.was) in
     omega (arith, front.size, front.is, c.place_of-b.ensures)
 
-pub slice_bounds-phase-end-2 : goal.slice_bounds-phase-end-2
-slice_bounds-phase-end-2 c =
+pub slice_bounds-known-end-2 : goal.slice_bounds-known-end-2
+slice_bounds-known-end-2 c =
     let front = found-front new_layer c.args.table.now (sym c.front_size.ensures.0 ∙ c.in_ok-f.was) in
     sym (length-take-le c.place_of-b.result c.args.table.now (omega (arith, front.size, front.is, c.place_of-b.ensures)))
+
+pub known-requires : goal.known-requires
+known-requires c =
+    let front = found-front new_layer c.args.table.now (sym c.front_size.ensures.0 ∙ c.in_ok-f.was) in
+    let a = c.args in
+    let m = a.table.now in
+    let f = c.in_ok-f.f in
+    let isf = front.is in
+    let b = c.place_of-b.result in
+    let isb = c.place_of-b.ensures in
+    let done = sym c.find.ensures ∙ c.in_ok-find.was in
+    let there = port-there a.n m f b isf isb (ap accepted done) in
+    there.ranged
 
 pub phase-requires : goal.phase-requires
 phase-requires c =
@@ -96,7 +109,7 @@ phase-requires c =
     let done = sym c.find.ensures ∙ c.in_ok-find.was in
     let there = port-there a.n m f b isf isb (ap accepted done) in
     let count = base-count m f b isf isb in
-    (there.ranged, omega (arith, there.some, there.most, count))
+    rw c.known.ensures (omega (arith, there.some, there.most, count))
 
 pub returns-then-not-distributes : goal.returns-then-not-distributes
 returns-then-not-distributes c =
@@ -107,7 +120,7 @@ returns-then-not-distributes c =
     let done = sym c.find.ensures ∙ c.in_ok-find.was in
     let roomy : frame_size ≤ length out = c.if-out-lt-FRAME.false in
     let fit : within 1 wait longest_wait ≡ true = sym c.is_wait.ensures ∙ c.if-not-is_wait.false in
-    ask-not a.n wait out a.table.now c.in_ok-f.f c.place_of-b.result front.is c.place_of-b.ensures front.has done roomy fit (ap (λ (x : Phase). distributes x.mux) (sym c.phase.ensures) ∙ sym c.distributes.ensures ∙ c.if-not-distributes.true)
+    ask-not a.n wait out a.table.now c.in_ok-f.f c.place_of-b.result front.is c.place_of-b.ensures front.has done roomy fit (ap (λ (x : Phase). distributes x.mux) (sym (c.phase.ensures ∙ ap (λ (l : List ℕ). (port_at l (c.args.n - 1)).phase) c.known.ensures)) ∙ sym c.distributes.ensures ∙ c.if-not-distributes.true)
 
 pub at-q-requires : goal.at-q-requires
 at-q-requires c =
@@ -132,14 +145,20 @@ returns-then-is_awaiting c =
     let done = sym c.find.ensures ∙ c.in_ok-find.was in
     let roomy : frame_size ≤ length out = c.if-out-lt-FRAME.false in
     let fit : within 1 wait longest_wait ≡ true = sym c.is_wait.ensures ∙ c.if-not-is_wait.false in
-    let carries : distributes (port_at (take b m) (n - 1)).phase.mux ≡ true = ap (λ (x : Phase). distributes x.mux) (sym c.phase.ensures) ∙ sym c.distributes.ensures ∙ c.if-not-distributes.false in
+    let carries : distributes (port_at (take b m) (n - 1)).phase.mux ≡ true = ap (λ (x : Phase). distributes x.mux) (sym (c.phase.ensures ∙ ap (λ (l : List ℕ). (port_at l (c.args.n - 1)).phase) c.known.ensures)) ∙ sym c.distributes.ensures ∙ c.if-not-distributes.false in
     let q-is : c.at-q.result ≡ ask_at (drop f m) (n - 1) = c.at-q.ensures ∙ ap (λ (l : List ℕ). ask_at l (n - 1)) (tail_is f m) in
     ask-awaits n wait out m f b front.is c.place_of-b.ensures front.has done roomy fit carries (ap (λ (x : Ask). is_awaiting x.outcome) (sym q-is) ∙ sym c.is_awaiting.ensures ∙ c.if-is_awaiting.true)
 
-pub slice_bounds-write_marker-end-2 : goal.slice_bounds-write_marker-end-2
-slice_bounds-write_marker-end-2 c =
+pub slice_bounds-known-end-4 : goal.slice_bounds-known-end-4
+slice_bounds-known-end-4 c =
     let front = found-front new_layer c.args.table.now (sym c.front_size.ensures.0 ∙ c.in_ok-f.was) in
     sym (length-take-le c.place_of-b.result c.args.table.now (omega (arith, front.size, front.is, c.place_of-b.ensures)))
+
+pub known-requires-2 : goal.known-requires-2
+known-requires-2 c =
+    let front = found-front new_layer c.args.table.now (sym c.front_size.ensures.0 ∙ c.in_ok-f.was) in
+    let done = sym c.find.ensures ∙ c.in_ok-find.was in
+    (port-there c.args.n c.args.table.now c.in_ok-f.f c.place_of-b.result front.is c.place_of-b.ensures (ap accepted done)).ranged
 
 pub write_marker-requires : goal.write_marker-requires
 write_marker-requires c =
@@ -156,7 +175,7 @@ write_marker-requires c =
     let few = there.most in
     let count = base-count m f b isf isb in
     let ports = (in_range (take b m) there.ranged).most in
-    ((there.ranged, omega (arith, some, few, count)), some, omega (arith, few, count, ports), c.if-out-lt-FRAME.false)
+    (rw c.known-2.ensures (omega (arith, some, few, count)), some, omega (arith, few, count, ports), c.if-out-lt-FRAME.false)
 
 pub overflow_cast-i-3 : goal.overflow_cast-i-3
 overflow_cast-i-3 c =
@@ -195,9 +214,9 @@ returns c =
     let done = sym c.find.ensures ∙ c.in_ok-find.was in
     let roomy : frame_size ≤ length out = c.if-out-lt-FRAME.false in
     let fit : within 1 wait longest_wait ≡ true = sym c.is_wait.ensures ∙ c.if-not-is_wait.false in
-    let carries : distributes (port_at (take b m) (n - 1)).phase.mux ≡ true = ap (λ (x : Phase). distributes x.mux) (sym c.phase.ensures) ∙ sym c.distributes.ensures ∙ c.if-not-distributes.false in
+    let carries : distributes (port_at (take b m) (n - 1)).phase.mux ≡ true = ap (λ (x : Phase). distributes x.mux) (sym (c.phase.ensures ∙ ap (λ (l : List ℕ). (port_at l (c.args.n - 1)).phase) c.known.ensures)) ∙ sym c.distributes.ensures ∙ c.if-not-distributes.false in
     let q-is : c.at-q.result ≡ ask_at (drop f m) (n - 1) = c.at-q.ensures ∙ ap (λ (l : List ℕ). ask_at l (n - 1)) (tail_is f m) in
     let keep : length c.store.new.groups ≡ length m - f = search rules in
     ask-done n wait out m f b front.is c.place_of-b.ensures front.has done roomy fit carries (ap (λ (x : Ask). is_awaiting x.outcome) (sym q-is) ∙ sym c.is_awaiting.ensures ∙ c.if-is_awaiting.false) _ _
     (tail_put f m _ front.most keep ∙ ap (λ (l : List ℕ). take f m ++ l) (c.store.ensures ∙ rw (c.ask.ensures, q-is) (ap (λ (l : List ℕ). with_ask (n - 1) (asked wait (ask_at (drop f m) (n - 1))) l) (tail_is f m))))
-    (c.write_marker.ensures ∙ rw q-is)
+    (c.write_marker.ensures ∙ rw (c.known-2.ensures, q-is))

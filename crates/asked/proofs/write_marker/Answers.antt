@@ -2,4 +2,4 @@
 use Rattle.asked.proofs.write_marker.Goals as goal
 
 pub returns : goal.returns
-returns c = rw (c.write_marker.ensures, c.write_request.ensures, c.read_header-header.ensures, c.load-p.ensures)
+returns c = rw (c.write_marker.ensures, c.write_request.ensures, c.header-header.ensures, c.load-p.ensures.0)

@@ -26,18 +26,25 @@ records-requires c =
     let a = c.args in
     (found a.table.now a.n (found-ok a.n a.table.now (sym c.find.ensures ∙ c.in_ok-i.was)).0).long
 
+pub known-records-requires : goal.known-records-requires
+known-records-requires c =
+    let a = c.args in
+    let first = found-ok a.n a.table.now (sym c.find.ensures ∙ c.in_ok-i.was) in
+    rw c.records.ensures (found a.table.now a.n first.0).there.0
+
 pub apart_of-requires : goal.apart_of-requires
 apart_of-requires c =
     let a = c.args in
     let first = found-ok a.n a.table.now (sym c.find.ensures ∙ c.in_ok-i.was) in
     let second = found-ok a.m a.table.now (sym c.find-2.ensures ∙ c.in_ok-j.was) in
-    rw (c.records.ensures, first.1, second.1) ((found a.table.now a.n first.0).there, (found a.table.now a.m second.0).there)
+    rw (c.known-records.ensures, c.records.ensures, first.1, second.1) ((found a.table.now a.n first.0).there.1, (found a.table.now a.m second.0).there.1)
 
 pub returns : goal.returns
 returns c =
     let a = c.args in
     let first = found-ok a.n a.table.now (sym c.find.ensures ∙ c.in_ok-i.was) in
     let second = found-ok a.m a.table.now (sym c.find-2.ensures ∙ c.in_ok-j.was) in
+    let front = c.known-records.ensures ∙ c.records.ensures in
     ap (λ (x : Apart). Ok x)
-    (c.apart_of.ensures ∙ (λ j. apart_of (ours (c.records.ensures j)) (map compared (ports (c.records.ensures j))) (first.1 j) (second.1 j)))
+    (c.apart_of.ensures ∙ (λ j. apart_of (ours (front j)) (map compared (ports (front j))) (first.1 j) (second.1 j)))
     ∙ apart-given a.n a.table.now a.m first.0 second.0

@@ -20,15 +20,21 @@ records-requires c =
     let a = c.args in
     (found a.table.now a.n (found-ok a.n a.table.now (sym c.find.ensures ∙ c.in_ok-i.was)).0).long
 
+pub known-records-requires : goal.known-records-requires
+known-records-requires c =
+    let a = c.args in
+    let here = found-ok a.n a.table.now (sym c.find.ensures ∙ c.in_ok-i.was) in
+    rw c.records.ensures (found a.table.now a.n here.0).there.0
+
 pub why_of-requires : goal.why_of-requires
 why_of-requires c =
     let a = c.args in
     let here = found-ok a.n a.table.now (sym c.find.ensures ∙ c.in_ok-i.was) in
-    rw (c.records.ensures, here.1) (found a.table.now a.n here.0).there
+    rw (c.known-records.ensures, c.records.ensures, here.1) (found a.table.now a.n here.0).there.1
 
 pub returns : goal.returns
 returns c =
     let a = c.args in
     let here = found-ok a.n a.table.now (sym c.find.ensures ∙ c.in_ok-i.was) in
-    ap (λ (x : Why). Ok x) (c.why_of.ensures ∙ ap₂ (λ (t : List ℕ) (i : ℕ). why_of (ports t) (port_at t i)) c.records.ensures here.1)
+    ap (λ (x : Why). Ok x) (c.why_of.ensures ∙ ap₂ (λ (t : List ℕ) (i : ℕ). why_of (ports t) (port_at t i)) (c.known-records.ensures ∙ c.records.ensures) here.1)
     ∙ why-given a.n a.table.now here.0
