@@ -51,8 +51,9 @@ def crate_lines():
 
 
 def types_alone(source):
-    """A Rattle file without its functions and traits, their contracts, tactics and what only those use."""
+    """A Rattle file without its functions and traits, their contracts, tactics and what only those use. A ghost field keeps what it cites."""
     kept, skipping = [], False
+    dropped = ("#[tactic(",) if re.search(r"(?m)^    (pub )?ghost \w+: ", source) else ("ghost use", "#[tactic(")
     for line in source.split("\n"):
         if skipping:
             skipping = not line.startswith("}")
@@ -60,7 +61,7 @@ def types_alone(source):
         if re.match(r"(pub(\(crate\))? )?(fn|impl|trait)\b", line):
             skipping = not re.match(r".*\{.*\}$", line)
             continue
-        if not line.startswith(("ghost use", "#[tactic(")):
+        if not line.startswith(dropped):
             # a Default that is derived may stand on one by hand
             kept.append(re.sub(r"^(#\[derive\(.*?)(?:Default, |, Default\b)", r"\1", line))
     text = "\n".join(kept)
@@ -282,7 +283,7 @@ MUTANTS = [
         ("control/specs/After.antt", "outgoing c t = unless (answer c t) (buffer_of c) (written_by c t)", "outgoing c t = unless (answer c t) [] (written_by c t)"),)),
     Mutant("1 the rule afresh", "bystanders forgotten", ("rule-afresh",), "trunk::select::must_move", (
         ("trunk/specs/Settled.antt", "|| not (eqb p.aggregator k)", "|| not (eqb p.aggregator p.aggregator)"),
-        ("trunk/src/select.rt", "(table::aggregator(table, i) != k)", "(table::aggregator(table, i) != table::aggregator(table, i))"))),
+        ("trunk/src/select.rt", "(table.aggregator(i) != k)", "(table.aggregator(i) != table.aggregator(i))"))),
     Mutant("2 distributing is earned", "DISTRIBUTING without a partner that collects", ("distributing-earned",), "machine::mux::next", (
         ("machine/specs/Mux.antt", "mux_next Distributing Selected ready true false = Some Collecting", "mux_next Distributing Selected ready true false = None"),
         ("machine/src/mux.rt", "(Mux::Distributing, Selection::Selected, _, true, false) => Some(Mux::Collecting)",
@@ -347,7 +348,7 @@ MUTANTS = [
     Mutant("7 reports", "COLLECTING counted as distributing", ("narrowed-true",), "report::aggregator_of", (
         ("report/specs/Sets.antt", "distributes_in k p = holds k p && distributes p.phase.mux",
          "distributes_in k p = holds k p && Rattle.machine.specs.Mux.collects p.phase.mux"),
-        ("report/src/lib.rt", "holds(table, i, k) & table::phase(table, i).mux.distributes()", "holds(table, i, k) & table::phase(table, i).mux.collects()"))),
+        ("report/src/lib.rt", "holds(table, i, k) & table.phase(i).mux.distributes()", "holds(table, i, k) & table.phase(i).mux.collects()"))),
     Mutant("7 reports", "the count of the attached ports", ("narrowed-true",), "report::aggregator_of", (
         ("report/specs/Sets.antt", "count = ones (set_of (distributes_in k) ps);", "count = ones (set_of (attached_to k) ps);"),
         ("report/src/lib.rt", "count: u32::count_ones(distributing),", "count: u32::count_ones(attached),"))),

@@ -302,7 +302,11 @@ pub fn ask(table: &mut [u8], n: u32, wait: u32, out: &mut [u8]) -> Result<(), As
         return Err(AskRefusal::Wait);
     }
     let i = n - 1;
-    if !Table::known(&table[..b]).phase(i as usize).mux.distributes() {
+    if !Table::known(&table[..b])
+        .phase(i as usize)
+        .mux
+        .distributes()
+    {
         return Err(AskRefusal::NotDistributing);
     }
     let q = asks::at(&table[f..], i as usize);

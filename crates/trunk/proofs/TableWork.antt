@@ -51,7 +51,7 @@ then_all {g = g} a b = record { memory = b.memory ∙ a.memory; left = said (ap 
 
 -- the octets that a piece of work leaves
 pub remade : {t u : TableMut} {f : List Port → List Port} → Swept t u f → Remade t u (λ l. table_octets (header_of l) (f (ports l)))
-remade {u = u} w = record { memory = w.memory; made = made_of w.left u.fits; }
+remade {u = u} w = record { memory = w.memory; made = made_of w.left u.fits }
 
 pub told_at : {t u : TableMut} (f g : Port → Port) (i : ℕ) → f (port_at t.octets.now i) ≡ g (port_at t.octets.now i) → Stepped t u i f → Stepped t u i g
 told_at {t} f g i e w = told (ap (λ (x : Port). set (ports t.octets.now) i x) e) w

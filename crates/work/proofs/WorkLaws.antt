@@ -76,7 +76,7 @@ pub finished : {t u v : TableMut} {f : List Port → List Port} → Swept t u f 
     → Remade t v (λ l. table_octets (header_of l) (worked (header_of l) (f (ports l))))
 finished {t} {f = f} a b =
     let left = remade {f = λ ps. worked (header_of t.octets.now) (f ps)} (told (ap (λ (h : Header). worked h (f (ports t.octets.now))) a.left.header) (then_all a b)) in
-    record { memory = left.memory; made = left.made; }
+    record { memory = left.memory; made = left.made }
 
 -- ---- R6.4: what a sent LACPDU says, row by row, the delay that was given at start among it
 

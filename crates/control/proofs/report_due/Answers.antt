@@ -1,5 +1,5 @@
 -- `control::report_due` meets its contract: answer 1 with no port, or the set. Assumes nothing.
-use mathlib.Core.Path.{◌≡◌, sym, ◌∙◌}
+use mathlib.Core.Path.{◌≡◌, sym}
 use mathlib.Core.Bool.{true, false}
 use Rattle.table.specs.Table.{table_in_range}
 use Rattle.control.specs.After.{answer}

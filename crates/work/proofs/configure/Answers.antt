@@ -3,7 +3,7 @@ use mathlib.Core.Path.{◌≡◌, refl, sym, ap, ◌∙◌}
 use mathlib.Core.Bool.{true, false}
 use Rattle.port.specs.declared.record.Port.{Port}
 use Rattle.port.specs.Range.{own_fits}
-use Rattle.settings.specs.Settings.{same_settings, configured}
+use Rattle.settings.specs.Settings.{same_settings}
 use Rattle.table.specs.Table.{port_at}
 use Rattle.table.proofs.TableLaws.{octets-back}
 use Rattle.settings.proofs.RangeLaws.{configured_typed}
@@ -18,7 +18,7 @@ returns-then-is_held c =
     let t = a.table.now in
     let same : same_settings a.settings (port_at t.octets.now a.i) ≡ true =
     rw (c.load-p.ensures.0, c.lent.ensures) at (sym c.is_held.ensures ∙ c.if-is_held.true) in
-    record { memory = refl; made = rw same (sym (octets-back t.octets.now t.in_range t.fits)); }
+    record { memory = refl; made = rw same (sym (octets-back t.octets.now t.in_range t.fits)) }
 
 pub change-requires : goal.change-requires
 change-requires c =
@@ -36,4 +36,4 @@ returns c =
     let a = c.args in
     let other : same_settings a.settings (port_at a.table.now.octets.now a.i) ≡ false =
     rw (c.load-p.ensures.0, c.lent.ensures) at (sym c.is_held.ensures ∙ c.if-is_held.false) in
-    record { memory = c.change.ensures.memory; made = c.change.ensures.made ∙ rw (other, c.configure.ensures, c.load-p.ensures.0, c.lent.ensures); }
+    record { memory = c.change.ensures.memory; made = c.change.ensures.made ∙ rw (other, c.configure.ensures, c.load-p.ensures.0, c.lent.ensures) }

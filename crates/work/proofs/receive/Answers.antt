@@ -71,4 +71,4 @@ returns c =
     ] in
     let second = told {g = displaced i a} (ap (λ x. displaced i x (ports c.if-repeats.table.octets.now)) is-a) c.displace_all.ensures in
     let left = finished (then_all first second) c.finish.ensures in
-    record { memory = left.memory; made = left.made; }
+    record { memory = left.memory; made = left.made }

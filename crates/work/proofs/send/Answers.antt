@@ -21,6 +21,6 @@ returns c =
     let a = c.args in
     let e = c.requires in
     let left = remade (changed-at sent a.table.now a.i (found a.table.now a.i e.0 e.1) c.sent.ensures c.store.ensures) in (
-      record { memory = left.memory; made = left.made; },
+      record { memory = left.memory; made = left.made },
       rw (c.write_lacpdu.ensures, c.actor_block-actor.ensures, c.number_of.ensures, e.1, c.header-ours.ensures, c.lent.ensures),
     )

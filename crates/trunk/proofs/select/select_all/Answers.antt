@@ -5,7 +5,6 @@ use mathlib.Core.Bool.{true, false}
 use mathlib.Core.List.{List, map}
 use native.Mathlib.Omega.{arith}
 use borrow.Author.Tests.{le-ltb, ltb-true, ltb-false}
-use Rattle.octets.specs.Lists.{map_from}
 use Rattle.octets.specs.Sets.{member}
 use Rattle.octets.proofs.SetLaws.{none-member}
 use Rattle.port.specs.declared.record.Port.{Port}
@@ -16,7 +15,7 @@ use Rattle.table.proofs.LeavesLaws.{count_kept}
 use Rattle.table.proofs.StoreLaws.{ports-length}
 use Rattle.table.proofs.TableLaws.{in_range}
 use Rattle.trunk.specs.Selection.{lowest}
-use Rattle.trunk.specs.Groups.{since, placing}
+use Rattle.trunk.specs.Groups.{since}
 use Rattle.trunk.proofs.GroupLaws.{lowest-le}
 use Rattle.trunk.proofs.GroupSets.{since-before, below_none, below_all, below_compares, below-same, below-done, below_more, more-done}
 use Rattle.trunk.proofs.TableWork.{nothing, then_all, told}

@@ -1,13 +1,12 @@
 -- `trunk::select::select_set` meets its contract: the loop has done the ports below j (`done_to`), and a turn does the next; those below i are in no such set, nor are those
 -- from its end on. Assumes nothing.
-use Prim.Native.Nat.{◌+◌, ◌≤◌, ◌<◌}
+use Prim.Native.Nat.{◌+◌, ◌≤◌}
 use mathlib.Core.Path.{◌≡◌, refl, sym, ap, ◌∙◌}
 use mathlib.Core.Bool.{Bool, true, false, cond}
 use native.Mathlib.Omega.{arith}
 use Rattle.octets.specs.Sets.{member}
 use Rattle.octets.proofs.ListLaws.{done_to, done-idle, done-rest}
 use Rattle.octets.proofs.RangeLaws.{within-is}
-use Rattle.port.specs.declared.record.Port.{Port}
 use Rattle.table.specs.Lent.{Has}
 use Rattle.table.specs.Table.{count_in, ports, port_at}
 use Rattle.table.proofs.LeavesLaws.{count_kept}
@@ -15,7 +14,7 @@ use Rattle.table.proofs.StoreLaws.{ports-length}
 use Rattle.table.proofs.TableLaws.{in_range}
 use Rattle.trunk.specs.Groups.{placing}
 use Rattle.trunk.specs.Settled.{reselected}
-use Rattle.trunk.proofs.TableWork.{in_count, left_be, next-is, nothing, told, turn}
+use Rattle.trunk.proofs.TableWork.{in_count, left_be, nothing, told, turn}
 use Rattle.trunk.proofs.select.select_set.Goals as goal
 use Rattle.trunk.proofs.select.select_set.Goals.{then-has, else-has}
 use Rattle.trunk.proofs.select.select_set.Invariants.{bound}

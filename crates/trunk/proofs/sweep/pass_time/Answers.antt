@@ -1,6 +1,5 @@
 -- `trunk::sweep::pass_time` meets its contract: timers are written over those that were read, and then ages over those. Assumes nothing.
 use mathlib.Core.Path.{◌≡◌, refl, ap, ◌∙◌}
-use lib.ListN.{set}
 use Rattle.machine.specs.Ages.{ages_ticked}
 use Rattle.machine.specs.Time.{timers_fallen}
 use Rattle.port.specs.declared.record.Port.{Port}
@@ -9,7 +8,7 @@ use Rattle.port.specs.Range.{timers_in_range, ages_in_range}
 use Rattle.port.specs.Transmit.{ticked}
 use Rattle.port.proofs.RangeLaws.{ranged, fallen-ranged, ages-ranged}
 use Rattle.table.specs.Record.{decoded}
-use Rattle.table.specs.Table.{count_in, ports, port_at}
+use Rattle.table.specs.Table.{count_in, port_at}
 use Rattle.trunk.proofs.TableWork.{found, still, became_at, became_then, told_at}
 use Rattle.trunk.proofs.sweep.pass_time.Goals as goal
 

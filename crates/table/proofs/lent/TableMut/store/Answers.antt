@@ -11,9 +11,9 @@ pub invariant_of-self : goal.invariant_of-self
 invariant_of-self c =
     let a = c.args in
     let left = stored a.self.now.octets.now a.i a.p (a.self.now.in_range, c.requires.0) c.requires.1 in
-    record { in_range = rw c.put.ensures.put left.ranged; fits = c.put.ensures.octets; }
+    record { in_range = rw c.put.ensures.put left.ranged; fits = c.put.ensures.octets }
 
 pub returns : goal.returns
 returns c =
     let a = c.args in
-    record { memory = refl; left = rw c.put.ensures.put (stored a.self.now.octets.now a.i a.p (a.self.now.in_range, c.requires.0) c.requires.1); }
+    record { memory = refl; left = rw c.put.ensures.put (stored a.self.now.octets.now a.i a.p (a.self.now.in_range, c.requires.0) c.requires.1) }

@@ -21,7 +21,7 @@ pub returns : goal.returns
 returns c =
     let a = c.args in
     let left = ages-stored a.self.now.octets.now a.i (a.self.now.in_range, c.requires.0) a.self.now.fits a.ages c.requires.1 in
-    record { memory = refl; left = rw (c.put.ensures, c.ages_octets.ensures, c.place_of.ensures) left; }
+    record { memory = refl; left = rw (c.put.ensures, c.ages_octets.ensures, c.place_of.ensures) left }
 
 pub invariant_of-self-clause-fits : goal.invariant_of-self-clause-fits
 invariant_of-self-clause-fits c =
