@@ -139,6 +139,7 @@ fn write_request(out: &mut [u8; 12], n: u16, system: Address, number: u32)
 }
 
 // Whether a Response on port n brings back what the port awaits. Header and records are the first `b` octets, and the groups lie behind `f`.
+// Kept: the memory goes on behind its table, for the groups are read too, so the clause speaks of its front.
 fn brings(table: &[u8], b: usize, f: usize, n: u32, frame: &[u8]) -> bool
     requires { InTable (take b table.now) (n - 1) × (1 ≤ n) × (n ≤ 32) × (b ≤ length table.now) × (f + group_size * n ≤ length table.now) × (frame_size ≤ length frame.now) }
     ensures { result ≡ brings_back n (ours (take b table.now)).system.address frame.now (ask_at (drop f table.now) (n - 1)) }

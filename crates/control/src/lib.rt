@@ -54,6 +54,8 @@ pub fn receive(table: &mut [u8], n: u32, frame: &[u8], out: &mut [u8]) -> Answer
     receive_at(table, i, frame, out)
 }
 
+// The port's part of it.
+// Kept: over octets, as `receive` is; of a `TableMut` the clause would say besides that it stays the same memory.
 fn receive_at(table: &mut [u8], i: usize, frame: &[u8], out: &mut [u8]) -> Answer
     requires { InTable table.old i }
     ensures { MeetsReceive table.old i frame.now out.old result table.new out.new }
@@ -117,6 +119,7 @@ pub fn fetch(table: &mut [u8], n: u32, out: &mut [u8]) -> Answer
 }
 
 // Mostly nothing is due because NTT is clear, which is seen without the rest of the record.
+// Kept: over octets, as `fetch` is; of a `TableMut` the clause would say besides that it stays the same memory.
 fn fetch_at(table: &mut [u8], i: usize, out: &mut [u8]) -> Answer
     requires { InTable table.old i }
     ensures { MeetsFetch table.old i out.old result table.new out.new }
