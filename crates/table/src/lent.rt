@@ -7,11 +7,11 @@ ghost use Rattle.table.specs.Table.{table_in_range};
 
 use crate::layout::{Header, RECORD, place_of, read_header};
 use crate::record::{
-    AGES, Keys, TIMERS, ages_octets, aggregator_in, keys_in, ntt_in, phase_in, read_record,
+    AGES, Keys, TIMERS, aggregator_in, keys_in, ntt_in, older_octets, phase_in, read_record,
     timers_in, timers_octets,
 };
 use crate::{is_table, put, record_at};
-use machine::states::{Ages, Phase, Ticks, Timers};
+use machine::states::{Phase, Ticks, Timers};
 use port::record::Port;
 use std::marker::Model;
 
@@ -150,7 +150,8 @@ pub struct TableMut<'a> {
 impl<'a> TableMut<'a> {
     ghost use Rattle.std.specs.Prelude.{leb};
     ghost use Rattle.machine.specs.Time.{long_timeout_time};
-    ghost use Rattle.port.specs.Range.{port_in_range, timers_in_range, ages_in_range};
+    ghost use Rattle.port.specs.Range.{port_in_range, timers_in_range};
+    ghost use Rattle.machine.specs.Ages.{ages_ticked};
     ghost use Rattle.port.specs.Record.{with_timers, with_current, with_ages};
     ghost use Rattle.table.specs.Table.{count_in};
     ghost use Rattle.table.specs.Lent.{Has, Stepped};
@@ -196,11 +197,12 @@ impl<'a> TableMut<'a> {
         octets::put_number(self.octets, place_of(i) + TIMERS, time.0);
     }
 
-    // Port `i`, from 0, remembers sends of these ages; all else stays.
-    pub fn store_ages(&mut self, i: usize, ages: Ages)
-        requires { Has self.old i × (ages_in_range ages ≡ true) }
-        ensures { Stepped self.old self.new i (λ p. with_ages p ages) }
+    // The sends of port `i`, from 0, grow a tick older where they stand; all else stays.
+    pub fn age(&mut self, i: usize)
+        requires { Has self.old i }
+        ensures { Stepped self.old self.new i (λ p. with_ages p (ages_ticked p.ages)) }
     {
-        octets::put(self.octets, place_of(i) + AGES, &ages_octets(ages));
+        let octets = older_octets(self.lent().look(i));
+        octets::put(self.octets, place_of(i) + AGES, &octets);
     }
 }

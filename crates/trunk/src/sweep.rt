@@ -16,7 +16,7 @@ use frame::block::Block;
 use port::record::Port;
 use table::layout::RECORD;
 use table::lent::{Table, TableMut};
-use table::record::{actor_in, ages_in, line_in, ntt_in, partner_in, phase_in, timers_in};
+use table::record::{actor_in, line_in, ntt_in, partner_in, phase_in, timers_in};
 
 // ---- whether a step leaves a record as it is, from the few of its octets that the step looks at
 
@@ -48,7 +48,6 @@ fn is_settled(s: &[u8; RECORD]) -> bool
 {
     let phase = phase_in(s);
     let them = partner_in(s);
-    let silent = line_in(s).is_silent(!actor_in(s).activity & !them.activity);
     let step = machine::mux::next(
         phase.mux,
         phase.selected,
@@ -56,7 +55,7 @@ fn is_settled(s: &[u8; RECORD]) -> bool
         them.synchronization,
         them.collecting,
     );
-    step.is_none() & !(ntt_in(s) & silent)
+    step.is_none() && !(ntt_in(s) && line_in(s).is_silent(!actor_in(s).activity & !them.activity))
 }
 
 // ---- the steps, each in a function of its own, so that the records of one lie in the stack where those of another do
@@ -68,8 +67,16 @@ fn pass_time(table: &mut TableMut, i: usize)
 {
     let timers = timers_in(table.lent().look(i));
     table.store_timers(i, timers.tick());
-    let ages = ages_in(table.lent().look(i));
-    table.store_ages(i, ages.tick());
+    table.age(i);
+}
+
+// What the receive machine makes of port i. A function of its own, so that the place for the record costs nothing where the machine rests.
+fn after_receive(table: &Table, i: usize) -> Port
+    requires { i < count_in table.now }
+    ensures { result ≡ receive_run (port_at table.now i) }
+{
+    let p = table.load(i);
+    p.receive()
 }
 
 // The receive machine of port i, which mostly rests.
@@ -78,8 +85,8 @@ fn receive_one(table: &mut TableMut, i: usize)
     ensures { Stepped table.old table.new i receive_run }
 {
     if !rests_receive(table.lent().look(i)) {
-        let p = table.lent().load(i);
-        table.store(i, p.receive());
+        let p = after_receive(&table.lent(), i);
+        table.store(i, p);
     }
 }
 
@@ -92,14 +99,23 @@ fn tick_one(table: &mut TableMut, i: usize)
     receive_one(table, i);
 }
 
+// What the periodic machine makes of port i, for the same reason.
+fn after_periodic(table: &Table, i: usize) -> Port
+    requires { i < count_in table.now }
+    ensures { result ≡ periodic_run (port_at table.now i) }
+{
+    let p = table.load(i);
+    p.periodic()
+}
+
 // The periodic machine of port i, which mostly rests.
 fn periodic_one(table: &mut TableMut, i: usize)
     requires { Has table.old i }
     ensures { Stepped table.old table.new i periodic_run }
 {
     if !rests_periodic(table.lent().look(i)) {
-        let p = table.lent().load(i);
-        table.store(i, p.periodic());
+        let p = after_periodic(&table.lent(), i);
+        table.store(i, p);
     }
 }
 
