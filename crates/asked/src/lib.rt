@@ -321,6 +321,7 @@ pub fn ask(table: &mut [u8], n: u32, wait: u32, out: &mut [u8]) -> Result<(), As
 
 // ---- reports
 
+// Kept: a match and no `?`, since a refusal writes zeros too (R2.20).
 // The record of port n, its monitors and what it asked for, as many of their octets as fit into `record`, from the front; zeros beside a refusal.
 pub fn report_port(table: &[u8], n: u32, record: &mut [u8]) -> Answer
     ensures { MeetsPort n table.now «record».old result «record».new }
@@ -364,6 +365,7 @@ pub fn report_due(table: &[u8]) -> Result<u32, Reason>
     whole::report_due(&table[..f])
 }
 
+// Kept: a number and no Option, since `asked_published` and R22.1 in docs/RULES.md say 0, as C gets it.
 // The octets that a table of `count` ports has; 0 for a count outside 1 to 32.
 pub fn table_size(count: u32) -> u32
     ensures { result ≡ asked_published new_layer count }
@@ -380,6 +382,7 @@ pub fn old_table_size(count: u32) -> u32
 
 // ---- moves between the two forms of a table
 
+// Kept: forward and back are two, since each calls its own move of `whole` and puts the groups behind another front.
 // A table of the old form is written into other memory, in the form of today: its front moves forward, and the groups go along.
 pub fn forward(old: &[u8], new: &mut [u8]) -> Answer
     ensures { MeetsForward old.now new.old result new.new }

@@ -137,6 +137,7 @@ fn fetch_at(table: &mut [u8], i: usize, out: &mut [u8]) -> Answer
     Ok(Accepted::Done)
 }
 
+// Kept: a match and no `?`, since a refusal writes zeros too (R2.20).
 // The record of port n, as many of its octets as fit into `record`, from the front; zeros beside a refusal.
 pub fn report_port(table: &[u8], n: u32, record: &mut [u8]) -> Answer
     ensures { MeetsPort n table.now «record».old result «record».new }

@@ -18,6 +18,7 @@ use table::layout::Header;
 use table::lent::{Table, TableMut};
 use table::record::{Keys, neighbour_in};
 
+// Kept: the header goes beside the keys, since it is one for all ports and the definitions take it so (`individual`, `same_group`).
 // Own or partner's Aggregation clear, or the partner is our own system.
 #[tactic(auto, unfolding(crate::specs::Selection::individual, machine::specs::Compare::same_system, machine::specs::Compare::same_address))]
 fn is_individual(c: Keys, ours: Header) -> bool

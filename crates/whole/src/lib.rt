@@ -133,6 +133,7 @@ pub fn configure(table: &mut [u8], n: u32, settings: Settings) -> Answer
     a
 }
 
+// Kept: `table`, `whole` and `asked` have a test each, one line over the size that their own tables have.
 // Whether memory has the size of a table of `count` ports with monitors.
 fn is_room(table: &[u8], count: u32) -> bool
     ensures { result ≡ is_whole_room table.now count }
@@ -162,6 +163,7 @@ pub fn start(
     a
 }
 
+// Kept: a match and no `?`, since a refusal writes zeros too (R2.20).
 // The record of port n and its monitors, as many of their octets as fit into `record`, from the front; zeros beside a refusal.
 pub fn report_port(table: &[u8], n: u32, record: &mut [u8]) -> Answer
     ensures { MeetsPort n table.now «record».old result «record».new }
@@ -202,6 +204,7 @@ pub fn report_due(table: &[u8]) -> Result<u32, Reason>
     control::report_due(&table[..b])
 }
 
+// Kept: a number and no Option, since `whole_published` and R22.1 in docs/RULES.md say 0, as C gets it.
 // The octets that a table of `count` ports has; 0 for a count outside 1 to 32.
 pub fn table_size(count: u32) -> u32
     ensures { result ≡ whole_published count }
@@ -214,6 +217,7 @@ pub fn table_size(count: u32) -> u32
 
 // ---- moves between the two forms of a table
 
+// Kept: forward and back are two, since one begins monitors and the other drops them; they share a test of sizes and a copy.
 // Whether `old` is a table without monitors, and the other memory has the size of the same table with them.
 fn goes_forward(old: &[u8], new: &[u8]) -> bool
     ensures { result ≡ goes_forward old.now new.now }
