@@ -43,8 +43,7 @@ run_longer "$work/0x0200" "$work/longer" "$version" 7 0,0,0,0,0,0,0
 work=$PWD/target/c/longer
 . tools/other-library.sh
 change asks/src/group.rt 'GROUP: usize = 7;' 'GROUP: usize = 11;'
-change asks/src/group.rt '    octets::longs::put_long(out, 3, a.number);' \
-    '    octets::longs::put_long(out, 3, a.number); octets::put(out, 7, &[0xe1, 0xe2, 0xe3, 0xe4]);'
+change asks/src/group.rt 't0, t1, n0, n1, n2, n3]' 't0, t1, n0, n1, n2, n3, 0xe1, 0xe2, 0xe3, 0xe4]'
 change asked/src/lib.rt 'ASKED_RECORD: usize = 78;' 'ASKED_RECORD: usize = 82;'
 of_version() { printf '0x%04x' $((version + $1)); } # so much above that of crates/
 next=$(of_version 1)

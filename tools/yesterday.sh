@@ -16,10 +16,9 @@ rm -rf "$folder"
 # of the library's source: what stands before the moves, which are the last of the calls, and what neither asks for a Marker nor says why
 before_moves() { sed '/---- moves between the two forms of a table/,$d'; }
 without_later() { sed -e '/^\/\/ Asks for a Marker on a port/,/^}/d' -e '/^\/\/ Why /,/^}/d'; }
-# where today's functions are lent counters, these count in a record of their own that nobody reads
-own_record() {
-    sed -e '/^    counters: &mut Counters,$/d' -e '/^    \*counters = /d' \
-        -e 's/, \*counters)/, Counters { lacpdus: 0, markers: 0, responses: 0, unknown: 0, illegal: 0, sent: 0, answered: 0 })/'
+# where today's functions are lent counters, these count nothing
+without_counters() {
+    sed -e '/^    counters: &mut Counters,$/d' -e '/^    \*counters = /d'
 }
 
 # begin NAME VERSION: a copy of the library, to be changed
@@ -50,10 +49,10 @@ begin yesterday 0x0100
 change myrkosti/src/lib.rt 'asked::table_size(' 'table::layout::table_size('
 leave before_moves
 leave without_later
-leave own_record
+leave without_counters
 finish yesterday control
 
 begin lately 0x0200
-change counters/src/lib.rt 'counted_if(as_response(a), self.responses)' 'counted_if(n == 12, self.responses)'
+change counters/src/lib.rt 'counted_if(as_response(a), self.responses)' 'counted_if(matches!(a, Err(Reason::Response)), self.responses)'
 leave without_later
 finish lately whole
