@@ -6,6 +6,7 @@ ghost use Rattle.counters.specs.Counters.{is_marker, as_lacpdu, as_marker, as_re
 
 use control::answer::{Accepted, Answer, Reason};
 use frame::class::Refusal;
+use machine::count::one_more;
 
 // Each in 32 bits. Received: LACPDUs, Markers, Marker Responses, unknown and illegal frames. Sent: LACPDUs, and Marker Responses, which answer a Marker.
 #[repr(C)]
@@ -24,7 +25,7 @@ fn counted_if(counts: bool, n: u32) -> u32
     ensures { result ≡ counted_if counts n }
 {
     if counts {
-        return n.wrapping_add(1);
+        return one_more(n);
     }
     n
 }
