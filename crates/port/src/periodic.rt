@@ -29,6 +29,8 @@ impl Port {
         )
     }
 
+    // Never inlined: the two steps of a run then share one frame.
+    #[inline(never)]
     #[tactic(auto, unfolding(crate::specs::Periodic::periodic_step))]
     fn periodic_step(self) -> Self
         ensures { result ≡ periodic_step self }

@@ -161,7 +161,8 @@ pub fn tick_all(table: &mut TableMut)
     sweep(table, tick_one);
 }
 
-// The periodic machines.
+// The periodic machines. Never inlined: its frame is gone before steps 3 to 6 begin, which `work::finish` calls beside it.
+#[inline(never)]
 pub fn periodic_all(table: &mut TableMut)
     ensures { Swept table.old table.new (map periodic_run) }
 {
