@@ -257,7 +257,7 @@ pub fn back(new: &[u8], old: &mut [u8]) -> Answer
     if !goes_back(new, old) {
         return Err(Reason::Table);
     }
-    let b = base_size(new)?;
+    let b = place_of(new[0] as usize);
     octets::put(old, 0, &new[..b]);
     Ok(Accepted::Done)
 }
