@@ -6,17 +6,20 @@ use mathlib.Core.Bool.{Bool, true, false, not, ◌||◌, or-true, true≢false, 
 use native.Mathlib.Omega.{arith}
 use borrow.Author.Tests.{eq-eqb, ne_eqb}
 use denote.Enum.Bare.{sameb}
-use Rattle.machine.specs.contracts.states.Receive.{the_type}
+use Rattle.machine.specs.contracts.states.Receive.{the_type as receive_type}
+use Rattle.machine.specs.contracts.states.Selection.{the_type as selection_type}
+use Rattle.machine.specs.declared.states.Selection.{Selection}
+use Rattle.machine.specs.declared.states.Selection.TheVariants.{Unselected, Selected}
 use Rattle.machine.specs.declared.states.Receive.{Receive}
 use Rattle.machine.specs.declared.states.Receive.TheVariants.{Initialize, PortDisabled, Expired, LacpDisabled, Defaulted, Current}
-use Rattle.machine.specs.Receive.{is_current}
+use Rattle.machine.specs.Receive.{is_disabled, is_current}
 use Rattle.machine.specs.declared.states.Line.{Line}
 use Rattle.machine.specs.declared.states.Mux.{Mux}
 use Rattle.machine.specs.declared.states.Mux.TheVariants.{Detached, Waiting, Attached, Collecting, Distributing}
 use Rattle.machine.specs.declared.states.Periodic.{Periodic}
 use Rattle.machine.specs.declared.states.Periodic.TheVariants.{NoPeriodic, FastPeriodic, SlowPeriodic, PeriodicTx}
 use Rattle.machine.specs.declared.states.Ticks.{Ticks}
-use Rattle.machine.specs.Mux.{sets_ntt}
+use Rattle.machine.specs.Mux.{is_unselected, sets_ntt}
 use Rattle.machine.specs.Periodic.{is_tx}
 use Rattle.machine.specs.States.{ticks, quiet_on}
 use Rattle.machine.specs.Time.{ran_out, fallen}
@@ -78,10 +81,22 @@ calling_entries Distributing e = absurd (false≢true e)
 
 -- ---- a state that the code compares
 
-pub current-is : (s : Receive) → sameb the_type s Current ≡ is_current s
+pub disabled-is : (s : Receive) → sameb receive_type s PortDisabled ≡ is_disabled s
+disabled-is Initialize = refl
+disabled-is PortDisabled = refl
+disabled-is Expired = refl
+disabled-is LacpDisabled = refl
+disabled-is Defaulted = refl
+disabled-is Current = refl
+
+pub current-is : (s : Receive) → sameb receive_type s Current ≡ is_current s
 current-is Initialize = refl
 current-is PortDisabled = refl
 current-is Expired = refl
 current-is LacpDisabled = refl
 current-is Defaulted = refl
 current-is Current = refl
+
+pub unselected-is : (s : Selection) → sameb selection_type s Unselected ≡ is_unselected s
+unselected-is Unselected = refl
+unselected-is Selected = refl

@@ -2,7 +2,7 @@
 -- middle, the test for equal octets, and the round trip of a two-octet number. Lists of octets are in `OctetLists.antt`. Assumes nothing.
 use Prim.Native.Nat.{ℕ, zero, suc, ◌+◌, ◌-◌, ◌≤◌, ◌<◌}
 use mathlib.Core.Path.{◌≡◌, refl, sym, ap, ◌∙◌}
-use mathlib.Core.Bool.{true, and-eq-true_iff, false≢true}
+use mathlib.Core.Bool.{Bool, true, false, and-eq-true_iff, false≢true}
 use mathlib.Core.List.{List, [], ◌∷◌, ◌++◌, append_assoc, append-nil}
 use native.Mathlib.Omega.{arith}
 use native.Mathlib.Nat.{zero-add}
@@ -10,11 +10,20 @@ use native.Mathlib.Numerals.{add-one}
 use lib.ListN.{length, take, drop, get_or, length-drop, length-append, take-append-drop, drop_of_length-le}
 use lib.Seq.{take_all, take-length, length-take-le, take-append-le, drop-append-le, take-append-add, drop-append-add, drop-drop, take_at, drop_at, drop-cons}
 use lib.Dec.{eqb}
-use borrow.Author.Tests.{eqb-true}
-use borrow.Rule.Slice.PartMut.{put_mid, Post-is}
+use borrow.Author.Tests.{eqb-true, eq-eqb}
+use borrow.Rule.Slice.PartMut.{put_mid, mid_of, Post-is}
 use Rattle.octets.specs.Octets.{put_at, fitted, same_octets, high, low, joined}
 
 -- ---- writing over lent parts
+
+-- a part from `at` to the end comes back with s at its front: that is s written at `at`
+pub put_front : (at : ℕ) (s d : List ℕ) → at ≤ length d
+    → put_mid at (length d - at) d (take (length s) s ++ drop (length s) (mid_of at (length d - at) d)) ≡ put_at at s d
+unfolding put_at
+put_front at s d h =
+    let all : take (length d - at) (drop at d) ≡ drop at d = take_all (length d - at) (drop at d) (simp length-drop (omega arith)) in
+    let none : drop (length d - at) (drop at d) ≡ [] = drop_of_length-le (drop at d) {i = length d - at} (simp length-drop (omega arith)) in
+    simp (all, none, take-length, drop-drop, append-nil)
 
 -- a part from n to e comes back as s: that is s written at n
 pub put-part : (n e : ℕ) (s d : List ℕ) → n + length s ≡ e → put_mid n (e - n) d s ≡ put_at n s d
@@ -156,6 +165,11 @@ spread-all l n e = spread-part 0 n l (omega arith) ∙ take_all n l (omega arith
 
 -- ---- equal octets
 
+same_refl : (l : List ℕ) → same_octets l l ≡ true
+unfolding same_octets
+same_refl [] = refl
+same_refl (x ∷ xs) = rw (eq-eqb x x refl, same_refl xs)
+
 pub same_true : (a b : List ℕ) → same_octets a b ≡ true → a ≡ b
 unfolding same_octets
 same_true [] [] e = refl
@@ -166,6 +180,15 @@ same_true (x ∷ xs) (y ∷ ys) e =
     let hd : x ≡ y = eqb-true x y both.0 in
     let tl : xs ≡ ys = same_true xs ys both.1 in
     cc
+
+-- an answer that is true exactly for equal lists is the test
+pub same-tested : (a b : List ℕ) (r : Bool) → (r ≡ true → a ≡ b) → (a ≡ b → r ≡ true) → r ≡ same_octets a b
+same-tested a b true to from = rw (to refl, same_refl b)
+same-tested a b false to from = tested (same_octets a b) (λ e. from (same_true a b e))
+  where
+    tested : (t : Bool) → (t ≡ true → false ≡ true) → false ≡ t
+    tested true no_way = no_way refl
+    tested false no_way = refl
 
 -- ---- two-octet numbers
 
