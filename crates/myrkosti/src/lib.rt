@@ -19,8 +19,40 @@ use frame::block::{Address, Block, SystemId};
 use frame::wire::TensOfMicroseconds;
 use machine::states::Line;
 use octets::InOctets;
+use report::Sets;
 use settings::Settings;
-use why::cause::Cause;
+use why::apart::{Alone, Apart};
+use why::cause::{Cause, Why};
+
+// What C is told beside a refusal (R2.20): of an aggregator, of why a port does not carry, and of why two are apart.
+const NO_SETS: Sets = Sets {
+    holding: 0,
+    attached: 0,
+    distributing: 0,
+    count: 0,
+    lowest: 0,
+};
+
+const NO_WHY: Why = Why {
+    cause: None,
+    holder: None,
+    ticks: 0,
+};
+
+const NOT_ALONE: Alone = Alone {
+    own: false,
+    partner: false,
+    ourselves: false,
+};
+
+const NOT_APART: Apart = Apart {
+    first: NOT_ALONE,
+    second: NOT_ALONE,
+    keys: false,
+    priorities: false,
+    addresses: false,
+    theirs: false,
+};
 
 // The version of this interface (include/myrkosti.h).
 #[unsafe(no_mangle)]
@@ -176,7 +208,7 @@ pub extern "C" fn myrkosti_aggregator(
     ensures { MeetsAggregator aggregator table.now result holding.new attached.new distributing.new count.new lowest.new }
 {
     let r = asked::report_aggregator(table, aggregator);
-    let sets = r.unwrap_or_default();
+    let sets = r.unwrap_or(NO_SETS);
     *holding = sets.holding;
     *attached = sets.attached;
     *distributing = sets.distributing;
@@ -217,7 +249,7 @@ pub extern "C" fn myrkosti_why(
     ensures { MeetsWhy port table.now result cause.new holder.new ticks.new }
 {
     let r = reasons::why(table, port);
-    let why = r.unwrap_or_default();
+    let why = r.unwrap_or(NO_WHY);
     *cause = number_of(why.cause);
     *holder = why.holder.unwrap_or(0);
     *ticks = why.ticks;
@@ -230,7 +262,7 @@ pub extern "C" fn myrkosti_apart(table: &[u8], first: u32, second: u32, reasons:
     ensures { MeetsApart first second table.now result reasons.new }
 {
     let r = reasons::apart(table, first, second);
-    *reasons = r.unwrap_or_default().number();
+    *reasons = r.unwrap_or(NOT_APART).number();
     r.number() as u32
 }
 

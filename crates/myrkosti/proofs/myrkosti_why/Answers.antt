@@ -1,24 +1,22 @@
 -- `myrkosti_why` meets its contract: `reasons::why`, number by number, zeros beside a refusal. Assumes nothing.
-use mathlib.Core.Path.{◌≡◌, ap, ◌∙◌}
-use Rattle.std.specs.Prelude.{unwrap_or}
+use mathlib.Core.Path.{◌≡◌, refl, ap, ◌∙◌}
+use Rattle.std.specs.Prelude.{unwrap_or, Result, Ok, Err}
+use Rattle.std.specs.Result.{result_unwrap_or}
 use Rattle.control.specs.Answer.{answer_number}
-use Rattle.why.specs.declared.cause.Why.{Why}
-use Rattle.why.specs.Cause.{cause_number}
-use Rattle.reasons.specs.Reasons.{why_told}
-use Rattle.std.specs.Prelude.{Result, Ok, Err, None}
-use Rattle.std.specs.Result.{ResultUnwrapsOrElse}
 use Rattle.control.specs.declared.answer.Reason.{Reason}
+use Rattle.why.specs.declared.cause.Why.{Why}
+use Rattle.why.specs.Cause.{cause_number, no_why}
+use Rattle.reasons.specs.Reasons.{why_told}
 use Rattle.myrkosti.proofs.myrkosti_why.Goals as goal
 
-told : (r : Result Why Reason) (x : Why) → ResultUnwrapsOrElse r (λ y. ((y.cause ≡ None) × ((y.holder ≡ None) × (y.ticks ≡ 0)))) x → x ≡ why_told r
-told (Ok x) y h = h
-told (Err why) y h = λ i. record { cause = h.0 i; holder = h.1.0 i; ticks = h.1.1 i }
+told : (r : Result Why Reason) → result_unwrap_or r no_why ≡ why_told r
+told (Ok why) = refl
+told (Err refusal) = refl
 
 pub returns : goal.returns
 returns c =
     let did = c.why-r.ensures in
-    let is : c.unwrap_or_default-why.result ≡ why_told c.why-r.result = told c.why-r.result c.unwrap_or_default-why.result c.unwrap_or_default-why.ensures in
-    let told = is ∙ ap why_told did in (
+    let told = c.unwrap_or-why.ensures ∙ told c.why-r.result ∙ ap why_told did in (
       c.number.ensures ∙ ap answer_number did,
       c.number_of.ensures ∙ ap (λ (w : Why). cause_number w.cause) told,
       c.unwrap_or.ensures ∙ ap (λ (w : Why). unwrap_or w.holder 0) told,
